@@ -1,1 +1,3 @@
--- The theorems.
+-- The theorems; each file opens with what it gives. proofs/Promises.antt has one for each statement of specs/Promise.antt.
+pub mod Tests
+pub mod Tables
