@@ -1,3 +1,6 @@
 -- The theorems; each file opens with what it gives. proofs/Promises.antt has one for each statement of specs/Promise.antt.
 pub mod Tests
 pub mod Tables
+pub mod Sums
+pub mod Lists
+pub mod Groups
