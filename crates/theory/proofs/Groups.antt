@@ -4,6 +4,7 @@
 --   Sub, sub-within, within-both, within-size   one group in another
 --   in-leave, size-leave, good-leave            a member leaves
 --   union-group, shared-group, size-union       union and intersection are groups
+--   size-in, inside-none                        a set with a member is not empty; the empty set holds no pair
 --   supermodular                                inside (s ∪ t) + inside (s ∩ t) ≥ inside s + inside t
 --   at-most-trans, at-most-or                   ratios are totally preordered
 --   union-dense, shared-dense                   the union and the intersection of densest groups are densest
@@ -302,6 +303,11 @@ unfolding size
 byte-le-size [] m = omega arith
 byte-le-size (x ∷ xs) zero = omega arith
 byte-le-size (x ∷ xs) (suc m) = omega (arith, byte-le-size xs m)
+
+-- a set with a member is not empty
+pub size-in : (s : List ℕ) (m : ℕ) → is-in s m ≡ true → 0 < size s
+unfolding is-in
+size-in s m e = omega (arith, byte-le-size s m, eqb-true (getD s m 0) 1 e)
 
 none-in : (s : List ℕ) (m : ℕ) → size s ≡ 0 → is-in s m ≡ false
 unfolding is-in

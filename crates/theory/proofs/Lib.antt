@@ -7,3 +7,4 @@ pub mod Refusals
 pub mod Groups
 pub mod Duality
 pub mod Best
+pub mod Cores
