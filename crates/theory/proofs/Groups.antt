@@ -1,6 +1,7 @@
 -- Groups: members, sizes, unions, and ratios.
 --   in-lt, in-everyone, size-everyone, everyone-group     members are modules; all modules
 --   Bits, group-bits, size-pos                  the byte lists of length n; a group is one, and not empty
+--   member-there                                a set that is not empty has a member
 --   Sub, sub-within, within-both, within-size   one group in another
 --   in-leave, size-leave, good-leave            a member leaves
 --   union-group, shared-group, size-union       union and intersection are groups
@@ -86,6 +87,14 @@ everyone-bits g = (length-replicate (g .n) 1, good-ones (g .n))
 -- all modules are a group
 pub everyone-group : (g : Pairs) → is-list g ≡ true → is-group g (everyone g) ≡ true
 everyone-group g l = bits-group g (everyone g) (everyone-bits g) (omega (arith, size-everyone g, listed g l .some))
+
+-- a set that is not empty has a member
+pub member-there : (s : List ℕ) → bytes-good s ≡ true → 0 < size s → (m : ℕ) × (is-in s m ≡ true)
+unfolding bytes-good size is-in
+member-there [] b h = absurd (omega arith)
+member-there (zero ∷ xs) b h = let r = member-there xs ((simp tests at b) .1) (omega arith) in (suc (r .0), r .1)
+member-there (suc zero ∷ xs) b h = (0, refl)
+member-there (suc (suc x) ∷ xs) b h = absurd (omega (arith, (simp tests at b) .0))
 
 -- ---- one group in another
 

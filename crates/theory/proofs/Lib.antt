@@ -8,3 +8,4 @@ pub mod Groups
 pub mod Duality
 pub mod Best
 pub mod Cores
+pub mod Leaving
