@@ -182,3 +182,123 @@ unfolding Leaving-everyone leaving
 leaving-everyone g m h =
     let t = turn (g .n) g (everyone g) m (everyone-bits g) (size-everyone g) (in-everyone g m h) in
     (t .0, t .1, t .2, rw (remainder-is g (t .0)) (t .3))
+
+-- ---- who leaves before whom
+
+-- r are the modules of s present when v leaves: each other module leaves after v exactly if it is among them
+pub record Stage (g : Pairs) (s order : List ℕ) (v : ℕ) (r : List ℕ) : Type 0 where
+  pub inside : Sub r s
+  pub has : is-in r v ≡ true
+  pub full : length r ≡ g .n
+  pub least : (u : ℕ) → is-in r u ≡ true → degree g r v ≤ degree g r u
+  pub later : (u : ℕ) → (u ≡ v → ⊥) → is-in s u ≡ true → before order v u ≡ is-in r u
+  pub sooner : (u : ℕ) → (u ≡ v → ⊥) → is-in s u ≡ true → before order u v ≡ not (is-in r u)
+
+-- v leaves at once
+stage-first : (g : Pairs) (s rest : List ℕ) (m v : ℕ) → m ≡ v → length s ≡ g .n → leaver g s ≡ some m → Stage g s (m ∷ rest) v s
+unfolding before Leaver-fewest
+stage-first g s rest m v e l f =
+    let k = leaver-fewest g s m f in
+    record {
+      inside = λ u x. x;
+      has = rw e at (k .1);
+      full = l;
+      least = λ u x. rw e at (k .2 u (omega (arith, in-lt s u x)) x);
+      later = λ u ne x. rw (eq-eqb m v e) (sym x);
+      sooner = λ u ne x. rw (x, ne-eqb m u (λ z. ne (sym z ∙ e)), eq-eqb m v e) }
+
+-- v leaves after m
+stage-next : (g : Pairs) (s rest : List ℕ) (m v : ℕ) (r : List ℕ) → (m ≡ v → ⊥) → Stage g (set s m 0) rest v r → Stage g s (m ∷ rest) v r
+unfolding before
+stage-next g s rest m v r ne st =
+    record {
+      inside = λ u x. none-comes s m u (st .inside u x);
+      has = st .has;
+      full = st .full;
+      least = st .least;
+      later = λ u nu x. later′ u nu x (eqb m u) refl;
+      sooner = λ u nu x. sooner′ u nu x (eqb m u) refl }
+  where
+    out : (u : ℕ) → m ≡ u → is-in r u ≡ false
+    out u e = fails (is-in r u) (λ y. let t : is-in (set s m 0) m ≡ true = rw (← e) at (st .inside u y) in no (sym (leaver-gone s m) ∙ t))
+    here : (u : ℕ) → eqb m u ≡ false → is-in s u ≡ true → is-in (set s m 0) u ≡ true
+    here u e x = others-stay s m u (λ z. eqb-false m u e (sym z)) x
+    later′ : (u : ℕ) → (u ≡ v → ⊥) → is-in s u ≡ true → (b : Bool) → eqb m u ≡ b →
+        cond (eqb m v) true (cond (eqb m u) false (before rest v u)) ≡ is-in r u
+    later′ u nu x true e = rw (ne-eqb m v ne, e) (sym (out u (eqb-true m u e)))
+    later′ u nu x false e = rw (ne-eqb m v ne, e) (st .later u nu (here u e x))
+    sooner′ : (u : ℕ) → (u ≡ v → ⊥) → is-in s u ≡ true → (b : Bool) → eqb m u ≡ b →
+        cond (eqb m u) true (cond (eqb m v) false (before rest u v)) ≡ not (is-in r u)
+    sooner′ u nu x true e = rw (e, out u (eqb-true m u e))
+    sooner′ u nu x false e = rw (ne-eqb m v ne, e) (st .sooner u nu (here u e x))
+
+stage-from : (k : ℕ) (g : Pairs) (s : List ℕ) (v : ℕ) → Bits (g .n) s → size s ≡ k → is-in s v ≡ true →
+    (r : List ℕ) × Stage g s (leaving-from k g s) v r
+stage-from zero g s v b z i = absurd (omega (arith, size-in s v i))
+stage-from (suc k) g s v b z i = go (present-leaver g s k b z) (λ m. stage-from k g (set s m 0) v)
+  where
+    go : ((m : ℕ) × (leaver g s ≡ some m) × (is-in s m ≡ true) × Bits (g .n) (set s m 0) × (size (set s m 0) ≡ k)) →
+        ((m : ℕ) → Bits (g .n) (set s m 0) → size (set s m 0) ≡ k → is-in (set s m 0) v ≡ true →
+          (r : List ℕ) × Stage g (set s m 0) (leaving-from k g (set s m 0)) v r) →
+        (r : List ℕ) × Stage g s (leaving-from (suc k) g s) v r
+    go l ih = rw (leaving-next k g s (l .0) (l .1)) (two (eqb (l .0) v) refl)
+      where
+        two : (c : Bool) → eqb (l .0) v ≡ c → (r : List ℕ) × Stage g s (l .0 ∷ leaving-from k g (set s (l .0) 0)) v r
+        two true e = (s, stage-first g s (leaving-from k g (set s (l .0) 0)) (l .0) v (eqb-true (l .0) v e) (b .0) (l .1))
+        two false e =
+            let ne : l .0 ≡ v → ⊥ = eqb-false (l .0) v e in
+            let r = ih (l .0) (l .3) (l .4) (others-stay s (l .0) v (λ z. ne (sym z)) i) in
+            (r .0, stage-next g s (leaving-from k g (set s (l .0) 0)) (l .0) v (r .0) ne (r .1))
+
+-- the modules present when v leaves
+pub stage : (g : Pairs) (v : ℕ) → v < g .n → (r : List ℕ) × Stage g (everyone g) (leaving g) v r
+unfolding leaving
+stage g v h = stage-from (g .n) g (everyone g) v (everyone-bits g) (size-everyone g) (in-everyone g v h)
+
+pub before-anti : (xs : List ℕ) (a b : ℕ) → (a ≡ b → ⊥) → before xs b a ≡ true → before xs a b ≡ false
+unfolding before
+before-anti [] a b ne e = refl
+before-anti (x ∷ xs) a b ne e = go (eqb x a) (eqb x b) refl refl e (before-anti xs a b ne)
+  where
+    go : (c d : Bool) → eqb x a ≡ c → eqb x b ≡ d → cond d true (cond c false (before xs b a)) ≡ true →
+        (before xs b a ≡ true → before xs a b ≡ false) → cond c true (cond d false (before xs a b)) ≡ false
+    go true true i j e ih = absurd (ne (sym (eqb-true x a i) ∙ eqb-true x b j))
+    go true false i j e ih = no e
+    go false true i j e ih = refl
+    go false false i j e ih = ih e
+
+-- As long as all of the core is present, with a outside it: the leaver is not in the core, or else all present would be good at c, and a in
+-- the core. So a goes before the first of the core.
+outside-first-from : (k : ℕ) (g : Pairs) (c : ℕ) (s : List ℕ) (a b : ℕ) → Bits (g .n) s → size s ≡ k → Sub (core g c) s →
+    is-in s a ≡ true → is-in (core g c) a ≡ false → is-in (core g c) b ≡ true → before (leaving-from k g s) a b ≡ true
+unfolding before Leaver-fewest
+outside-first-from zero g c s a b bs z sub ia oa ib = absurd (omega (arith, size-in s a ia))
+outside-first-from (suc k) g c s a b bs z sub ia oa ib =
+    go (present-leaver g s k bs z) (λ m x y v w. outside-first-from k g c (set s m 0) a b x y v w oa ib)
+  where
+    go : ((m : ℕ) × (leaver g s ≡ some m) × (is-in s m ≡ true) × Bits (g .n) (set s m 0) × (size (set s m 0) ≡ k)) →
+        ((m : ℕ) → Bits (g .n) (set s m 0) → size (set s m 0) ≡ k → Sub (core g c) (set s m 0) → is-in (set s m 0) a ≡ true →
+          before (leaving-from k g (set s m 0)) a b ≡ true) →
+        before (leaving-from (suc k) g s) a b ≡ true
+    go r ih = rw (leaving-next k g s m (r .1)) (two (eqb m a) (is-in (core g c) m) refl refl)
+      where
+        m : ℕ
+        m = r .0
+        two : (x y : Bool) → eqb m a ≡ x → is-in (core g c) m ≡ y →
+            cond (eqb m a) true (cond (eqb m b) false (before (leaving-from k g (set s m 0)) a b)) ≡ true
+        two true y e d = rw e
+        two false true e d =
+            let good : Good g c s = λ u x.
+                  omega (arith, leaver-fewest g s m (r .1) .2 u (omega (arith, in-lt s u x, bs .0)) x, degree-sub g (core g c) s m sub, core-good g c m d) in
+            no (sym oa ∙ good-in-core g c s (bs .0) good a ia)
+        two false false e d =
+            let apart : (u : ℕ) → is-in (core g c) u ≡ true → u ≡ m → ⊥ =
+                  λ u x z. let t : is-in (core g c) m ≡ true = rw z at x in no (sym d ∙ t) in
+            rw (e, ne-eqb m b (λ z. apart b ib (sym z)))
+            (ih m (r .3) (r .4) (λ u x. others-stay s m u (apart u x) (sub u x)) (others-stay s m a (λ z. eqb-false m a e (sym z)) ia))
+
+pub outside-first : Outside-first
+unfolding Outside-first leaving
+outside-first g c a b l ha hb oa ib =
+    outside-first-from (g .n) g c (everyone g) a b (everyone-bits g) (size-everyone g) (sub-everyone g (core g c) (length-core g c))
+    (in-everyone g a ha) oa ib

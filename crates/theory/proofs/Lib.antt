@@ -9,3 +9,4 @@ pub mod Duality
 pub mod Best
 pub mod Cores
 pub mod Leaving
+pub mod Peeling
