@@ -10,3 +10,5 @@ pub mod Best
 pub mod Cores
 pub mod Leaving
 pub mod Peeling
+pub mod Assign
+pub mod Splits
