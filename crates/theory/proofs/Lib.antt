@@ -12,3 +12,5 @@ pub mod Leaving
 pub mod Peeling
 pub mod Assign
 pub mod Splits
+pub mod Cases
+pub mod Promises

@@ -11,3 +11,4 @@ pub mod Refusals
 pub mod Check
 pub mod Words
 pub mod Promise
+pub mod Cases

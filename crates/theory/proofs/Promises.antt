@@ -1,0 +1,81 @@
+-- The statements of specs/Promise.antt and of specs/Cases.antt, each proved. Assumes nothing.
+use Rattle.theory.specs.Promise.{Equal-best, Check-best, Accepted-optimal, Found-there, Found-alone, Split-there, Found-in-core, Core-exact, Core-members, Union-densest, Shared-densest, Leaver-fewest, Leaver-lowest, Leaver-there, Leaving-steps, Leaving-everyone, Leaver-number, Numbers-rise, Outside-first}
+use Rattle.theory.specs.Cases.{Starred-cases}
+use Rattle.theory.proofs.Groups as groups
+use Rattle.theory.proofs.Duality as duality
+use Rattle.theory.proofs.Best as best
+use Rattle.theory.proofs.Cores as cores
+use Rattle.theory.proofs.Leaving as order
+use Rattle.theory.proofs.Peeling as peeling
+use Rattle.theory.proofs.Splits as splits
+use Rattle.theory.proofs.Cases as cases
+
+-- ---- demand 3
+
+pub equal-best : Equal-best
+equal-best = duality.equal-best best.found-there splits.split-there
+
+pub check-best : Check-best
+check-best = duality.check-best
+
+pub accepted-optimal : Accepted-optimal
+accepted-optimal = duality.accepted-optimal
+
+-- ---- demand 2
+
+pub found-there : Found-there
+found-there = best.found-there
+
+pub found-alone : Found-alone
+found-alone = groups.found-alone
+
+pub split-there : Split-there
+split-there = splits.split-there
+
+pub found-in-core : Found-in-core
+found-in-core = cores.found-in-core
+
+pub core-exact : Core-exact
+core-exact = cores.core-exact
+
+pub core-members : Core-members
+core-members = cores.core-members
+
+-- ---- groups of greatest ratio
+
+pub union-densest : Union-densest
+union-densest = groups.union-densest
+
+pub shared-densest : Shared-densest
+shared-densest = groups.shared-densest
+
+-- ---- the leaving order
+
+pub leaver-fewest : Leaver-fewest
+leaver-fewest = order.leaver-fewest
+
+pub leaver-lowest : Leaver-lowest
+leaver-lowest = order.leaver-lowest
+
+pub leaver-there : Leaver-there
+leaver-there = order.leaver-there
+
+pub leaving-steps : Leaving-steps
+leaving-steps = order.leaving-steps
+
+pub leaving-everyone : Leaving-everyone
+leaving-everyone = order.leaving-everyone
+
+pub leaver-number : Leaver-number
+leaver-number = peeling.leaver-number
+
+pub numbers-rise : Numbers-rise
+numbers-rise = peeling.numbers-rise
+
+pub outside-first : Outside-first
+outside-first = order.outside-first
+
+-- ---- the ten starred lists
+
+pub starred-cases : Starred-cases
+starred-cases = cases.starred-cases
