@@ -12,5 +12,11 @@ pub mod Leaving
 pub mod Peeling
 pub mod Assign
 pub mod Splits
+pub mod Surplus
+pub mod Rounding
+pub mod FloatOrder
+pub mod Floats
 pub mod Cases
 pub mod Promises
+pub mod Plain
+pub mod PlainCores

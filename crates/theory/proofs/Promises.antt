@@ -1,5 +1,5 @@
 -- The statements of specs/Promise.antt and of specs/Cases.antt, each proved. Assumes nothing.
-use Rattle.theory.specs.Promise.{Equal-best, Check-best, Accepted-optimal, Found-there, Found-alone, Split-there, Found-in-core, Core-exact, Core-members, Union-densest, Shared-densest, Leaver-fewest, Leaver-lowest, Leaver-there, Leaving-steps, Leaving-everyone, Leaver-number, Numbers-rise, Outside-first}
+use Rattle.theory.specs.Promise.{Equal-best, Check-best, Accepted-optimal, Found-there, Found-alone, Split-there, Found-in-core, Core-exact, Core-members, Union-densest, Shared-densest, Leaver-fewest, Leaver-lowest, Leaver-there, Leaving-steps, Leaving-everyone, Leaver-number, Numbers-rise, Outside-first, Floats-in-order, Rounded-once, Surplus-zero, Surplus-above}
 use Rattle.theory.specs.Cases.{Starred-cases}
 use Rattle.theory.proofs.Groups as groups
 use Rattle.theory.proofs.Duality as duality
@@ -8,6 +8,8 @@ use Rattle.theory.proofs.Cores as cores
 use Rattle.theory.proofs.Leaving as order
 use Rattle.theory.proofs.Peeling as peeling
 use Rattle.theory.proofs.Splits as splits
+use Rattle.theory.proofs.Floats as floats
+use Rattle.theory.proofs.Surplus as difference
 use Rattle.theory.proofs.Cases as cases
 
 -- ---- demand 3
@@ -74,6 +76,20 @@ numbers-rise = peeling.numbers-rise
 
 pub outside-first : Outside-first
 outside-first = order.outside-first
+
+-- ---- ratios
+
+pub floats-in-order : Floats-in-order
+floats-in-order = floats.floats-in-order
+
+pub rounded-once : Rounded-once
+rounded-once = floats.rounded-once
+
+pub surplus-zero : Surplus-zero
+surplus-zero = difference.surplus-zero
+
+pub surplus-above : Surplus-above
+surplus-above = difference.surplus-above
 
 -- ---- the ten starred lists
 

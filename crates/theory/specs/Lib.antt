@@ -12,3 +12,4 @@ pub mod Check
 pub mod Words
 pub mod Promise
 pub mod Cases
+pub mod Plain
