@@ -91,24 +91,28 @@ densest-there g l =
 largest : (g : Pairs) (d : List ℕ) → Densest g d → (s : List ℕ) × Found g s
 largest g d dd =
     go (best (g .n) (λ t. is-group g t && at-most g d t) (λ s t. size s ≤ size t)
-      (λ s t hs ht. le-or (size s) (size t)) (λ s t u hs ht hu x y. omega arith))
+    (λ s t hs ht. le-or (size s) (size t)) (λ s t u hs ht hu x y. omega arith))
   where
     dense : (t : List ℕ) → is-group g t ≡ true → at-most g d t ≡ true → (is-group g t && at-most g d t) ≡ true
     dense t h k = simp tests (h, k)
+
     go : Best (g .n) (λ t. is-group g t && at-most g d t) (λ s t. size s ≤ size t) → (s : List ℕ) × Found g s
     go (none a) = absurd (a d (group-bits g d (dd .group)) (dense d (dd .group) (dd .greatest d (dd .group))))
     go (one s b p r) =
         let p′ = simp tests at p in
         let best-s : (t : List ℕ) → is-group g t ≡ true → at-most g t s ≡ true =
-              λ t h. at-most-trans g t d s (dd .group) (dd .greatest t h) (p′ .1) in
-        (s, record {
-          group = p′ .0;
-          greatest = best-s;
-          largest = λ t h k.
-            let u : is-group g (union s t) ≡ true = union-group g s t (p′ .0) h in
-            within-union s t (omega (arith, b .0, (group-bits g t h) .0))
-            (r (union s t) (group-bits g (union s t) u)
-              (dense (union s t) u (at-most-trans g d s (union s t) (p′ .0) (p′ .1) (union-dense g s t (p′ .0) h best-s k)))) })
+        λ t h. at-most-trans g t d s (dd .group) (dd .greatest t h) (p′ .1) in (
+          s,
+          record {
+            group = p′ .0;
+            greatest = best-s;
+            largest = λ t h k.
+                let u : is-group g (union s t) ≡ true = union-group g s t (p′ .0) h in
+                within-union s t (omega (arith, b .0, (group-bits g t h) .0))
+                (r (union s t) (group-bits g (union s t) u)
+                (dense (union s t) u (at-most-trans g d s (union s t) (p′ .0) (p′ .1) (union-dense g s t (p′ .0) h best-s k))));
+          },
+        )
 
 pub found-there : Found-there
 unfolding Found-there

@@ -45,9 +45,12 @@ pub over-received : (s : List ℕ) (q : ℕ) (p : Pair) (x : ℕ) → p .a < p .
 unfolding received
 over-received s q p x h =
     over-ext s _ _ (λ m. received-ends (p .a) (p .b) m x (units q p - x) h)
-    ∙ omega (arith,
-        over-add s (λ m. cond (eqb (p .a) m) x 0) (λ m. cond (eqb (p .b) m) (units q p - x) 0),
-        over-at s (p .a) x, over-at s (p .b) (units q p - x))
+    ∙ omega (
+      arith,
+      over-add s (λ m. cond (eqb (p .a) m) x 0) (λ m. cond (eqb (p .b) m) (units q p - x) 0),
+      over-at s (p .a) x,
+      over-at s (p .b) (units q p - x),
+    )
 
 -- a pair inside gives all its units to members
 pair-le : (u v : Bool) (x y w q : ℕ) → x + y ≡ w * q → q * cond (u && v) w 0 ≤ cond u x 0 + cond v y 0
@@ -63,12 +66,15 @@ loads-hold-inside n s q [] xs b p h = omega arith
 loads-hold-inside n s q (p ∷ ps) [] b pr h = no h
 loads-hold-inside n s q (p ∷ ps) (x ∷ xs) b pr h =
     let h′ = simp tests at h in
-    omega (arith,
+    omega (
+      arith,
       over-add s (λ m. received q m p x) (λ m. load-of q m ps xs),
       over-received s q p x (pr .0 .0),
       pair-le (is-in s (p .a)) (is-in s (p .b)) x (p .w * q - x) (p .w) q (omega (arith, h′ .0)),
-      bit s (p .a) x b, bit s (p .b) (p .w * q - x) b,
-      loads-hold-inside n s q ps xs b (pr .1) (h′ .1))
+      bit s (p .a) x b,
+      bit s (p .b) (p .w * q - x) b,
+      loads-hold-inside n s q ps xs b (pr .1) (h′ .1),
+    )
 
 pub load-le-greatest : (g : Pairs) (q : ℕ) (xs : List ℕ) (m : ℕ) → m < g .n → load g q xs m ≤ greatest-load g q xs
 unfolding greatest-load
@@ -81,18 +87,21 @@ unfolding is-split inside load
 weak-duality g s xs q l h k =
     let top : ℕ = greatest-load g q xs in
     let b = group-bits g s h in
-    omega (arith,
+    omega (
+      arith,
       loads-hold-inside (g .n) s q (g .pairs) xs (b .1) (proper g l) ((simp tests at k) .1),
       over-le s (λ m. load g q xs m) (λ m. top) (λ m i. load-le-greatest g q xs m (omega (arith, b .0))),
-      over-const s top)
+      over-const s top,
+    )
 
 -- ---- what equality means
 
 pub check-best : Check-best
 unfolding Check-best at-most
-check-best g s xs l h k le =
-    (omega (arith, le-of-mul-le-mul-right (weak-duality g s xs (size s) l h k) (size-pos g s h)),
-     λ t i. simp tests (omega (arith, weak-duality g t xs (size s) l i k, mul-le-mul-right (size t) le)))
+check-best g s xs l h k le = (
+  omega (arith, le-of-mul-le-mul-right (weak-duality g s xs (size s) l h k) (size-pos g s h)),
+  λ t i. simp tests (omega (arith, weak-duality g t xs (size s) l i k, mul-le-mul-right (size t) le)),
+)
 
 module _ (g : Pairs) (s xs : List ℕ) (q : ℕ) (l : is-list g ≡ true) (h : is-group g s ≡ true) (k : is-split g q xs ≡ true) where
   share-pos : 0 < q
@@ -105,11 +114,12 @@ module _ (g : Pairs) (s xs : List ℕ) (q : ℕ) (l : is-list g ≡ true) (h : i
   equal-both-best e =
       record {
         group = λ t i.
-          simp tests (le-of-mul-le-mul-right
+            simp tests (le-of-mul-le-mul-right
             (omega (arith, mul-le-mul-right (size s) (weak-duality g t xs q l i k), ap (λ (z : ℕ). z * size t) e)) share-pos);
         split = λ r ys i.
-          le-of-mul-le-mul-right
-            (omega (arith, mul-le-mul-right q (weak-duality g s ys r l h i), ap (λ (z : ℕ). z * r) e)) (size-pos g s h) }
+            le-of-mul-le-mul-right
+            (omega (arith, mul-le-mul-right q (weak-duality g s ys r l h i), ap (λ (z : ℕ). z * r) e)) (size-pos g s h);
+      }
 
   -- both are best: equal ratios, since a found group f with its split ys has them equal
   both-best-equal : (f ys : List ℕ) → is-group g f ≡ true → is-split g (size f) ys ≡ true → greatest-load g (size f) ys ≡ inside g f →
@@ -119,17 +129,25 @@ module _ (g : Pairs) (s xs : List ℕ) (q : ℕ) (l : is-list g ≡ true) (h : i
       let c′ = simp tests at (b .group f hf) in
       let d′ = simp tests at d in
       eq-of-mul-eq-mul-right (size f) (size-pos g f hf) _ _
-        (omega (arith, mul-le-mul-right (size s) (b .split (size f) ys hy), ap (λ (z : ℕ). z * q * size s) e, mul-le-mul-right q c′,
-          mul-le-mul-right q d′, mul-le-mul-right (size s) (weak-duality g f xs q l hf k)))
+      (omega (
+        arith,
+        mul-le-mul-right (size s) (b .split (size f) ys hy),
+        ap (λ (z : ℕ). z * q * size s) e,
+        mul-le-mul-right q c′,
+        mul-le-mul-right q d′,
+        mul-le-mul-right (size s) (weak-duality g f xs q l hf k),
+      ))
 
 -- demand 3, given that found groups and their splits are there
 pub equal-best : Found-there → Split-there → Equal-best
 unfolding Equal-best Found-there Split-there
-equal-best found split g s xs q l h k =
-    (equal-both-best g s xs q l h k, λ b.
+equal-best found split g s xs q l h k = (
+  equal-both-best g s xs q l h k,
+  λ b.
       let f = found g l in
       let y = split g (f .0) l (f .1) in
-      both-best-equal g s xs q l h k (f .0) (y .0) (f .1 .group) (y .1) (y .2) (f .1 .greatest s h) b)
+      both-best-equal g s xs q l h k (f .0) (y .0) (f .1 .group) (y .1) (y .2) (f .1 .greatest s h) b,
+)
 
 -- ---- what check accepts
 
@@ -141,9 +159,11 @@ accepted g s xs e =
     let c = refusal-none 6 (not (is-group g s)) _ e in
     let d = refusal-none 7 (not (shares-good (size s) (g .pairs) xs)) _ (c .1) in
     let f = refusal-none 8 (not (leb (greatest-load g (size s) xs) (inside g s))) _ (d .1) in
-    let h = not-false (is-group g s) (c .0) in
-    (h, simp tests (size-pos g s h, not-false (shares-good (size s) (g .pairs) xs) (d .0)),
-     leb-true (greatest-load g (size s) xs) (inside g s) (not-false _ (f .0)))
+    let h = not-false (is-group g s) (c .0) in (
+      h,
+      simp tests (size-pos g s h, not-false (shares-good (size s) (g .pairs) xs) (d .0)),
+      leb-true (greatest-load g (size s) xs) (inside g s) (not-false _ (f .0)),
+    )
 
 pub optimal : (g : Pairs) (s xs : List ℕ) → is-list g ≡ true → is-group g s ≡ true → is-split g (size s) xs ≡ true →
     greatest-load g (size s) xs ≤ inside g s → Optimal g s xs (inside g s) (size s)
@@ -156,7 +176,8 @@ optimal g s xs l h k le =
       is-a-group = h;
       is-a-split = k;
       top-load = top;
-      best = equal-both-best g s xs (size s) l h k (ap (λ (z : ℕ). z * size s) (sym top)) }
+      best = equal-both-best g s xs (size s) l h k (ap (λ (z : ℕ). z * size s) (sym top));
+    }
 
 pub accepted-optimal : Accepted-optimal
 unfolding Accepted-optimal

@@ -62,6 +62,6 @@ pub floats-in-order : Floats-in-order
 unfolding Floats-in-order Rounded-once
 floats-in-order p q r s P Q Q' R S S' =
     let k : Ordered-as (p * s) (r * q) (ratio p q) (ratio r s) =
-          rw (rounded-once p q P Q Q', rounded-once r s R S S')
-          (rounded-order (ratio-in-range P Q Q') (ratio-in-range R S S') (cross-small P S') (cross-small R Q')) in
+    rw (rounded-once p q P Q Q', rounded-once r s R S S')
+    (rounded-order (ratio-in-range P Q Q') (ratio-in-range R S S') (cross-small P S') (cross-small R Q')) in
     record { less = k .less; at-most = k .at-most; level = k .level; one-float = k .one-float; one-ratio = k .one-ratio }

@@ -222,6 +222,7 @@ union-bits n s t b c = (long s t (b .0 ∙ sym (c .0)) ∙ b .0, good s t (b .1)
     long [] t e = sym e
     long (x ∷ xs) [] e = refl
     long (x ∷ xs) (y ∷ ys) e = ap suc (long xs ys (omega arith))
+
     good : (s t : List ℕ) → bytes-good s ≡ true → bytes-good t ≡ true → bytes-good (union s t) ≡ true
     good [] t e d = d
     good (x ∷ xs) [] e d = e
@@ -238,6 +239,7 @@ shared-bits n s t b c = (long s t (b .0 ∙ sym (c .0)) ∙ b .0, good s t (b .1
     long [] t e = refl
     long (x ∷ xs) [] e = sym e
     long (x ∷ xs) (y ∷ ys) e = ap suc (long xs ys (omega arith))
+
     good : (s t : List ℕ) → bytes-good s ≡ true → bytes-good t ≡ true → bytes-good (shared s t) ≡ true
     good [] t e d = refl
     good (x ∷ xs) [] e d = refl

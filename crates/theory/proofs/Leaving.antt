@@ -55,14 +55,20 @@ fewest-step g s m hi true h e none ih =
 fewest-step g s m hi true h e (some x) ih = go (leb (degree g s m) (degree g s x)) refl
   where
     go : (c : Bool) → leb (degree g s m) (degree g s x) ≡ c → Fewest g s m hi (some (cond c m x))
-    go true c =
-        (omega arith, h, e,
-         widen m hi (λ i. is-in s i ≡ true → Precedes g s m i) (λ _ i. (omega arith, λ _. omega arith))
-           (λ i l k j. (omega (arith, ih .3 i l k j .0, leb-true (degree g s m) (degree g s x) c), λ _. omega arith)))
+    go true c = (
+      omega arith,
+      h,
+      e,
+      widen m hi (λ i. is-in s i ≡ true → Precedes g s m i) (λ _ i. (omega arith, λ _. omega arith))
+          (λ i l k j. (omega (arith, ih .3 i l k j .0, leb-true (degree g s m) (degree g s x) c), λ _. omega arith)),
+    )
     go false c =
-        let less : degree g s x < degree g s m = leb-false (degree g s m) (degree g s x) c in
-        (omega (arith, ih .0), ih .1, ih .2,
-         widen m hi (λ i. is-in s i ≡ true → Precedes g s x i) (λ _ i. (omega arith, λ same. absurd (omega arith))) (ih .3))
+        let less : degree g s x < degree g s m = leb-false (degree g s m) (degree g s x) c in (
+          omega (arith, ih .0),
+          ih .1,
+          ih .2,
+          widen m hi (λ i. is-in s i ≡ true → Precedes g s x i) (λ _ i. (omega arith, λ same. absurd (omega arith))) (ih .3),
+        )
 
 fewest-is : (left m : ℕ) (g : Pairs) (s : List ℕ) → Fewest g s m (m + left) (fewest-from left m g s)
 unfolding fewest-from
@@ -166,6 +172,7 @@ turn (suc k) g s v b z i = go (present-leaver g s k b z) (λ m. turn k g (set s 
   where
     unfold-zero : (order s : List ℕ) → left-behind order s 0 ≡ s
     unfold-zero order s = unfold left-behind in refl
+
     go : ((m : ℕ) × (leaver g s ≡ some m) × (is-in s m ≡ true) × Bits (g .n) (set s m 0) × (size (set s m 0) ≡ k)) →
         ((m : ℕ) → Bits (g .n) (set s m 0) → size (set s m 0) ≡ k → is-in (set s m 0) v ≡ true → Turn k (set s m 0) (leaving-from k g (set s m 0)) v) →
         Turn (suc k) s (leaving-from (suc k) g s) v
@@ -205,7 +212,8 @@ stage-first g s rest m v e l f =
       full = l;
       least = λ u x. rw e at (k .2 u (omega (arith, in-lt s u x)) x);
       later = λ u ne x. rw (eq-eqb m v e) (sym x);
-      sooner = λ u ne x. rw (x, ne-eqb m u (λ z. ne (sym z ∙ e)), eq-eqb m v e) }
+      sooner = λ u ne x. rw (x, ne-eqb m u (λ z. ne (sym z ∙ e)), eq-eqb m v e);
+    }
 
 -- v leaves after m
 stage-next : (g : Pairs) (s rest : List ℕ) (m v : ℕ) (r : List ℕ) → (m ≡ v → ⊥) → Stage g (set s m 0) rest v r → Stage g s (m ∷ rest) v r
@@ -217,16 +225,20 @@ stage-next g s rest m v r ne st =
       full = st .full;
       least = st .least;
       later = λ u nu x. later′ u nu x (eqb m u) refl;
-      sooner = λ u nu x. sooner′ u nu x (eqb m u) refl }
+      sooner = λ u nu x. sooner′ u nu x (eqb m u) refl;
+    }
   where
     out : (u : ℕ) → m ≡ u → is-in r u ≡ false
     out u e = fails (is-in r u) (λ y. let t : is-in (set s m 0) m ≡ true = rw (← e) at (st .inside u y) in no (sym (leaver-gone s m) ∙ t))
+
     here : (u : ℕ) → eqb m u ≡ false → is-in s u ≡ true → is-in (set s m 0) u ≡ true
     here u e x = others-stay s m u (λ z. eqb-false m u e (sym z)) x
+
     later′ : (u : ℕ) → (u ≡ v → ⊥) → is-in s u ≡ true → (b : Bool) → eqb m u ≡ b →
         cond (eqb m v) true (cond (eqb m u) false (before rest v u)) ≡ is-in r u
     later′ u nu x true e = rw (ne-eqb m v ne, e) (sym (out u (eqb-true m u e)))
     later′ u nu x false e = rw (ne-eqb m v ne, e) (st .later u nu (here u e x))
+
     sooner′ : (u : ℕ) → (u ≡ v → ⊥) → is-in s u ≡ true → (b : Bool) → eqb m u ≡ b →
         cond (eqb m u) true (cond (eqb m v) false (before rest u v)) ≡ not (is-in r u)
     sooner′ u nu x true e = rw (e, out u (eqb-true m u e))
@@ -239,7 +251,7 @@ stage-from (suc k) g s v b z i = go (present-leaver g s k b z) (λ m. stage-from
   where
     go : ((m : ℕ) × (leaver g s ≡ some m) × (is-in s m ≡ true) × Bits (g .n) (set s m 0) × (size (set s m 0) ≡ k)) →
         ((m : ℕ) → Bits (g .n) (set s m 0) → size (set s m 0) ≡ k → is-in (set s m 0) v ≡ true →
-          (r : List ℕ) × Stage g (set s m 0) (leaving-from k g (set s m 0)) v r) →
+        (r : List ℕ) × Stage g (set s m 0) (leaving-from k g (set s m 0)) v r) →
         (r : List ℕ) × Stage g s (leaving-from (suc k) g s) v r
     go l ih = rw (leaving-next k g s (l .0) (l .1)) (two (eqb (l .0) v) refl)
       where
@@ -278,22 +290,23 @@ outside-first-from (suc k) g c s a b bs z sub ia oa ib =
   where
     go : ((m : ℕ) × (leaver g s ≡ some m) × (is-in s m ≡ true) × Bits (g .n) (set s m 0) × (size (set s m 0) ≡ k)) →
         ((m : ℕ) → Bits (g .n) (set s m 0) → size (set s m 0) ≡ k → Sub (core g c) (set s m 0) → is-in (set s m 0) a ≡ true →
-          before (leaving-from k g (set s m 0)) a b ≡ true) →
+        before (leaving-from k g (set s m 0)) a b ≡ true) →
         before (leaving-from (suc k) g s) a b ≡ true
     go r ih = rw (leaving-next k g s m (r .1)) (two (eqb m a) (is-in (core g c) m) refl refl)
       where
         m : ℕ
         m = r .0
+
         two : (x y : Bool) → eqb m a ≡ x → is-in (core g c) m ≡ y →
             cond (eqb m a) true (cond (eqb m b) false (before (leaving-from k g (set s m 0)) a b)) ≡ true
         two true y e d = rw e
         two false true e d =
             let good : Good g c s = λ u x.
-                  omega (arith, leaver-fewest g s m (r .1) .2 u (omega (arith, in-lt s u x, bs .0)) x, degree-sub g (core g c) s m sub, core-good g c m d) in
+            omega (arith, leaver-fewest g s m (r .1) .2 u (omega (arith, in-lt s u x, bs .0)) x, degree-sub g (core g c) s m sub, core-good g c m d) in
             no (sym oa ∙ good-in-core g c s (bs .0) good a ia)
         two false false e d =
             let apart : (u : ℕ) → is-in (core g c) u ≡ true → u ≡ m → ⊥ =
-                  λ u x z. let t : is-in (core g c) m ≡ true = rw z at x in no (sym d ∙ t) in
+            λ u x z. let t : is-in (core g c) m ≡ true = rw z at x in no (sym d ∙ t) in
             rw (e, ne-eqb m b (λ z. apart b ib (sym z)))
             (ih m (r .3) (r .4) (λ u x. others-stay s m u (apart u x) (sub u x)) (others-stay s m a (λ z. eqb-false m a e (sym z)) ia))
 

@@ -40,7 +40,8 @@ peeled-start g =
     record {
       full = length-everyone g;
       low = λ u i. omega arith;
-      high = λ k h. sub-everyone g (core g k) (length-core g k) }
+      high = λ k h. sub-everyone g (core g k) (length-core g k);
+    }
 
 -- v leaves
 module _ (g : Pairs) (s : List ℕ) (c v : ℕ) (p : Peeled g s c) (f : leaver g s ≡ some v) where
@@ -66,14 +67,15 @@ module _ (g : Pairs) (s : List ℕ) (c v : ℕ) (p : Peeled g s c) (f : leaver g
       go true e = omega (arith, leb-true (core-number g v) (max c (degree g s v)) e, p .low v here, in-degree-core v here)
       go false e =
           absurd (out-above (core-number g v) (leb-false (core-number g v) (max c (degree g s v)) e)
-            (in-own-core g v (omega (arith, p .full, in-lt s v here))))
+          (in-own-core g v (omega (arith, p .full, in-lt s v here))))
 
   pub peeled-step : Peeled g (set s v 0) (max c (degree g s v))
   peeled-step =
       record {
         full = length-set s v 0 ∙ p .full;
         low = λ u i. let t : is-in s u ≡ true = none-comes s v u i in omega (arith, p .low u t, in-degree-core u t);
-        high = λ k h u i. others-stay s v u (λ e. out-above k h (rw e at i)) (p .high k (omega arith) u i) }
+        high = λ k h u i. others-stay s v u (λ e. out-above k h (rw e at i)) (p .high k (omega arith) u i);
+      }
 
 -- the leaver at place i, with the modules present then
 peeled-next : (g : Pairs) (i : ℕ) → i < g .n → Peeled g (remainder g i) (greatest i (leaving-degree g)) →
@@ -93,14 +95,18 @@ unfolding Leaver-number Leaving-steps
 leaver-number g i l h =
     rw (greatest-suc i (leaving-degree g))
     (unfold leaving-degree in
-      peeled-number g (remainder g i) (greatest i (leaving-degree g)) (getD (leaving g) i 0) (peeled g i (omega arith)) (leaving-steps g .1 i h))
+    peeled-number g (remainder g i) (greatest i (leaving-degree g)) (getD (leaving g) i 0) (peeled g i (omega arith)) (leaving-steps g .1 i h))
 
 pub numbers-rise : Numbers-rise
 unfolding Numbers-rise Leaver-number
 numbers-rise g i j l h k =
-    omega (arith, leaver-number g i l (omega arith), leaver-number g j l k,
+    omega (
+      arith,
+      leaver-number g i l (omega arith),
+      leaver-number g j l k,
       greatest-le (suc i) (leaving-degree g) (greatest (suc j) (leaving-degree g))
-        (λ m x. at-le-greatest (suc j) (leaving-degree g) m (omega arith)))
+          (λ m x. at-le-greatest (suc j) (leaving-degree g) m (omega arith)),
+    )
 
 -- ---- degrees, turn by turn
 
@@ -129,8 +135,10 @@ unfolding degree-of joins joint
 degree-leave n [] s u v pr i = omega arith
 degree-leave n (p ∷ ps) s u v pr i =
     simp in-leave
-    (omega (arith,
+    (omega (
+      arith,
       pair-leave (eqb (p .a) u) (eqb (p .b) u) (eqb (p .a) v) (eqb (p .b) v) (is-in s (p .a)) (is-in s (p .b)) (p .w)
-        (λ x y. omega (arith, eqb-true (p .a) u x, eqb-true (p .b) u y))
-        (λ x. rw (eqb-true (p .a) v x) i) (λ y. rw (eqb-true (p .b) v y) i),
-      degree-leave n ps s u v (pr .1) i))
+          (λ x y. omega (arith, eqb-true (p .a) u x, eqb-true (p .b) u y))
+          (λ x. rw (eqb-true (p .a) v x) i) (λ y. rw (eqb-true (p .b) v y) i),
+      degree-leave n ps s u v (pr .1) i,
+    ))

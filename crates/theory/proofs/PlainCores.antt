@@ -101,7 +101,7 @@ pub each-has-plain : (g : plain.Pairs) (k : ℕ) (s : List ℕ) → each-has (we
 unfolding weighted each-has plain.all-have
 each-has-plain g k s =
     countdown-every (λ m. not (is-in s m) || leb k (degree (weighted g) s m)) (λ l m. plain.all-have l m g k s)
-      (λ m. refl) (λ l m. rw (degree-plain g s m)) (g .n)
+    (λ m. refl) (λ l m. rw (degree-plain g s m)) (g .n)
 
 -- ---- a degree is at most the number of modules
 
@@ -137,9 +137,9 @@ above-later : (m c x y a b : ℕ) (f : Bool) → (f ≡ false → Later x y a b)
 above-later m c x y a b f h up u v l k =
     up u v
     (λ e.
-      let p = h e in
-      let r = l refl in
-      (omega arith, λ z. omega (arith, p .1 (omega arith), r .1 (omega arith)))) k
+    let p = h e in
+    let r = l refl in
+    (omega arith, λ z. omega (arith, p .1 (omega arith), r .1 (omega arith)))) k
 
 -- the pairs that join m to modules from c on are at most N − c
 degree-room : (n x y m c : ℕ) (f : Bool) (ps : List plain.Pair) (s : List ℕ) → plain.rises n x y f ps ≡ true → c ≤ n → Above m c x y f →
@@ -151,7 +151,7 @@ degree-room n x y m c f (p ∷ ps) s e h up =
     let l : f ≡ false → Later x y (p .a) (p .b) = λ z. later-of x y (p .a) (p .b) (rw z at (e′ .0 .1)) in
     let here = up (p .a) (p .b) l (e′ .0 .0 .0) in
     let rest : (d : ℕ) → d ≤ n → Above m d (p .a) (p .b) false → plain.degree-of ps s m + d ≤ n =
-          λ d. degree-room n (p .a) (p .b) m d false ps s (e′ .1) in
+    λ d. degree-room n (p .a) (p .b) m d false ps s (e′ .1) in
     go (eqb (p .a) m && is-in s (p .b)) (eqb (p .b) m && is-in s (p .a)) refl refl
     (rest c h (above-later m c x y (p .a) (p .b) f l up))
     (λ a. omega (arith, here .0 a, rest (suc (p .b)) (omega arith) (above-first m (p .a) (p .b) (e′ .0 .0 .0) a)))
@@ -182,8 +182,10 @@ highest-above (suc j) g m = rw add-suc (go (is-in (core g k) m) refl (highest-ab
   where
     d : ℕ
     d = degree g (everyone g) m
+
     k : ℕ
     k = suc (d + j)
+
     go : (b : Bool) → is-in (core g k) m ≡ b → highest (d + j) g m ≡ highest d g m → cond b k (highest (d + j) g m) ≡ highest d g m
     go true e ih =
         absurd (omega (arith, core-good g k m e, degree-sub g (core g k) (everyone g) m (sub-everyone g (core g k) (length-core g k))))
@@ -235,8 +237,14 @@ unfolding ones pair outside-good in-core-pair wholly-first units plain.outside-g
 outside-of-plain g k q n [] xs l h = refl
 outside-of-plain g k q n (p ∷ ps) [] l h = refl
 outside-of-plain g k q n (p ∷ ps) (x ∷ xs) l h =
-    rw (core-number-plain g (p .a) l, core-number-plain g (p .b) l, leaving-plain g, one-mul q,
-      before-plain 0 (plain.leaving g) (p .a) (p .b) (λ e. omega (arith, h .0 .0)), outside-of-plain g k q n ps xs l (h .1))
+    rw (
+      core-number-plain g (p .a) l,
+      core-number-plain g (p .b) l,
+      leaving-plain g,
+      one-mul q,
+      before-plain 0 (plain.leaving g) (p .a) (p .b) (λ e. omega (arith, h .0 .0)),
+      outside-of-plain g k q n ps xs l (h .1),
+    )
 
 -- on a held list, whose pairs have two different ends, the rule for pairs outside a core is the same
 pub outside-good-plain : (g : plain.Pairs) (k q : ℕ) (xs : List ℕ) → plain.is-list g ≡ true →

@@ -77,7 +77,7 @@ module _ (keep : Pair → Bool) (f : Pair → ℕ) where
 
   load-pair : (c a b : Bool) (x y w q : ℕ) → x ≤ cond c w 0 * q →
       cond a (cond c x y) (cond b (w * q - cond c x y) 0)
-        ≡ cond a x (cond b (cond c w 0 * q - x) 0) + cond c 0 (cond a y (cond b (w * q - y) 0))
+      ≡ cond a x (cond b (cond c w 0 * q - x) 0) + cond c 0 (cond a y (cond b (w * q - y) 0))
   load-pair true a b x y w q h = omega arith
   load-pair false true b x y w q h = omega arith
   load-pair false false true x y w q h = omega arith
@@ -110,10 +110,12 @@ module _ (keep : Pair → Bool) (f : Pair → ℕ) where
   load-none q m ha hb (p ∷ ps) [] h = refl
   load-none q m ha hb (p ∷ ps) (x ∷ xs) h =
       let h′ = simp tests at h in
-      omega (arith,
+      omega (
+        arith,
         zero-pair (keep p) (eqb (p .a) m) (eqb (p .b) m) x (p .w) q (h′ .0)
-          (λ e. ha p (eqb-true (p .a) m e)) (λ e. hb p (eqb-true (p .b) m e)),
-        load-none q m ha hb ps xs (h′ .1))
+            (λ e. ha p (eqb-true (p .a) m e)) (λ e. hb p (eqb-true (p .b) m e)),
+        load-none q m ha hb ps xs (h′ .1),
+      )
 
 -- ---- pairs that reach outside the core of order k
 
@@ -182,10 +184,12 @@ module _ (g : Pairs) (l : is-list g ≡ true) (k q : ℕ) where
   unfolding forced received wholly-first units
   forced-inner m im [] pr = refl
   forced-inner m im (p ∷ ps) pr =
-      omega (arith,
+      omega (
+        arith,
         in-pair (in-core-pair g k p) (eqb (p .a) m) (eqb (p .b) m) (before (leaving g) (p .a) (p .b)) (p .w) q
-          (λ z x. inner-a p m im (pr .0) z (eqb-true (p .a) m x)) (λ z y. inner-b p m im (pr .0) z (eqb-true (p .b) m y)),
-        forced-inner m im ps (pr .1))
+            (λ z x. inner-a p m im (pr .0) z (eqb-true (p .a) m x)) (λ z y. inner-b p m im (pr .0) z (eqb-true (p .b) m y)),
+        forced-inner m im ps (pr .1),
+      )
 
   -- a module outside receives at most q times its degree at leaving
   forced-outer : (m : ℕ) (r : List ℕ) → Stage g (everyone g) (leaving g) m r → (ps : List Pair) → Proper (g .n) ps →
@@ -193,11 +197,13 @@ module _ (g : Pairs) (l : is-list g ≡ true) (k q : ℕ) where
   unfolding forced received wholly-first units degree-of joins
   forced-outer m r st [] pr = omega arith
   forced-outer m r st (p ∷ ps) pr =
-      omega (arith,
+      omega (
+        arith,
         out-pair (in-core-pair g k p) (eqb (p .a) m) (eqb (p .b) m) (before (leaving g) (p .a) (p .b)) (is-in r (p .a)) (is-in r (p .b)) (p .w) q
-          (λ x. let e : p .a ≡ m = eqb-true (p .a) m x in rw e (st .later (p .b) (λ z. omega arith) (in-everyone g (p .b) (omega arith))))
-          (λ y. let e : p .b ≡ m = eqb-true (p .b) m y in rw e (st .sooner (p .a) (λ z. omega arith) (in-everyone g (p .a) (omega arith)))),
-        forced-outer m r st ps (pr .1))
+            (λ x. let e : p .a ≡ m = eqb-true (p .a) m x in rw e (st .later (p .b) (λ z. omega arith) (in-everyone g (p .b) (omega arith))))
+            (λ y. let e : p .b ≡ m = eqb-true (p .b) m y in rw e (st .sooner (p .a) (λ z. omega arith) (in-everyone g (p .a) (omega arith)))),
+        forced-outer m r st ps (pr .1),
+      )
 
   outside-merge : (ps : List Pair) (xs : List ℕ) → shares-good q (only (in-core-pair g k) (wholly-first g q) ps) xs ≡ true →
       outside-good g k q ps (merge (in-core-pair g k) (wholly-first g q) ps xs) ≡ true
@@ -244,13 +250,15 @@ module _ (g : Pairs) (s : List ℕ) (l : is-list g ≡ true) (f : Found g s) whe
   outer-le m h o =
       let st = stage g m h in
       let d : degree g (st .0) m ≤ core-number g m =
-            number-of g (degree g (st .0) m) m
-            (good-in-core g (degree g (st .0) m) (st .0) (st .1 .full) (st .1 .least) m (st .1 .has)) in
+      number-of g (degree g (st .0) m) m
+      (good-in-core g (degree g (st .0) m) (st .0) (st .1 .full) (st .1 .least) m (st .1 .has)) in
       unfold degree in
-      omega (arith,
+      omega (
+        arith,
         forced-outer g l order (size s) m (st .0) (st .1) (g .pairs) (proper g l),
         mul-le-mul-left (size s) d,
-        round-lt (inside g s) (size s) (core-number g m) (size-pos g s (f .group)) (leb-false order (core-number g m) o))
+        round-lt (inside g s) (size s) (core-number g m) (size-pos g s (f .group)) (leb-false order (core-number g m) o),
+      )
 
   load-le : (xs : List ℕ) → shares-good (size s) (only inner outer (g .pairs)) xs ≡ true →
       ((m : ℕ) → m < g .n → load-of (size s) m (only inner outer (g .pairs)) xs ≤ inside g s) →
@@ -261,14 +269,19 @@ module _ (g : Pairs) (s : List ℕ) (l : is-list g ≡ true) (f : Found g s) whe
       sum : load-of (size s) m (g .pairs) (merge inner outer (g .pairs) xs)
           ≡ load-of (size s) m (only inner outer (g .pairs)) xs + forced inner outer (size s) m (g .pairs)
       sum = load-merge inner outer (size s) m (g .pairs) xs ok
+
       go : (b : Bool) → leb order (core-number g m) ≡ b → load-of (size s) m (g .pairs) (merge inner outer (g .pairs) xs) ≤ inside g s
       go true i = omega (arith, sum, le m h, forced-inner g l order (size s) m i (g .pairs) (proper g l))
       go false o =
-          omega (arith, sum, outer-le m h o,
+          omega (
+            arith,
+            sum,
+            outer-le m h o,
             load-none inner outer (size s) m
-              (λ p e. let t : leb order (core-number g (p .a)) ≡ false = rw e o in rw t)
-              (λ p e. let t : leb order (core-number g (p .b)) ≡ false = rw e o in rw t (and-false (leb order (core-number g (p .a)))))
-              (g .pairs) xs ok)
+                (λ p e. let t : leb order (core-number g (p .a)) ≡ false = rw e o in rw t)
+                (λ p e. let t : leb order (core-number g (p .b)) ≡ false = rw e o in rw t (and-false (leb order (core-number g (p .a)))))
+                (g .pairs) xs ok,
+          )
 
 pub split-there : Split-there
 unfolding Split-there is-split greatest-load load order inner outer
@@ -277,13 +290,17 @@ split-there g s l f =
     let kp : Pair → Bool = inner g s l f in
     let gv : Pair → ℕ = outer g s l f in
     let r = assign (g .n) q (only kp gv (g .pairs)) (proper-only kp gv (g .n) (g .pairs) (proper g l)) (λ m. inside g s)
-              (λ t b. omega (arith, over-const t (inside g s), dense-bound g s t f b, mul-le-mul-left q (inside-only kp gv (g .pairs) t))) in
+    (λ t b. omega (arith, over-const t (inside g s), dense-bound g s t f b, mul-le-mul-left q (inside-only kp gv (g .pairs) t))) in
     let xs : List ℕ = merge kp gv (g .pairs) (r .0) in
     let pos : 0 < q = size-pos g s (f .group) in
     let ok : (leb 1 q && shares-good q (g .pairs) xs) ≡ true =
-          simp tests (pos, shares-merge kp gv q (wholly-le g l (order g s l f) q) (g .pairs) (r .0) (r .1)) in
-    (xs, ok,
-     omega (arith,
-       greatest-le (g .n) (load g q xs) (inside g s) (λ i h. load-le g s l f (r .0) (r .1) (r .2) i h),
-       le-of-mul-le-mul-right (weak-duality g s xs q l (f .group) ok) pos),
-     outside-merge g l (order g s l f) q (g .pairs) (r .0) (r .1))
+    simp tests (pos, shares-merge kp gv q (wholly-le g l (order g s l f) q) (g .pairs) (r .0) (r .1)) in (
+      xs,
+      ok,
+      omega (
+        arith,
+        greatest-le (g .n) (load g q xs) (inside g s) (λ i h. load-le g s l f (r .0) (r .1) (r .2) i h),
+        le-of-mul-le-mul-right (weak-duality g s xs q l (f .group) ok) pos,
+      ),
+      outside-merge g l (order g s l f) q (g .pairs) (r .0) (r .1),
+    )
