@@ -5,7 +5,8 @@
 --   check-best             no load above the inside count at share size Q: the group is densest
 --   equal-both-best        equal ratios: both are best
 --   equal-best             and the other way, from a found group and its split
---   accepted-optimal       what check accepts is optimal
+--   optimal                a group and a split at its size with no load above its inside count are optimal
+--   accepted-exactly, accepted-optimal    what check accepts
 -- Assumes nothing.
 use mathlib.Core.Path.{_≡_, refl, ap, sym, _∙_}
 use mathlib.Core.Bool.{Bool, true, false, _&&_, not, cond}
@@ -15,12 +16,13 @@ use native.Mathlib.Omega.{arith}
 use native.Mathlib.Nat.{mul-le-mul-right, le-of-mul-le-mul-right, eq-of-mul-eq-mul-right}
 use lib.Dec.{leb, eqb}
 use lib.ListN.{length, getD}
-use borrow.Author.Tests.{eqb-true, leb-true, not-false}
+use borrow.Author.Tests.{eqb-true, leb-true, le-leb, not-false}
 use Rattle.theory.specs.Lists.{Pairs, Pair, is-list}
 use Rattle.theory.specs.Groups.{is-in, size, bytes-good, is-group, holds-pair, inside-of, inside, at-most, Found}
 use Rattle.theory.specs.Splits.{units, received, shares-good, is-split, load-of, load, greatest-load}
+use Rattle.theory.specs.Refusals.{cause, refusal}
 use Rattle.theory.specs.Check.{loads-good, check-causes, check-number}
-use Rattle.theory.specs.Promise.{Both-best, Equal-best, Check-best, Optimal, Accepted-optimal, Found-there, Split-there}
+use Rattle.theory.specs.Promise.{Both-best, Equal-best, Check-best, Accepted-exactly, Optimal, Accepted-optimal, Found-there, Split-there}
 use Rattle.theory.proofs.Tests.{tests, no}
 use Rattle.theory.proofs.Tables.{at-le-greatest}
 use Rattle.theory.proofs.Sums.{over, over-ext, over-le, over-add, over-const, over-at, bit}
@@ -113,10 +115,10 @@ module _ (g : Pairs) (s xs : List ℕ) (q : ℕ) (l : is-list g ≡ true) (h : i
   unfolding at-most
   equal-both-best e =
       record {
-        group = λ t i.
+        none-denser = λ t i.
             simp tests (le-of-mul-le-mul-right
             (omega (arith, mul-le-mul-right (size s) (weak-duality g t xs q l i k), ap (λ (z : ℕ). z * size t) e)) share-pos);
-        split = λ r ys i.
+        none-lower = λ r ys i.
             le-of-mul-le-mul-right
             (omega (arith, mul-le-mul-right q (weak-duality g s ys r l h i), ap (λ (z : ℕ). z * r) e)) (size-pos g s h);
       }
@@ -126,12 +128,12 @@ module _ (g : Pairs) (s xs : List ℕ) (q : ℕ) (l : is-list g ≡ true) (h : i
       at-most g s f ≡ true → Both-best g s q xs → inside g s * q ≡ greatest-load g q xs * size s
   unfolding at-most
   both-best-equal f ys hf hy e d b =
-      let c′ = simp tests at (b .group f hf) in
+      let c′ = simp tests at (b .none-denser f hf) in
       let d′ = simp tests at d in
       eq-of-mul-eq-mul-right (size f) (size-pos g f hf) _ _
       (omega (
         arith,
-        mul-le-mul-right (size s) (b .split (size f) ys hy),
+        mul-le-mul-right (size s) (b .none-lower (size f) ys hy),
         ap (λ (z : ℕ). z * q * size s) e,
         mul-le-mul-right q c′,
         mul-le-mul-right q d′,
@@ -151,8 +153,8 @@ equal-best found split g s xs q l h k = (
 
 -- ---- what check accepts
 
--- a group and shares without refusal: no load is above the inside count at share size Q
-pub accepted : (g : Pairs) (s xs : List ℕ) → check-number g s xs ≡ 0 →
+-- a group and shares without refusal
+accepted : (g : Pairs) (s xs : List ℕ) → check-number g s xs ≡ 0 →
     (is-group g s ≡ true) × (is-split g (size s) xs ≡ true) × (greatest-load g (size s) xs ≤ inside g s)
 unfolding check-number check-causes loads-good is-split
 accepted g s xs e =
@@ -165,6 +167,17 @@ accepted g s xs e =
       leb-true (greatest-load g (size s) xs) (inside g s) (not-false _ (f .0)),
     )
 
+-- and the other way
+accepting : (g : Pairs) (s xs : List ℕ) → is-group g s ≡ true → is-split g (size s) xs ≡ true → greatest-load g (size s) xs ≤ inside g s →
+    check-number g s xs ≡ 0
+unfolding check-number check-causes refusal cause loads-good is-split
+accepting g s xs h k le = rw (h, (simp tests at k) .1, le-leb (greatest-load g (size s) xs) (inside g s) le)
+
+pub accepted-exactly : Accepted-exactly
+unfolding Accepted-exactly
+accepted-exactly g s xs = (accepted g s xs, λ a. accepting g s xs (a .0) (a .1) (a .2))
+
+-- a group and a split at its size with no load above its inside count
 pub optimal : (g : Pairs) (s xs : List ℕ) → is-list g ≡ true → is-group g s ≡ true → is-split g (size s) xs ≡ true →
     greatest-load g (size s) xs ≤ inside g s → Optimal g s xs (inside g s) (size s)
 unfolding Check-best

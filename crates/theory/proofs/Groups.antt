@@ -9,6 +9,7 @@
 --   supermodular                                inside (s ∪ t) + inside (s ∩ t) ≥ inside s + inside t
 --   at-most-trans, at-most-or                   ratios are totally preordered
 --   union-dense, shared-dense                   the union and the intersection of densest groups are densest
+--   found-densest, found-largest, found-no-pairs    what the found group is
 --   found-alone                                 there is one found group at the most
 -- Assumes nothing.
 use mathlib.Core.Path.{_≡_, refl, sym, ap, _∙_}
@@ -23,7 +24,7 @@ use lib.ListN.{length, getD, set, replicate, length-replicate}
 use borrow.Author.Tests.{leb-true, leb-false, eqb-true, eq-eqb, ne-eqb}
 use Rattle.theory.specs.Lists.{Pairs, Pair, is-list}
 use Rattle.theory.specs.Groups.{is-in, size, bytes-good, is-group, everyone, holds-pair, inside-of, inside, at-most, within, union, shared, Densest, Found}
-use Rattle.theory.specs.Promise.{Found-alone, Union-densest, Shared-densest}
+use Rattle.theory.specs.Promise.{Found-alone, Found-largest, Found-no-pairs, Union-densest, Shared-densest}
 use Rattle.theory.proofs.Tests.{tests, no}
 use Rattle.theory.proofs.Sums.{byte-le}
 use Rattle.theory.proofs.Lists.{Listed, listed}
@@ -398,6 +399,37 @@ unfolding Shared-densest
 shared-densest g s t d e pos =
     as-dense g s (shared s t) d (shared-group g s t (d .group) (e .group) pos)
     (shared-dense g s t (d .group) (e .group) (d .greatest) (e .greatest s (d .group)) pos)
+
+-- a found group is densest
+pub found-densest : (g : Pairs) (s : List ℕ) → Found g s → Densest g s
+found-densest g s f = record { group = f .group; greatest = f .greatest }
+
+-- it is the densest group with the most modules: another densest group adds nothing to it
+pub found-largest : Found-largest
+unfolding Found-largest
+found-largest g s l = (
+  λ f. (found-densest g s f, λ t d. within-size t s (f .largest t (d .group) (d .greatest s (f .group)))),
+  λ h.
+      record {
+        group = h .0 .group;
+        greatest = h .0 .greatest;
+        largest = λ t i k.
+            within-union s t (group-bits g s (h .0 .group) .0 ∙ sym (group-bits g t i .0))
+            (h .1 (union s t) (unfold Union-densest in (union-densest g s t (h .0) (as-dense g s t (h .0) i k))));
+      },
+)
+
+-- without pairs every group has ratio 0
+pub found-no-pairs : Found-no-pairs
+unfolding Found-no-pairs at-most inside
+found-no-pairs g l e =
+    record {
+      group = everyone-group g l;
+      greatest = λ t i. rw e (unfold inside-of in simp tests (omega arith));
+      largest = λ t i k.
+          let b = group-bits g t i in
+          sub-within t (everyone g) (b .0 ∙ sym (length-everyone g)) (b .1) (λ m j. in-everyone g m (omega (arith, in-lt t m j, b .0)));
+    }
 
 -- two found groups hold each other
 pub found-alone : Found-alone

@@ -16,6 +16,7 @@ pub mod Surplus
 pub mod Rounding
 pub mod FloatOrder
 pub mod Floats
+pub mod Bounds
 pub mod Cases
 pub mod Promises
 pub mod Plain

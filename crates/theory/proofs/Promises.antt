@@ -1,5 +1,8 @@
 -- The statements of specs/Promise.antt and of specs/Cases.antt, each proved. Assumes nothing.
-use Rattle.theory.specs.Promise.{Equal-best, Check-best, Accepted-optimal, Found-there, Found-alone, Split-there, Found-in-core, Core-exact, Core-members, Union-densest, Shared-densest, Leaver-fewest, Leaver-lowest, Leaver-there, Leaving-steps, Leaving-everyone, Leaver-number, Numbers-rise, Outside-first, Floats-in-order, Rounded-once, Surplus-zero, Surplus-above}
+use Rattle.theory.specs.Promise.{Equal-best, Check-best, Accepted-exactly, Accepted-optimal, Found-there, Found-alone, Found-largest, Found-no-pairs}
+use Rattle.theory.specs.Promise.{Split-densest, Split-there, Found-in-core, Core-exact, Core-members, Union-densest, Shared-densest, Leaver-fewest}
+use Rattle.theory.specs.Promise.{Leaver-lowest, Leaver-there, Leaving-steps, Leaving-everyone, Leaver-core, Cores-never-fall, Outside-first, Floats-in-order}
+use Rattle.theory.specs.Promise.{Ratios-in-order, Rounded-once, Surplus-zero, Surplus-above, Surplus-below}
 use Rattle.theory.specs.Cases.{Starred-cases}
 use Rattle.theory.proofs.Groups as groups
 use Rattle.theory.proofs.Duality as duality
@@ -9,10 +12,11 @@ use Rattle.theory.proofs.Leaving as order
 use Rattle.theory.proofs.Peeling as peeling
 use Rattle.theory.proofs.Splits as splits
 use Rattle.theory.proofs.Floats as floats
+use Rattle.theory.proofs.Bounds as bounds
 use Rattle.theory.proofs.Surplus as difference
 use Rattle.theory.proofs.Cases as cases
 
--- ---- demand 3
+-- ---- ratio and greatest load over share size
 
 pub equal-best : Equal-best
 equal-best = duality.equal-best best.found-there splits.split-there
@@ -20,10 +24,13 @@ equal-best = duality.equal-best best.found-there splits.split-there
 pub check-best : Check-best
 check-best = duality.check-best
 
+pub accepted-exactly : Accepted-exactly
+accepted-exactly = duality.accepted-exactly
+
 pub accepted-optimal : Accepted-optimal
 accepted-optimal = duality.accepted-optimal
 
--- ---- demand 2
+-- ---- the found group
 
 pub found-there : Found-there
 found-there = best.found-there
@@ -31,8 +38,27 @@ found-there = best.found-there
 pub found-alone : Found-alone
 found-alone = groups.found-alone
 
+pub found-largest : Found-largest
+found-largest = groups.found-largest
+
+pub found-no-pairs : Found-no-pairs
+found-no-pairs = groups.found-no-pairs
+
+pub union-densest : Union-densest
+union-densest = groups.union-densest
+
+pub shared-densest : Shared-densest
+shared-densest = groups.shared-densest
+
+-- ---- its split
+
+pub split-densest : Split-densest
+split-densest = splits.split-densest
+
 pub split-there : Split-there
 split-there = splits.split-there
+
+-- ---- cores
 
 pub found-in-core : Found-in-core
 found-in-core = cores.found-in-core
@@ -42,14 +68,6 @@ core-exact = cores.core-exact
 
 pub core-members : Core-members
 core-members = cores.core-members
-
--- ---- groups of greatest ratio
-
-pub union-densest : Union-densest
-union-densest = groups.union-densest
-
-pub shared-densest : Shared-densest
-shared-densest = groups.shared-densest
 
 -- ---- the leaving order
 
@@ -68,11 +86,11 @@ leaving-steps = order.leaving-steps
 pub leaving-everyone : Leaving-everyone
 leaving-everyone = order.leaving-everyone
 
-pub leaver-number : Leaver-number
-leaver-number = peeling.leaver-number
+pub leaver-core : Leaver-core
+leaver-core = peeling.leaver-core
 
-pub numbers-rise : Numbers-rise
-numbers-rise = peeling.numbers-rise
+pub cores-never-fall : Cores-never-fall
+cores-never-fall = peeling.cores-never-fall
 
 pub outside-first : Outside-first
 outside-first = order.outside-first
@@ -82,6 +100,9 @@ outside-first = order.outside-first
 pub floats-in-order : Floats-in-order
 floats-in-order = floats.floats-in-order
 
+pub ratios-in-order : Ratios-in-order
+ratios-in-order = bounds.ratios-in-order
+
 pub rounded-once : Rounded-once
 rounded-once = floats.rounded-once
 
@@ -90,6 +111,9 @@ surplus-zero = difference.surplus-zero
 
 pub surplus-above : Surplus-above
 surplus-above = difference.surplus-above
+
+pub surplus-below : Surplus-below
+surplus-below = difference.surplus-below
 
 -- ---- the ten starred lists
 

@@ -1,7 +1,7 @@
 -- The split that solve hands out: pairs with an end outside the core go wholly to the end that left first, the others are split within the room.
 --   only, merge, forced    a list without the weights of some pairs, shares of those from elsewhere, and the loads they bring
---   dense-bound            a found group's bound for every set of modules
---   split-there            the split exists
+--   dense-bound            a densest group's bound for every set of modules
+--   split-densest, split-there    the split exists
 -- Assumes nothing.
 use mathlib.Core.Path.{_≡_, refl, sym, _∙_, ap}
 use mathlib.Core.Bool.{Bool, true, false, _&&_, _||_, not, cond, and-false}
@@ -13,16 +13,16 @@ use lib.Dec.{leb, eqb}
 use lib.ListN.{length}
 use borrow.Author.Tests.{leb-true, leb-false, eqb-true, eq-eqb}
 use Rattle.theory.specs.Lists.{Pair, Pairs, is-list}
-use Rattle.theory.specs.Groups.{is-in, size, is-group, everyone, holds-pair, inside-of, inside, at-most, Found}
+use Rattle.theory.specs.Groups.{is-in, size, is-group, everyone, holds-pair, inside-of, inside, at-most, Found, Densest}
 use Rattle.theory.specs.Leaving.{joins, degree-of, degree, leaving, before}
 use Rattle.theory.specs.Cores.{core, core-number}
-use Rattle.theory.specs.Splits.{units, shares-good, is-split, received, load-of, load, greatest-load, rounded-up, in-core-pair, wholly-first, outside-good}
-use Rattle.theory.specs.Promise.{Split-there, Core-members, Outside-first}
+use Rattle.theory.specs.Splits.{units, shares-good, is-split, received, load-of, load, greatest-load, rounded-up, pair-in-core, wholly-first, outside-good}
+use Rattle.theory.specs.Promise.{Split-densest, Split-there, Core-members, Outside-first}
 use Rattle.theory.proofs.Tests.{tests, no, fails, and-fails}
 use Rattle.theory.proofs.Tables.{greatest-le}
 use Rattle.theory.proofs.Sums.{over, over-const}
 use Rattle.theory.proofs.Lists.{Proper, proper}
-use Rattle.theory.proofs.Groups.{Bits, in-everyone, bits-group, size-pos, inside-none}
+use Rattle.theory.proofs.Groups.{Bits, in-everyone, bits-group, size-pos, inside-none, found-densest}
 use Rattle.theory.proofs.Duality.{weak-duality}
 use Rattle.theory.proofs.Cores.{good-in-core, number-of, core-members}
 use Rattle.theory.proofs.Leaving.{Stage, stage, before-anti, outside-first}
@@ -163,64 +163,64 @@ module _ (g : Pairs) (l : is-list g ≡ true) (k q : ℕ) where
   outer-first a b ha hb ia ob =
       outside-first g k b a l hb ha (core-members g k b l hb ∙ ob) (core-members g k a l ha ∙ ia)
 
-  inner-a : (p : Pair) (m : ℕ) → leb k (core-number g m) ≡ true → (p .a < p .b) × (p .b < g .n) → in-core-pair g k p ≡ false →
+  inner-a : (p : Pair) (m : ℕ) → leb k (core-number g m) ≡ true → (p .a < p .b) × (p .b < g .n) → pair-in-core g k p ≡ false →
       p .a ≡ m → before (leaving g) (p .a) (p .b) ≡ false
-  unfolding in-core-pair
+  unfolding pair-in-core
   inner-a p m im pr z e =
       let ia : leb k (core-number g (p .a)) ≡ true = rw e im in
-      before-anti (leaving g) (p .a) (p .b) (λ x. omega arith)
+      before-anti (leaving g) (p .a) (p .b)
       (outer-first (p .a) (p .b) (omega arith) (omega arith) ia (and-fails _ (leb k (core-number g (p .b))) z ia))
 
-  inner-b : (p : Pair) (m : ℕ) → leb k (core-number g m) ≡ true → (p .a < p .b) × (p .b < g .n) → in-core-pair g k p ≡ false →
+  inner-b : (p : Pair) (m : ℕ) → leb k (core-number g m) ≡ true → (p .a < p .b) × (p .b < g .n) → pair-in-core g k p ≡ false →
       p .b ≡ m → before (leaving g) (p .a) (p .b) ≡ true
-  unfolding in-core-pair
+  unfolding pair-in-core
   inner-b p m im pr z e =
       let ib : leb k (core-number g (p .b)) ≡ true = rw e im in
       outer-first (p .b) (p .a) (omega arith) (omega arith) ib (and-fails-right (leb k (core-number g (p .a))) _ z ib)
 
   -- a module inside the core receives nothing of the pairs that reach outside
   forced-inner : (m : ℕ) → leb k (core-number g m) ≡ true → (ps : List Pair) → Proper (g .n) ps →
-      forced (in-core-pair g k) (wholly-first g q) q m ps ≡ 0
+      forced (pair-in-core g k) (wholly-first g q) q m ps ≡ 0
   unfolding forced received wholly-first units
   forced-inner m im [] pr = refl
   forced-inner m im (p ∷ ps) pr =
       omega (
         arith,
-        in-pair (in-core-pair g k p) (eqb (p .a) m) (eqb (p .b) m) (before (leaving g) (p .a) (p .b)) (p .w) q
+        in-pair (pair-in-core g k p) (eqb (p .a) m) (eqb (p .b) m) (before (leaving g) (p .a) (p .b)) (p .w) q
             (λ z x. inner-a p m im (pr .0) z (eqb-true (p .a) m x)) (λ z y. inner-b p m im (pr .0) z (eqb-true (p .b) m y)),
         forced-inner m im ps (pr .1),
       )
 
   -- a module outside receives at most q times its degree at leaving
   forced-outer : (m : ℕ) (r : List ℕ) → Stage g (everyone g) (leaving g) m r → (ps : List Pair) → Proper (g .n) ps →
-      forced (in-core-pair g k) (wholly-first g q) q m ps ≤ q * degree-of ps r m
+      forced (pair-in-core g k) (wholly-first g q) q m ps ≤ q * degree-of ps r m
   unfolding forced received wholly-first units degree-of joins
   forced-outer m r st [] pr = omega arith
   forced-outer m r st (p ∷ ps) pr =
       omega (
         arith,
-        out-pair (in-core-pair g k p) (eqb (p .a) m) (eqb (p .b) m) (before (leaving g) (p .a) (p .b)) (is-in r (p .a)) (is-in r (p .b)) (p .w) q
+        out-pair (pair-in-core g k p) (eqb (p .a) m) (eqb (p .b) m) (before (leaving g) (p .a) (p .b)) (is-in r (p .a)) (is-in r (p .b)) (p .w) q
             (λ x. let e : p .a ≡ m = eqb-true (p .a) m x in rw e (st .later (p .b) (λ z. omega arith) (in-everyone g (p .b) (omega arith))))
             (λ y. let e : p .b ≡ m = eqb-true (p .b) m y in rw e (st .sooner (p .a) (λ z. omega arith) (in-everyone g (p .a) (omega arith)))),
         forced-outer m r st ps (pr .1),
       )
 
-  outside-merge : (ps : List Pair) (xs : List ℕ) → shares-good q (only (in-core-pair g k) (wholly-first g q) ps) xs ≡ true →
-      outside-good g k q ps (merge (in-core-pair g k) (wholly-first g q) ps xs) ≡ true
+  outside-merge : (ps : List Pair) (xs : List ℕ) → shares-good q (only (pair-in-core g k) (wholly-first g q) ps) xs ≡ true →
+      outside-good g k q ps (merge (pair-in-core g k) (wholly-first g q) ps xs) ≡ true
   unfolding outside-good merge only shares-good
   outside-merge [] xs h = refl
   outside-merge (p ∷ ps) [] h = no h
   outside-merge (p ∷ ps) (x ∷ xs) h =
-      simp tests (one (in-core-pair g k p) x (wholly-first g q p), outside-merge ps xs ((simp tests at h) .1))
+      simp tests (one (pair-in-core g k p) x (wholly-first g q p), outside-merge ps xs ((simp tests at h) .1))
     where
       one : (b : Bool) (x y : ℕ) → (b || eqb (cond b x y) y) ≡ true
       one true x y = refl
       one false x y = eq-eqb y y refl
 
--- ---- the found group's split
+-- ---- a densest group's split
 
--- a found group's bound for every set of modules, the empty one too
-pub dense-bound : (g : Pairs) (s t : List ℕ) → Found g s → Bits (g .n) t → size s * inside-of (g .pairs) t ≤ inside g s * size t
+-- a densest group's bound for every set of modules, the empty one too
+pub dense-bound : (g : Pairs) (s t : List ℕ) → Densest g s → Bits (g .n) t → size s * inside-of (g .pairs) t ≤ inside g s * size t
 unfolding at-most inside
 dense-bound g s t f b = go (size t) refl
   where
@@ -233,13 +233,13 @@ pub round-lt : (p q c : ℕ) → 0 < q → c < rounded-up p q → q * c ≤ p
 unfolding rounded-up
 round-lt p q c h k = omega (arith, (le-div-iff-mul-le {x = suc c} {y = p + q - 1} h) .0 k)
 
-module _ (g : Pairs) (s : List ℕ) (l : is-list g ≡ true) (f : Found g s) where
+module _ (g : Pairs) (s : List ℕ) (l : is-list g ≡ true) (f : Densest g s) where
   -- the order of the core, and which pairs lie in it
   order : ℕ
   order = rounded-up (inside g s) (size s)
 
   inner : Pair → Bool
-  inner = in-core-pair g order
+  inner = pair-in-core g order
 
   outer : Pair → ℕ
   outer = wholly-first g (size s)
@@ -263,7 +263,7 @@ module _ (g : Pairs) (s : List ℕ) (l : is-list g ≡ true) (f : Found g s) whe
   load-le : (xs : List ℕ) → shares-good (size s) (only inner outer (g .pairs)) xs ≡ true →
       ((m : ℕ) → m < g .n → load-of (size s) m (only inner outer (g .pairs)) xs ≤ inside g s) →
       (m : ℕ) → m < g .n → load-of (size s) m (g .pairs) (merge inner outer (g .pairs) xs) ≤ inside g s
-  unfolding inner outer in-core-pair
+  unfolding inner outer pair-in-core
   load-le xs ok le m h = go (leb order (core-number g m)) refl
     where
       sum : load-of (size s) m (g .pairs) (merge inner outer (g .pairs) xs)
@@ -283,9 +283,9 @@ module _ (g : Pairs) (s : List ℕ) (l : is-list g ≡ true) (f : Found g s) whe
                 (g .pairs) xs ok,
           )
 
-pub split-there : Split-there
-unfolding Split-there is-split greatest-load load order inner outer
-split-there g s l f =
+pub split-densest : Split-densest
+unfolding Split-densest is-split greatest-load load order inner outer
+split-densest g s l f =
     let q : ℕ = size s in
     let kp : Pair → Bool = inner g s l f in
     let gv : Pair → ℕ = outer g s l f in
@@ -304,3 +304,7 @@ split-there g s l f =
       ),
       outside-merge g l (order g s l f) q (g .pairs) (r .0) (r .1),
     )
+
+pub split-there : Split-there
+unfolding Split-there Split-densest
+split-there g s l f = split-densest g s l (found-densest g s f)

@@ -19,7 +19,7 @@ use Rattle.theory.specs.Leaving.{degree}
 unfoldable pub stays : Pairs → (k : ℕ) → List ℕ → (m : ℕ) → Bool
 stays g k s m = is-in s m && leb k (degree g s m)
 
--- each member of s has at least k inside s
+-- each member of s has at least k inside s (the least degree of the induced subgraph is k or more)
 unfoldable pub each-has : Pairs → (k : ℕ) → List ℕ → Bool
 each-has g k s = every (g .n) (λ m. not (is-in s m) || leb k (degree g s m))
 
@@ -27,11 +27,12 @@ each-has g k s = every (g .n) (λ m. not (is-in s m) || leb k (degree g s m))
 unfoldable pub kept : Pairs → (k : ℕ) → List ℕ → List ℕ
 kept g k s = table (g .n) (λ m. mark (stays g k s m))
 
+-- so many rounds
 unfoldable pub rounds : (left : ℕ) → Pairs → (k : ℕ) → List ℕ → List ℕ
 rounds zero g k s = s
 rounds (suc l) g k s = rounds l g k (kept g k s)
 
--- THE CORE of order k: N rounds, of which the last changes nothing (the k-core)
+-- THE CORE of order k: what N rounds leave; a further one would change nothing (the k-core)
 unfoldable pub core : Pairs → (k : ℕ) → List ℕ
 core g k = rounds (g .n) g k (everyone g)
 
@@ -44,5 +45,6 @@ highest (suc k) g m = cond (is-in (core g (suc k)) m) (suc k) (highest k g m)
 unfoldable pub core-number : Pairs → (m : ℕ) → ℕ
 core-number g m = highest (degree g (everyone g) m) g m
 
+-- the core numbers of all modules
 unfoldable pub core-numbers : Pairs → List ℕ
 core-numbers g = table (g .n) (core-number g)

@@ -3,6 +3,7 @@
 --   inside                   the inside count (the weight of the induced subgraph's edges)
 --   at-most                  ratios compared by cross products (densities)
 --   within, union, shared    one group in another, and what two have together and in common
+--   None-denser              no group has a higher ratio
 --   Densest, Found           a group of greatest ratio, and the largest of them (the maximal densest subgraph)
 -- Assumes nothing: these are definitions.
 use mathlib.Core.Path.{_≡_}
@@ -17,7 +18,7 @@ use Rattle.theory.specs.Lists.{Pair, Pairs}
 unfoldable pub is-in : List ℕ → (m : ℕ) → Bool
 is-in s m = eqb (getD s m 0) 1
 
--- the number of modules in a group
+-- the number of modules in a group: its member bytes added up
 unfoldable pub size : List ℕ → ℕ
 size [] = 0
 size (x ∷ xs) = x + size xs
@@ -39,11 +40,12 @@ everyone g = replicate (g .n) 1
 unfoldable pub holds-pair : List ℕ → Pair → Bool
 holds-pair s p = is-in s (p .a) && is-in s (p .b)
 
--- the inside count: the pairs with both ends in the group, each as often as it counts
+-- the pairs of a list of pairs with both ends in the group, each as often as it counts
 unfoldable pub inside-of : List Pair → List ℕ → ℕ
 inside-of [] s = 0
 inside-of (p ∷ ps) s = cond (holds-pair s p) (p .w) 0 + inside-of ps s
 
+-- the inside count
 unfoldable pub inside : Pairs → List ℕ → ℕ
 inside g s = inside-of (g .pairs) s
 
@@ -69,16 +71,18 @@ shared [] ts = []
 shared (x ∷ xs) [] = []
 shared (x ∷ xs) (y ∷ ys) = min x y ∷ shared xs ys
 
+-- no group has a higher ratio than s
+abbrev pub None-denser : Pairs → List ℕ → Type 0
+None-denser g s = (t : List ℕ) → is-group g t ≡ true → at-most g t s ≡ true
+
 -- a group of greatest ratio (a densest subgraph)
 pub record Densest (g : Pairs) (s : List ℕ) : Type 0 where
   pub group : is-group g s ≡ true
-  -- no group has a higher ratio
-  pub greatest : (t : List ℕ) → is-group g t ≡ true → at-most g t s ≡ true
+  pub greatest : None-denser g s
 
 -- THE FOUND GROUP: the largest group of greatest ratio (the maximal densest subgraph)
 pub record Found (g : Pairs) (s : List ℕ) : Type 0 where
   pub group : is-group g s ≡ true
-  -- no group has a higher ratio
-  pub greatest : (t : List ℕ) → is-group g t ≡ true → at-most g t s ≡ true
+  pub greatest : None-denser g s
   -- it holds every group whose ratio is as high
   pub largest : (t : List ℕ) → is-group g t ≡ true → at-most g s t ≡ true → within t s ≡ true

@@ -1,4 +1,5 @@
--- The definitions, in document 01's order; each file opens with what it gives.
+-- The definitions; each file opens with what it gives. Lists to Check are in document 01's order. Basics serves them, Words is how a list lies in
+-- memory, Promise and Cases are the statements, Plain has document 03's own definitions.
 pub mod Basics
 pub mod Lists
 pub mod Groups

@@ -1,20 +1,22 @@
--- Document 01, "Words used": a list has N modules, numbered 0 to N − 1, and M pairs of two different modules. (A simple graph.)
+-- Document 01, "Words used": a list has N modules, numbered 0 to N − 1, and M pairs of two different modules. (A weighted simple graph.)
 --   Pair, Pairs        a pair with its weight; a list
 --   pair               a pair of weight 1, as every pair of the base is
 --   ends-in-range, smaller-first, weight-in-range, rising    what a held list is, each rule by itself
 --   is-list            all of them
 -- Assumes nothing: these are definitions.
-use mathlib.Core.Bool.{Bool, true, false, _&&_, _||_}
+use mathlib.Core.Bool.{Bool, true, _&&_, _||_}
 use mathlib.Core.List.{List, [], _∷_}
 use Prim.Native.Nat.{ℕ}
 use lib.Dec.{ltb, leb, eqb}
 use lib.ListN.{length}
 use Rattle.theory.specs.Basics.{all}
 
--- two modules, and how often the pair counts (an edge and its weight)
+-- a pair (a weighted edge)
 pub record Pair : Type 0 where
+  -- its two modules
   pub a : ℕ
   pub b : ℕ
+  -- its weight: how often it counts
   pub w : ℕ
 
 -- a list: the number of modules, and the pairs (a graph)
@@ -34,7 +36,7 @@ ends-in-range n p = ltb (p .a) n && ltb (p .b) n
 unfoldable pub smaller-first : Pair → Bool
 smaller-first p = ltb (p .a) (p .b)
 
--- a pair counts 1 to 1,000 times
+-- a pair counts once in document 01, and 1 to 1,000 times with document 02, item 4
 unfoldable pub weight-in-range : Pair → Bool
 weight-in-range p = leb 1 (p .w) && leb (p .w) 1000
 

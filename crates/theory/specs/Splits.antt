@@ -1,9 +1,9 @@
--- Document 01, "Split": each pair has q units for its ends; loads, the greatest load, and where solve puts the units of pairs outside a core.
+-- Document 01, "Split": each pair has q units for its ends, each time it counts; loads, the greatest load, and where solve puts the units of pairs outside a core.
 -- (Fractional orientations, the dual of the densest-subgraph linear programme; a load is a weighted in-degree.)
 --   is-split        shares that make a split at share size q
 --   load            the units that a module receives
 --   greatest-load   the highest of all N modules
---   rounded-up      K = P/Q rounded up
+--   rounded-up, core-order    K = P/Q rounded up, of two numbers and of a group
 --   outside-good    a pair with an end outside the core of order k goes wholly to the end that left first
 -- Assumes nothing: these are definitions.
 use mathlib.Core.Bool.{Bool, true, false, _&&_, _||_, cond}
@@ -12,6 +12,7 @@ use Prim.Native.Nat.{ℕ, _+_, _*_, _-_, _/_}
 use lib.Dec.{leb, eqb}
 use Rattle.theory.specs.Basics.{greatest}
 use Rattle.theory.specs.Lists.{Pair, Pairs}
+use Rattle.theory.specs.Groups.{size, inside}
 use Rattle.theory.specs.Leaving.{leaving, before}
 use Rattle.theory.specs.Cores.{core-number}
 
@@ -34,12 +35,13 @@ is-split g q xs = leb 1 q && shares-good q (g .pairs) xs
 unfoldable pub received : (q m : ℕ) → Pair → (x : ℕ) → ℕ
 received q m p x = cond (eqb (p .a) m) x (cond (eqb (p .b) m) (units q p - x) 0)
 
--- the load of m: the sum it receives from all pairs
+-- the sum that m receives from the pairs of a list of pairs
 unfoldable pub load-of : (q m : ℕ) → List Pair → (shares : List ℕ) → ℕ
 load-of q m [] xs = 0
 load-of q m (p ∷ ps) [] = 0
 load-of q m (p ∷ ps) (x ∷ xs) = received q m p x + load-of q m ps xs
 
+-- the load of m: the sum it receives from all pairs of the list
 unfoldable pub load : Pairs → (q : ℕ) → (shares : List ℕ) → (m : ℕ) → ℕ
 load g q xs m = load-of q m (g .pairs) xs
 
@@ -51,9 +53,13 @@ greatest-load g q xs = greatest (g .n) (load g q xs)
 unfoldable pub rounded-up : (p q : ℕ) → ℕ
 rounded-up p q = (p + q - 1) / q
 
+-- K of a group: its ratio rounded up
+abbrev pub core-order : Pairs → List ℕ → ℕ
+core-order g s = rounded-up (inside g s) (size s)
+
 -- both ends of a pair are in the core of order k
-unfoldable pub in-core-pair : Pairs → (k : ℕ) → Pair → Bool
-in-core-pair g k p = leb k (core-number g (p .a)) && leb k (core-number g (p .b))
+unfoldable pub pair-in-core : Pairs → (k : ℕ) → Pair → Bool
+pair-in-core g k p = leb k (core-number g (p .a)) && leb k (core-number g (p .b))
 
 -- the share that puts a pair wholly on the end that left first
 unfoldable pub wholly-first : Pairs → (q : ℕ) → Pair → ℕ
@@ -63,4 +69,4 @@ wholly-first g q p = cond (before (leaving g) (p .a) (p .b)) (units q p) 0
 unfoldable pub outside-good : Pairs → (k q : ℕ) → List Pair → (shares : List ℕ) → Bool
 outside-good g k q [] xs = true
 outside-good g k q (p ∷ ps) [] = false
-outside-good g k q (p ∷ ps) (x ∷ xs) = (in-core-pair g k p || eqb x (wholly-first g q p)) && outside-good g k q ps xs
+outside-good g k q (p ∷ ps) (x ∷ xs) = (pair-in-core g k p || eqb x (wholly-first g q p)) && outside-good g k q ps xs
