@@ -1,0 +1,12 @@
+-- Laws of the pair list; each file opens with what it gives.
+pub mod General
+pub mod Order
+pub mod Rising
+pub mod Changes
+pub mod Keeps
+pub mod Causes
+pub mod Shifts
+pub mod Moves
+pub mod Weights
+pub mod Words
+pub mod Search

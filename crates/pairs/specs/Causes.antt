@@ -1,0 +1,34 @@
+-- Document 01, "Numbers from the input" and "from the state": when add and remove refuse, in their orders.
+--   pair-causes     what add, remove and the reader refuse of two module numbers: 4, 5
+--   add-causes      13, 4, 5, 10, 11
+--   remove-causes   13, 4, 5, 14
+-- Assumes nothing: these are definitions.
+use mathlib.Core.Bool.{Bool, _||_, not}
+use mathlib.Core.List.{List, [], _∷_, _++_}
+use Prim.Native.Nat.{ℕ}
+use lib.Dec.{leb, eqb}
+use Rattle.theory.specs.Lists.{Pairs}
+use Rattle.theory.specs.Refusals.{Cause, cause}
+use Rattle.pairs.specs.Held.{is-held, smaller-first-pair}
+
+-- 4: a module number is N or more
+unfoldable pub module-unknown : (n a b : ℕ) → Bool
+module-unknown n a b = leb n a || leb n b
+
+-- 5: a module is paired with itself
+unfoldable pub self-paired : (a b : ℕ) → Bool
+self-paired a b = eqb a b
+
+-- of two module numbers, in the order that add, remove and the reader share
+unfoldable pub pair-causes : (n a b : ℕ) → List Cause
+pair-causes n a b = cause 4 (module-unknown n a b) ∷ cause 5 (self-paired a b) ∷ []
+
+-- ADD of modules a and b to a list; 13 where head and list disagree, 11 where no record is free
+unfoldable pub add-causes : (disagree : Bool) → Pairs → (full : Bool) → (a b : ℕ) → List Cause
+add-causes disagree g full a b =
+    cause 13 disagree ∷ (pair-causes (g .n) a b ++ (cause 10 (is-held (smaller-first-pair a b) (g .pairs)) ∷ cause 11 full ∷ []))
+
+-- REMOVE of modules a and b from a list
+unfoldable pub remove-causes : (disagree : Bool) → Pairs → (a b : ℕ) → List Cause
+remove-causes disagree g a b =
+    cause 13 disagree ∷ (pair-causes (g .n) a b ++ (cause 14 (not (is-held (smaller-first-pair a b) (g .pairs))) ∷ []))
