@@ -1,0 +1,10 @@
+pub mod Plain
+pub mod Rows
+pub mod Calls
+pub mod Frame
+pub mod Elements
+pub mod Entry
+pub mod Loop
+pub mod Records
+pub mod Copies
+pub mod Scans

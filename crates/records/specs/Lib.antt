@@ -1,0 +1,3 @@
+-- What the records stand for, and the tests that the functions share.
+pub mod Records
+pub mod Scan
