@@ -1,6 +1,7 @@
 -- Records and words: laws of `laid-out` and `put-back`.
 --   none                             a record for places past a list's end
 --   length-laid-out, laid-out-none, laid-out-more    a buffer's length stays; no record, and one record more
+--   length-ends-of                   two words a record
 --   laid-out-first, laid-out-second  the words of record j
 --   laid-out-narrow                  words of records fit records
 --   length-put-back, put-back-none, put-back-more    a list's length stays; no record, and one record more
@@ -29,7 +30,7 @@ double-suc : (i : ℕ) → 2 * suc i ≡ suc (suc (2 * i))
 double-suc i = omega arith
 
 -- ---- records to words
-length-ends-of : (ps : List Pair) → length (ends-of ps) ≡ 2 * length ps
+pub length-ends-of : (ps : List Pair) → length (ends-of ps) ≡ 2 * length ps
 unfolding ends-of
 length-ends-of [] = refl
 length-ends-of (p ∷ ps) = omega (arith, length-ends-of ps)

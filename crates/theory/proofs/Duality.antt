@@ -33,7 +33,7 @@ use Rattle.theory.proofs.Groups.{group-bits, size-pos}
 -- ---- the loads of a group
 
 -- what m receives of a pair is what its first end gets, where m is that, and what its second end gets, where m is that
-received-ends : (a b m x y : ℕ) → a < b → cond (eqb a m) x (cond (eqb b m) y 0) ≡ cond (eqb a m) x 0 + cond (eqb b m) y 0
+pub received-ends : (a b m x y : ℕ) → a < b → cond (eqb a m) x (cond (eqb b m) y 0) ≡ cond (eqb a m) x 0 + cond (eqb b m) y 0
 received-ends a b m x y h = go (eqb a m) (eqb b m) refl refl
   where
     go : (u v : Bool) → eqb a m ≡ u → eqb b m ≡ v → cond u x (cond v y 0) ≡ cond u x 0 + cond v y 0

@@ -1,0 +1,128 @@
+-- `verify::loads_of` meets its contract. The loop keeps `Loading`. Assumes nothing.
+use Prim.Native.Nat.{_-_}
+use native.Mathlib.Omega.{arith}
+use Rattle.verify.proofs.Loading.{Loading, Turn, both-more, loading-starts, turn, loading-ends}
+use Rattle.verify.proofs.loads_of.Statement.{statement}
+use Rattle.verify.proofs.loads_of.Tie as tie
+
+abbrev Inv-loop : tie.InvT-loop
+Inv-loop n m ends weights shares q loads₀ j₀ loads j = Loading m q ends weights shares loads j
+
+abbrev μ-loop : tie.MeasureT-loop
+μ-loop n m ends weights shares q loads₀ j₀ loads j = m - j
+
+loop-holds : tie.Need-loop-holds Inv-loop μ-loop
+loop-holds c =
+    let s = c .before .before .before in
+    loading-starts _ _ _ _ _ _ (s .pre .0) (s .pre .1 .0) (s .pre .1 .1 .0) (s .pre .1 .1 .1)
+
+mul-end-at : tie.Need-mul-end-at Inv-loop μ-loop
+mul-end-at c = omega arith
+
+end-at-requires : tie.Need-end-at-requires Inv-loop μ-loop
+end-at-requires c κs = omega arith
+
+mul-end-at-2 : tie.Need-mul-end-at-2 Inv-loop μ-loop
+mul-end-at-2 c = omega arith
+
+add-end-at : tie.Need-add-end-at Inv-loop μ-loop
+add-end-at c = omega arith
+
+end-at-requires-2 : tie.Need-end-at-requires-2 Inv-loop μ-loop
+end-at-requires-2 c κs = omega arith
+
+share-at-requires : tie.Need-share-at-requires Inv-loop μ-loop
+share-at-requires c κs = omega arith
+
+mul-rest : tie.Need-mul-rest Inv-loop μ-loop
+mul-rest c = omega arith
+
+shared-slice-read-rest : tie.Need-shared-slice-read-rest Inv-loop μ-loop
+shared-slice-read-rest c = omega arith
+
+-- what holds in the turn
+at-turn : (c : tie.After-shared-slice-known4 Inv-loop μ-loop) →
+    let at = c .before .before .before .before .before in
+    let s = at .before .before .before .before .args in
+    Turn (s .m) (s .q) (s .ends .now) (s .weights .now) (s .shares .now) (at .loop .loads) (at .loop .j)
+    (c .before .before .before .end-at .result) (c .before .before .end-at2 .result) (c .before .share-at .result)
+at-turn c =
+    let at = c .before .before .before .before .before in
+    let h = at .before .before .before .before .pre in
+    turn _ _ _ _ _ _ (h .0) (h .1 .0) (h .1 .1 .0) (h .1 .1 .1) (at .loop .loads) (at .loop .j) _ _ _ (at .loop .inv) (omega arith)
+    (c .before .before .before .end-at .ensures) (c .before .before .end-at2 .ensures) (c .before .share-at .ensures)
+
+mul-rest-2 : tie.Need-mul-rest-2 Inv-loop μ-loop
+mul-rest-2 c = omega (arith, at-turn c .units)
+
+sub-rest : tie.Need-sub-rest Inv-loop μ-loop
+sub-rest c = omega (arith, at-turn c .within)
+
+mul-loads : tie.Need-mul-loads Inv-loop μ-loop
+mul-loads c = omega (arith, at-turn c)
+
+array-read-loads : tie.Need-array-read-loads Inv-loop μ-loop
+array-read-loads c = omega (arith, at-turn c)
+
+add-loads : tie.Need-add-loads Inv-loop μ-loop
+add-loads c = omega (arith, at-turn c .first)
+
+array-write-loads : tie.Need-array-write-loads Inv-loop μ-loop
+array-write-loads c = omega (arith, at-turn c)
+
+mul-loads-2 : tie.Need-mul-loads-2 Inv-loop μ-loop
+mul-loads-2 c = omega (arith, at-turn c)
+
+array-read-loads-2 : tie.Need-array-read-loads-2 Inv-loop μ-loop
+array-read-loads-2 c = omega (arith, at-turn c)
+
+add-loads-2 : tie.Need-add-loads-2 Inv-loop μ-loop
+add-loads-2 c = omega (arith, at-turn c .second)
+
+array-write-loads-2 : tie.Need-array-write-loads-2 Inv-loop μ-loop
+array-write-loads-2 c = omega (arith, at-turn c)
+
+add-j : tie.Need-add-j Inv-loop μ-loop
+add-j c = omega arith
+
+loop-less : tie.Need-loop-less Inv-loop μ-loop
+loop-less c = omega arith
+
+loop-again : tie.Need-loop-again Inv-loop μ-loop
+unfolding both-more
+loop-again c = at-turn c .next
+
+returns : tie.Need-returns Inv-loop μ-loop
+returns c =
+    let s = c .before .before .before .before .before in
+    loading-ends _ _ _ _ _ _ (s .pre .0) (s .pre .1 .0) (s .pre .1 .1 .0) (s .pre .1 .1 .1) _ (c .before .loop .j) (c .before .loop .inv) (omega arith)
+
+pub loads-of-spec : {M : Type 1} → statement M
+loads-of-spec =
+    tie.close
+    (tie.spec
+    Inv-loop
+    μ-loop
+    loop-holds
+    mul-end-at
+    end-at-requires
+    mul-end-at-2
+    add-end-at
+    end-at-requires-2
+    share-at-requires
+    mul-rest
+    shared-slice-read-rest
+    mul-rest-2
+    sub-rest
+    mul-loads
+    array-read-loads
+    add-loads
+    array-write-loads
+    mul-loads-2
+    array-read-loads-2
+    add-loads-2
+    array-write-loads-2
+    add-j
+    loop-less
+    loop-again
+    returns)

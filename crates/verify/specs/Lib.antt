@@ -1,0 +1,3 @@
+-- What the contracts of check and surplus cite; each file opens with what it gives.
+pub mod Lent
+pub mod Answers
