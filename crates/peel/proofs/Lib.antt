@@ -1,0 +1,13 @@
+-- The theorems about what `peel` leaves, and what its own proofs use; each file opens with what it gives.
+pub mod Sums
+pub mod Words
+pub mod Slots
+pub mod Leavers
+pub mod Ranks
+pub mod Updates
+pub mod Links
+pub mod Orders
+pub mod Numbers
+pub mod Remainders
+pub mod Answers
+pub mod Promises

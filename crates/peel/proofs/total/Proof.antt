@@ -1,0 +1,65 @@
+-- `peel::total` meets its contract. The loop's invariant: the sum of the first i. Assumes nothing.
+use mathlib.Core.Path.{_≡_, refl}
+use Prim.Native.Nat.{_-_, _≤_}
+use native.Mathlib.Omega.{arith}
+use Rattle.peel.specs.Slots.{upto}
+use Rattle.peel.specs.Steps.{entry}
+use Rattle.peel.proofs.Sums.{upto-part, upto-next}
+use Rattle.peel.proofs.total.Statement.{statement}
+use Rattle.peel.proofs.total.Tie as tie
+
+abbrev Inv-loop : tie.InvT-loop
+Inv-loop n falls sum₀ i₀ sum i = (sum ≡ upto i (entry falls)) × (i ≤ n)
+
+abbrev μ-loop : tie.MeasureT-loop
+μ-loop n falls sum₀ i₀ sum i = n - i
+
+loop-holds : tie.Need-loop-holds Inv-loop μ-loop
+unfolding upto
+loop-holds c = (refl, omega arith)
+
+mul-sum : tie.Need-mul-sum Inv-loop μ-loop
+mul-sum c = omega arith
+
+shared-slice-read-sum : tie.Need-shared-slice-read-sum Inv-loop μ-loop
+shared-slice-read-sum c = omega arith
+
+add-sum : tie.Need-add-sum Inv-loop μ-loop
+unfolding entry
+add-sum c =
+    let a = c .before .before .before .args in
+    let l = c .before .before .loop in
+    omega (arith, l .inv .0, upto-part (l .i) (a .n) (entry (a .falls .now)) (omega arith))
+
+add-i : tie.Need-add-i Inv-loop μ-loop
+add-i c = omega arith
+
+loop-less : tie.Need-loop-less Inv-loop μ-loop
+loop-less c = omega arith
+
+loop-again : tie.Need-loop-again Inv-loop μ-loop
+unfolding entry
+loop-again c =
+    let a = c .before .before .before .args in
+    let l = c .before .before .loop in
+    (omega (arith, l .inv .0, upto-next (l .i) (entry (a .falls .now))), omega arith)
+
+returns : tie.Need-returns Inv-loop μ-loop
+returns c =
+    let same : c .before .loop .i ≡ c .before .before .args .n = omega arith in
+    rw same at (c .before .loop .inv .0)
+
+pub total-spec : {M : Type 1} → statement M
+total-spec =
+    tie.close
+    (tie.spec
+    Inv-loop
+    μ-loop
+    loop-holds
+    mul-sum
+    shared-slice-read-sum
+    add-sum
+    add-i
+    loop-less
+    loop-again
+    returns)

@@ -1,0 +1,110 @@
+-- `peel::turns` meets its contract. The loop's invariant: i modules have left. Assumes nothing.
+use mathlib.Core.Path.{_≡_, refl, _∙_}
+use Prim.Native.Nat.{_-_, _≤_}
+use native.Mathlib.Omega.{arith}
+use lib.ListN.{length}
+use Rattle.theory.specs.Words.{list-in}
+use Rattle.ranking.proofs.Order.{has-below}
+use Rattle.peel.proofs.Orders.{Turning, turning-start, turn-someone, turn-loosable, turn-next}
+use Rattle.peel.proofs.turns.Statement.{statement}
+use Rattle.peel.proofs.turns.Tie as tie
+
+abbrev Inv-loop : tie.InvT-loop
+Inv-loop n m ends weights first next work₀ order₀ falls₀ i₀ work order falls i =
+    Turning (list-in n m ends weights) i order₀ falls₀ work order falls × (i ≤ n) × (length work ≡ length work₀)
+
+abbrev μ-loop : tie.MeasureT-loop
+μ-loop n m ends weights first next work₀ order₀ falls₀ i₀ work order falls i = n - i
+
+loop-holds : tie.Need-loop-holds Inv-loop μ-loop
+loop-holds c = (turning-start _ _ _ _ (c .before .before .before .before .before .before .before .pre .1 .1 .0), omega arith, refl)
+
+take-requires : tie.Need-take-requires Inv-loop μ-loop
+take-requires c κs =
+    let l = c .before .before in
+    let s = l .before .before .before .before .before .before .before .before in
+    let a = s .args in (
+      l .loop .inv .0 .ranked .ranking,
+      turn-someone (a .n) (a .m) (a .ends .now) (a .weights .now) (s .pre .0) (l .loop .i) (omega arith) (a .order .now) (a .falls .now)
+          (l .loop .work) (l .loop .order) (l .loop .falls) (l .loop .inv .0),
+    )
+
+cast-order : tie.Need-cast-order Inv-loop μ-loop
+cast-order c = omega (arith, has-below _ _ (c .before .before .take .ensures .there))
+
+mul-order : tie.Need-mul-order Inv-loop μ-loop
+mul-order c = omega arith
+
+slice-write-order : tie.Need-slice-write-order Inv-loop μ-loop
+slice-write-order c = omega (arith, c .before .before .before .before .before .loop .inv .0 .turned .order-is .long)
+
+mul-falls : tie.Need-mul-falls Inv-loop μ-loop
+mul-falls c = omega arith
+
+slice-write-falls : tie.Need-slice-write-falls Inv-loop μ-loop
+slice-write-falls c = omega (arith, c .before .before .before .before .before .loop .inv .0 .turned .falls-are .long)
+
+loosen-requires : tie.Need-loosen-requires Inv-loop μ-loop
+loosen-requires c κs =
+    let l = c .before .before .before .before .before .before in
+    let s = l .before .before .before .before .before .before .before .before in
+    let a = s .args in
+    turn-loosable (a .n) (a .m) (a .ends .now) (a .weights .now) (s .pre .0) (l .loop .i) (omega arith) (a .order .now) (a .falls .now)
+    (l .loop .work) (l .loop .order) (l .loop .falls) (l .loop .inv .0) _ _ (c .before .before .before .take .ensures) _ _ (s .pre .1 .0)
+
+add-i : tie.Need-add-i Inv-loop μ-loop
+add-i c = omega arith
+
+loop-less : tie.Need-loop-less Inv-loop μ-loop
+loop-less c = omega arith
+
+loop-again : tie.Need-loop-again Inv-loop μ-loop
+loop-again c =
+    let k = c .before .before .before .before .before .before in
+    let l = k .before .before .before in
+    let s = l .before .before .before .before .before .before .before .before in
+    let a = s .args in
+    let o = c .before .before in (
+      turn-next (a .n) (a .m) (a .ends .now) (a .weights .now) (s .pre .0) (l .loop .i) (omega arith) (a .order .now) (a .falls .now)
+          (l .loop .work) (l .loop .order) (l .loop .falls) (l .loop .inv .0)
+          _ _ (k .take .ensures) _ (o .loosen .ensures) (omega arith) (omega arith),
+      omega arith,
+      o .loosen .kept .1 .1 .1 .1 .1 .1 .0 ∙ k .take .kept .0 ∙ l .loop .inv .2,
+    )
+
+same-length : tie.Need-same-length Inv-loop μ-loop
+same-length c = c .before .loop .inv .2
+
+same-length-2 : tie.Need-same-length-2 Inv-loop μ-loop
+same-length-2 c = c .before .loop .inv .0 .turned .order-is .long
+
+same-length-3 : tie.Need-same-length-3 Inv-loop μ-loop
+same-length-3 c = c .before .loop .inv .0 .turned .falls-are .long
+
+returns : tie.Need-returns Inv-loop μ-loop
+returns c =
+    let l = c .before in
+    let all : l .loop .i ≡ l .before .before .before .before .before .before .before .before .args .n = omega arith in
+    rw all at (l .loop .inv .0 .turned)
+
+pub turns-spec : {M : Type 1} → statement M
+turns-spec =
+    tie.close
+    (tie.spec
+    Inv-loop
+    μ-loop
+    loop-holds
+    take-requires
+    cast-order
+    mul-order
+    slice-write-order
+    mul-falls
+    slice-write-falls
+    loosen-requires
+    add-i
+    loop-less
+    loop-again
+    same-length
+    same-length-2
+    same-length-3
+    returns)

@@ -1,0 +1,216 @@
+// Peeling: leaving order, core numbers, and the densest remainder. Document 01, "Leaving order" and "Core number"; source document 001, figure 1.
+//
+// Works on a held list in words (theory's specs/Words.antt). Module by module the first of the ranking leaves, and the modules that its pairs
+// join it to fall in the ranking: for N modules and M pairs about N + M steps of the ranking. The core number of a leaver is the greatest
+// degree at leaving so far. Refuses nothing: its callers have tested the list and the buffers.
+ghost use mathlib.Core.Path.{_≡_};
+ghost use Prim.Native.Nat.{_+_, _*_, _-_, _≤_, _<_, max};
+ghost use lib.ListN.{length};
+ghost use Rattle.theory.specs.Groups.{everyone};
+ghost use Rattle.theory.specs.Words.{list-in};
+ghost use Rattle.peel.specs.Peel.{Held, Peelable, Peels};
+ghost use Rattle.peel.specs.Slots.{mate, upto, Ends, Linked, Indexed};
+ghost use Rattle.peel.specs.Steps.{Ranked, Loosable, Loosened, Turned, Numberable, Numbered};
+ghost use Rattle.peel.specs.Steps.{entry, remaining, picks, denser, Pickable, Remainder-at};
+
+// What is left when `at` modules have left: its inside count p and its size q.
+pub struct Remainder {
+    pub p: u32,
+    pub q: u32,
+    pub at: u32,
+}
+
+fn wide(x: u32) -> usize
+    ensures { λ r. ⌜ r ≡ x ⌝ }
+{
+    x as usize
+}
+
+fn higher_of(a: u32, b: u32) -> u32
+    ensures { λ r. ⌜ r ≡ max a b ⌝ }
+{
+    if a < b { b } else { a }
+}
+
+// The slot of the pair's other end.
+fn other(s: usize) -> usize
+    requires { ⌜ s < 8192 ⌝ }
+    ensures { λ r. ⌜ r ≡ mate s ⌝ }
+{
+    s + 1 - 2 * (s % 2)
+}
+
+// Links from each module to its slots, and the degrees.
+fn index(
+    m: usize,
+    ends: &[u32],
+    weights: &[u32],
+    first: &mut [u32],
+    next: &mut [u32],
+    degrees: &mut [u32],
+)
+    requires { ⌜ Ends m (now ends) (now weights) ⌝ }
+    requires { ⌜ Indexed 0 (now ends) (now weights) (now first) (now next) (now degrees) ⌝ }
+    ensures { λ r. ⌜ Indexed (2 * m) (now (ends .entry)) (now (weights .entry)) (now (first .exit)) (now (next .exit)) (now (degrees .exit)) ⌝ }
+{
+    let slots = 2 * m;
+    for s in 0..slots {
+        let v = wide(ends[s]);
+        next[s] = first[v];
+        first[v] = (s + 1) as u32;
+        degrees[v] = degrees[v] + weights[s / 2];
+    }
+}
+
+// Module v has left: those that its pairs join it to fall in the ranking.
+fn loosen(
+    m: usize,
+    v: usize,
+    ends: &[u32],
+    weights: &[u32],
+    first: &[u32],
+    next: &[u32],
+    work: &mut [u32],
+)
+    requires { ⌜ Loosable m v (now ends) (now weights) (now first) (now next) (now work) ⌝ }
+    ensures { λ r. ⌜ Loosened (2 * m) v (now (ends .entry)) (now (weights .entry)) (now (work .entry)) (now (work .exit)) ⌝ }
+{
+    let mut s = wide(first[v]);
+    while s > 0 {
+        let k = s - 1;
+        let u = wide(ends[other(k)]);
+        ranking::lower(u, weights[k / 2], work);
+        s = wide(next[k]);
+    }
+}
+
+// N turns: who leaves, and with what degree.
+fn turns(
+    n: usize,
+    m: usize,
+    ends: &[u32],
+    weights: &[u32],
+    first: &[u32],
+    next: &[u32],
+    work: &mut [u32],
+    order: &mut [u32],
+    falls: &mut [u32],
+)
+    requires { ⌜ Held n m (now ends) (now weights) ⌝ }
+    requires { ⌜ Linked (2 * m) (now ends) (now first) (now next) ⌝ }
+    requires { ⌜ Ranked (list-in n m (now ends) (now weights)) (everyone (list-in n m (now ends) (now weights))) (now work) ⌝ }
+    requires { ⌜ n ≤ length (now order) ⌝ }
+    requires { ⌜ n ≤ length (now falls) ⌝ }
+    ensures { λ r. ⌜ Turned (list-in n m (now (ends .entry)) (now (weights .entry))) n
+        (now (order .entry)) (now (falls .entry)) (now (order .exit)) (now (falls .exit)) ⌝ }
+{
+    for i in 0..n {
+        let leaver = ranking::take(work);
+        let v = leaver.number;
+        order[i] = v as u32;
+        falls[i] = leaver.carried;
+        loosen(m, v, ends, weights, first, next, work);
+    }
+}
+
+// Core numbers and places, from the order and the degrees at leaving.
+fn number(n: usize, order: &[u32], falls: &[u32], cores: &mut [u32], place: &mut [u32])
+    requires { ⌜ Numberable n (now order) (now falls) (now cores) (now place) ⌝ }
+    ensures { λ r. ⌜ Numbered n n (now (order .entry)) (now (falls .entry)) (now (cores .entry)) (now (place .entry))
+        (now (cores .exit)) (now (place .exit)) ⌝ }
+{
+    let mut top = 0;
+    for i in 0..n {
+        let v = wide(order[i]);
+        top = higher_of(top, falls[i]);
+        cores[v] = top;
+        place[v] = i as u32;
+    }
+}
+
+// What falls in all: the inside count of all modules.
+fn total(n: usize, falls: &[u32]) -> u32
+    requires { ⌜ n ≤ length (now falls) ⌝ }
+    requires { ⌜ upto n (entry (now falls)) ≤ 4096000 ⌝ }
+    ensures { λ r. ⌜ r ≡ upto n (entry (now (falls .entry))) ⌝ }
+{
+    let mut sum = 0;
+    for i in 0..n {
+        sum += falls[i];
+    }
+    sum
+}
+
+// a, unless b has the higher ratio.
+fn denser_of(a: Remainder, b: Remainder) -> Remainder
+    requires { ⌜ (a .p ≤ 4096000) × (a .q ≤ 512) × (b .p ≤ 4096000) × (b .q ≤ 512) ⌝ }
+    ensures { λ r. ⌜ r ≡ denser a b ⌝ }
+{
+    if a.p * b.q < b.p * a.q { b } else { a }
+}
+
+// The densest remainder of at least `least` modules, of equals the larger.
+fn densest(n: usize, least: usize, falls: &[u32]) -> Remainder
+    requires { ⌜ Pickable n least (now falls) ⌝ }
+    ensures { λ r. ⌜ Remainder-at n (now (falls .entry)) (picks n (remaining n (now (falls .entry))) (n - least)) r ⌝ }
+{
+    let mut left = total(n, falls);
+    let mut best = Remainder {
+        p: left,
+        q: n as u32,
+        at: 0,
+    };
+    let last = n - least;
+    for i in 0..last {
+        left -= falls[i];
+        let next = i + 1;
+        best = denser_of(
+            best,
+            Remainder {
+                p: left,
+                q: (n - next) as u32,
+                at: next as u32,
+            },
+        );
+    }
+    best
+}
+
+// The leaving order, the core numbers and the places, and the densest remainder of at least `least` modules.
+pub fn peel(
+    n: usize,
+    m: usize,
+    least: usize,
+    ends: &[u32],
+    weights: &[u32],
+    order: &mut [u32],
+    cores: &mut [u32],
+    place: &mut [u32],
+) -> Remainder
+    requires { ⌜ Held n m (now ends) (now weights) ⌝ }
+    requires { ⌜ Peelable n least (now order) (now cores) (now place) ⌝ }
+    ensures { λ r. ⌜ Peels (list-in n m (now (ends .entry)) (now (weights .entry))) least
+        (now (order .entry)) (now (cores .entry)) (now (place .entry))
+        (now (order .exit)) (now (cores .exit)) (now (place .exit)) r ⌝ }
+{
+    let mut first = [0u32; 512];
+    let mut next = [0u32; 8192];
+    let mut degrees = [0u32; 512];
+    let mut work = [0u32; 1024];
+    let mut falls = [0u32; 512];
+    index(m, ends, weights, &mut first, &mut next, &mut degrees);
+    ranking::build(n, &degrees, &mut work);
+    turns(
+        n,
+        m,
+        ends,
+        weights,
+        &first,
+        &next,
+        &mut work,
+        order,
+        &mut falls,
+    );
+    number(n, order, &falls, cores, place);
+    densest(n, least, &falls)
+}
