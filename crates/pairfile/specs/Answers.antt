@@ -1,0 +1,143 @@
+-- What the functions' answers say, in the terms of the other definitions. A position in the bytes stands for the bytes from there on.
+--   number-in, number-end    the number that has been found, and where it ends
+--   NumberFound              what number_at promises
+--   line-in, line-end        the line that has been found, and where it ends
+--   LineFound                what line_at promises
+--   one-number-in            the line with one number that has been found
+--   CountFound               what count_at promises
+--   count-in, count-end      N or M, and where its line ends
+--   CountRead                what modules_line and pairs_line promise
+--   named-in, named-end, PlaceKnown    the pair that a line names, where the line ends, and the pair's place
+--   PairLineRead             what pair_line promises
+--   pairs-or, PairsRead      what read_pairs promises
+--   reading-of, pairs-of, words-used   what read_words hands back
+--   FileRead                 what read_words promises
+-- Assumes nothing: these are definitions.
+use mathlib.Core.Path.{_≡_}
+use mathlib.Core.List.{List, [], _∷_}
+use mathlib.Core.Option.{Option, none, some}
+use Prim.Native.Nat.{ℕ, zero, suc, _*_, _≤_}
+use lib.ListN.{length, take, drop}
+use Rattle.theory.specs.Lists.{Pair, Pairs, pair}
+use Rattle.pairs.specs.Held.{place-of}
+use Rattle.pairs.specs.Located.{ones-in}
+use Rattle.pairfile.specs.Numbers.{Number, number-of}
+use Rattle.pairfile.specs.Lines.{Line, places, line-of}
+use Rattle.pairfile.specs.Outcomes.{Outcome, refused, taken}
+use Rattle.pairfile.specs.File.{Named, pair-line, read-pairs, read-file}
+use Rattle.pairfile.specs.declared.FoundNumber.{FoundNumber}
+use Rattle.pairfile.specs.declared.FoundNumber.the-variants.{Number as number, Missing}
+use Rattle.pairfile.specs.declared.FoundLine.{FoundLine}
+use Rattle.pairfile.specs.declared.FoundLine.the-variants.{Line as line, Malformed}
+use Rattle.pairfile.specs.declared.CountLine.{CountLine}
+use Rattle.pairfile.specs.declared.CountLine.the-variants.{Refused as count-refused, Count as count}
+use Rattle.pairfile.specs.declared.PairLine.{PairLine}
+use Rattle.pairfile.specs.declared.PairLine.the-variants.{Refused as line-refused, Named as named}
+use Rattle.pairfile.specs.declared.Reading.{Reading}
+
+-- the number found, and the bytes after it
+unfoldable pub number-in : (bytes : List ℕ) → FoundNumber → Option Number
+number-in bs Missing = none
+number-in bs (number v i) = some (record { value = v; rest = drop i bs })
+
+-- where it ends
+unfoldable pub number-end : FoundNumber → ℕ
+number-end Missing = 0
+number-end (number v i) = i
+
+-- NUMBER_AT: the number at a position
+pub record NumberFound (bytes : List ℕ) (at : ℕ) (r : FoundNumber) : Type 0 where
+  pub found : number-of (drop at bytes) ≡ number-in bytes r
+  pub within : number-end r ≤ length bytes
+
+-- the line found: its numbers are the first k of a buffer
+unfoldable pub line-in : (bytes : List ℕ) → (k : ℕ) → (numbers : List ℕ) → FoundLine → Option Line
+line-in bs k ns Malformed = none
+line-in bs k ns (line i) = some (record { numbers = take k ns; rest = drop i bs })
+
+-- where it ends
+unfoldable pub line-end : FoundLine → ℕ
+line-end Malformed = 0
+line-end (line i) = i
+
+-- LINE_AT: the line of a form at a position
+pub record LineFound (bytes : List ℕ) (at : ℕ) (form numbers : List ℕ) (r : FoundLine) : Type 0 where
+  pub found : line-of form (drop at bytes) ≡ line-in bytes (places form) numbers r
+  pub within : line-end r ≤ length bytes
+
+-- the line found, with one number
+unfoldable pub one-number-in : (bytes : List ℕ) → FoundNumber → Option Line
+one-number-in bs Missing = none
+one-number-in bs (number v i) = some (record { numbers = v ∷ []; rest = drop i bs })
+
+-- COUNT_AT: the line of a form with one number at a position
+pub record CountFound (bytes : List ℕ) (at : ℕ) (form : List ℕ) (r : FoundNumber) : Type 0 where
+  pub found : line-of form (drop at bytes) ≡ one-number-in bytes r
+  pub within : number-end r ≤ length bytes
+
+-- the line with N or M on it, or the refusal number
+unfoldable pub count-in : (bytes : List ℕ) → CountLine → Outcome Line
+count-in bs (count-refused k) = refused k
+count-in bs (count v i) = taken (record { numbers = v ∷ []; rest = drop i bs })
+
+-- where it ends
+unfoldable pub count-end : CountLine → ℕ
+count-end (count-refused k) = 0
+count-end (count v i) = i
+
+-- MODULES_LINE and PAIRS_LINE: the line that is due
+pub record CountRead (bytes : List ℕ) (due : Outcome Line) (r : CountLine) : Type 0 where
+  pub found : due ≡ count-in bytes r
+  pub within : count-end r ≤ length bytes
+
+-- the pair named and the bytes after its line, or the refusal number
+unfoldable pub named-in : (bytes : List ℕ) → PairLine → Outcome Named
+named-in bs (line-refused k) = refused k
+named-in bs (named a b place i) = taken (record { pair = pair a b; rest = drop i bs })
+
+-- where the line ends
+unfoldable pub named-end : PairLine → ℕ
+named-end (line-refused k) = 0
+named-end (named a b place i) = i
+
+-- the place of the pair named among the pairs held
+unfoldable pub PlaceKnown : (held : List Pair) → PairLine → Type 0
+PlaceKnown held (line-refused k) = Unit
+PlaceKnown held (named a b place i) = place ≡ place-of (pair a b) held
+
+-- PAIR_LINE: the pair line at a position, some pairs being held
+pub record PairLineRead (bytes : List ℕ) (at n : ℕ) (held : List Pair) (r : PairLine) : Type 0 where
+  pub found : pair-line n held (drop at bytes) ≡ named-in bytes r
+  pub within : named-end r ≤ length bytes
+  pub place : PlaceKnown held r
+
+-- the pairs that were read, or the number if it is not 0
+unfoldable pub pairs-or : (number : ℕ) → List Pair → Outcome (List Pair)
+pairs-or zero ps = taken ps
+pairs-or (suc k) ps = refused (suc k)
+
+-- READ_PAIRS: m pair lines from a position on. After a refusal the first 2m words are free
+pub record PairsRead (bytes : List ℕ) (at n m : ℕ) (ends ends′ : List ℕ) (number : ℕ) : Type 0 where
+  pub found : read-pairs n m [] (drop at bytes) ≡ pairs-or number (ones-in m ends′)
+  pub past : drop (2 * m) ends′ ≡ drop (2 * m) ends
+
+-- the number, N and M; beside a refusal the others are 0
+unfoldable pub reading-of : Outcome Pairs → Reading
+reading-of (refused k) = record { number = k; n = 0; m = 0 }
+reading-of (taken g) = record { number = 0; n = g .n; m = length (g .pairs) }
+
+-- the pairs of the list that is taken
+unfoldable pub pairs-of : Outcome Pairs → List Pair
+pairs-of (refused k) = []
+pairs-of (taken g) = g .pairs
+
+-- how many words may have been written
+unfoldable pub words-used : Outcome Pairs → ℕ
+words-used (refused k) = 8192
+words-used (taken g) = 2 * length (g .pairs)
+
+-- READ_WORDS: number, N, M and every pair of a file; the words past those used are as they were. After a refusal the words used are free
+pub record FileRead (room : ℕ) (bytes ends ends′ : List ℕ) (r : Reading) : Type 0 where
+  pub reading : r ≡ reading-of (read-file room bytes)
+  pub pairs : ones-in (r .m) ends′ ≡ pairs-of (read-file room bytes)
+  pub past : drop (words-used (read-file room bytes)) ends′ ≡ drop (words-used (read-file room bytes)) ends
