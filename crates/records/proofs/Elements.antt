@@ -81,18 +81,24 @@ module _ {M : Type 1} {𝓤 : URA M} {H : Heap 𝓤} {A : Atoms 𝓤} {W : Given
 
 module _ {M : Type 1} {𝓤 : URA M} {H : Heap 𝓤} {A : Atoms 𝓤} {W : Given 𝓤 H A} {K : Type 0} {Γ : List (Item 𝓤)} where
   pub knows-row : {G : Goal 𝓤 H} → K → (n : ℕ) (r : Row W) (ys : Elements r) → nth 𝓤 H A n Γ ≡ holds r ys → (Fit-all (r .type) (r .plain) ys → Seq K W Γ G) → Seq K W Γ G
-  knows-row t n r ys e k = record { prf = fact-use 𝓤 (Fit-all (r .type) (r .plain) ys)
-      (via 𝓤 _ (row-out r ys Γ n e) (via 𝓤 _ (fst∗ 𝓤 (sem 𝓤 H A (lies r ys)) (⋆ 𝓤 H A (del 𝓤 H A n Γ))) (row-shows (r .type) (r .plain) (r .share) ys (r .block) (r .offset)))) (λ all. k all .prf) }
+  knows-row t n r ys e k = record {
+    prf = fact-use 𝓤 (Fit-all (r .type) (r .plain) ys)
+        (via 𝓤 _ (row-out r ys Γ n e) (via 𝓤 _ (fst∗ 𝓤 (sem 𝓤 H A (lies r ys)) (⋆ 𝓤 H A (del 𝓤 H A n Γ))) (row-shows (r .type) (r .plain) (r .share) ys (r .block) (r .offset)))) (λ all. k all .prf);
+  }
 
   pub look-at : K → (n : ℕ) (r : Row W) (ys : Elements r) (i : ℕ) (d : r .type .Denot) (f : ℕ → ℕ) {τ : Ty} {b : ℕ} {v : Val} → i < length ys → nth 𝓤 H A n Γ ≡ holds r ys
       → ((p : ℕ) → Reads K W (apart r ys i d (getD ys i d) p (del 𝓤 H A n Γ)) τ b (f p) v) → Reads K W Γ τ b (f (i * mem (r .type) .size + r .offset)) v
-  look-at t n r ys i d f {τ} {b} {v} l e inner = subst (λ (p : ℕ). Reads K W Γ τ b (f p) v) (place-is (mem (r .type) .size) (r .offset) i) (record { go = λ Kt h.
-      via 𝓤 _ (row-out r ys Γ n e) (via 𝓤 _ (taken r ys i d (del 𝓤 H A n Γ) l) (inner (place (mem (r .type) .size) (r .offset) i) .go Kt
-      (via 𝓤 _ (put-back r ys i d (del 𝓤 H A n Γ) l) (via 𝓤 _ (row-in r ys Γ n e) h)))) })
+  look-at t n r ys i d f {τ} {b} {v} l e inner = subst (λ (p : ℕ). Reads K W Γ τ b (f p) v) (place-is (mem (r .type) .size) (r .offset) i) (record {
+    go = λ Kt h.
+        via 𝓤 _ (row-out r ys Γ n e) (via 𝓤 _ (taken r ys i d (del 𝓤 H A n Γ) l) (inner (place (mem (r .type) .size) (r .offset) i) .go Kt
+        (via 𝓤 _ (put-back r ys i d (del 𝓤 H A n Γ) l) (via 𝓤 _ (row-in r ys Γ n e) h))));
+  })
 
   pub store-at : K → (n : ℕ) (r : Row W) (ys : Elements r) (i : ℕ) (d y : r .type .Denot) {τ : Ty} {b : ℕ} {v : Val} → i < length ys → Fits (r .type) (r .plain) y → nth 𝓤 H A n Γ ≡ holds r ys
       → ((p : ℕ) → Writes K W (apart r ys i d (getD ys i d) p (del 𝓤 H A n Γ)) τ b p v (apart r ys i d y p (del 𝓤 H A n Γ)))
       → Writes K W Γ τ b (i * mem (r .type) .size + r .offset) v (put 𝓤 H A n (holds r (set ys i y)) Γ)
-  store-at t n r ys i d y {τ} {b} {v} l fits e inner = subst (λ (p : ℕ). Writes K W Γ τ b p v (put 𝓤 H A n (holds r (set ys i y)) Γ)) (place-is (mem (r .type) .size) (r .offset) i) (record { go = λ X h.
-      via 𝓤 _ (row-out r ys Γ n e) (via 𝓤 _ (taken r ys i d (del 𝓤 H A n Γ) l) (inner (place (mem (r .type) .size) (r .offset) i) .go X
-      (via 𝓤 _ (put-new r ys i d y (del 𝓤 H A n Γ) l fits) (via 𝓤 _ (fill 𝓤 H A n (holds r (set ys i y)) Γ) h)))) })
+  store-at t n r ys i d y {τ} {b} {v} l fits e inner = subst (λ (p : ℕ). Writes K W Γ τ b p v (put 𝓤 H A n (holds r (set ys i y)) Γ)) (place-is (mem (r .type) .size) (r .offset) i) (record {
+    go = λ X h.
+        via 𝓤 _ (row-out r ys Γ n e) (via 𝓤 _ (taken r ys i d (del 𝓤 H A n Γ) l) (inner (place (mem (r .type) .size) (r .offset) i) .go X
+        (via 𝓤 _ (put-new r ys i d y (del 𝓤 H A n Γ) l fits) (via 𝓤 _ (fill 𝓤 H A n (holds r (set ys i y)) Γ) h))));
+  })

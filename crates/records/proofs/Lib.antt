@@ -4,7 +4,10 @@ pub mod Calls
 pub mod Frame
 pub mod Elements
 pub mod Entry
+pub mod Signs
+pub mod Arrays
 pub mod Loop
 pub mod Records
+pub mod Steps
 pub mod Copies
 pub mod Scans

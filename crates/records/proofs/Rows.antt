@@ -43,15 +43,17 @@ out own kept k = fsep (flft (k .0 ∷ []) fullShare) (fsep (own (k .0) (k .1)) (
 
 -- ν is the lifetime that the loan makes, δ the name under which the borrower's value is tracked
 pub record Loan {M : Type 1} {𝓤 : URA M} {H : Heap 𝓤} {A : Atoms 𝓤} (W : Given 𝓤 H A) : Type 2 where
-  pub value : Val                              -- the reference's machine value
-  pub before : Fml                             -- what is lent
-  pub own : (ν : ℕ) (δ : GName) → Fml           -- what the reference owns
-  pub kept : (ν : ℕ) (δ : GName) → Fml          -- what the lender keeps meanwhile
-  pub Last : Type 0                            -- what the borrower may leave
-  pub left : (δ : GName) → Last → Fml           -- what says that it left w
-  pub Known : Last → Type 0                     -- what is known of w by that
+  pub value : Val  -- the reference's machine value
+  pub Ref : Type 0  -- what it denotes
+  pub ref : (δ : GName) → Ref
+  pub before : Fml  -- what is lent
+  pub own : (ν : ℕ) (δ : GName) → Fml  -- what the reference owns
+  pub kept : (ν : ℕ) (δ : GName) → Fml  -- what the lender keeps meanwhile
+  pub Last : Type 0  -- what the borrower may leave
+  pub left : (δ : GName) → Last → Fml  -- what says that it left w
+  pub Known : Last → Type 0  -- what is known of w by that
   pub known : (δ : GName) (w : Last) → shadow (left δ w) → Known w
-  pub after : Last → Fml                       -- what comes back
+  pub after : Last → Fml  -- what comes back
   pub lends : ent 𝓤 (sem 𝓤 H A before) (H .⇛ (ex 𝓤 (λ (k : ℕ × GName). sem 𝓤 H A (out own kept k))))
   pub backs : (ν : ℕ) (δ : GName) (w : Last) → ent 𝓤 (sem 𝓤 H A (fsep (flft (ν ∷ []) fullShare) (fsep (left δ w) (kept ν δ)))) (H .⇛ (sem 𝓤 H A (after w)))
 
@@ -73,7 +75,7 @@ module _ {M : Type 1} {𝓤 : URA M} {H : Heap 𝓤} {A : Atoms 𝓤} {W : Given
   Room-for ys = Room (r .type) (length ys)
 
   module _ (ys : Elements) where
-    abbrev ref : GName → RefT Elements
+    abbrev pub ref : GName → RefT Elements
     ref δ = record { ptr = (r .block, r .offset); name = δ; now = ys }
 
     abbrev pub mut-own : ℕ → GName → Fml
@@ -120,12 +122,34 @@ module _ {M : Type 1} {𝓤 : URA M} {H : Heap 𝓤} {A : Atoms 𝓤} {W : Given
 
     abbrev pub lend-mut : Room-for ys → Loan W
     lend-mut room = record {
-      value = slice-of ys; before = mut-lies ys; own = mut-own; kept = mut-kept; Last = Elements; left = mut-left; Known = λ zs. length zs ≡ length ys; known = λ δ zs p. p .1; after = mut-lies;
-      lends = mut-lends room; backs = mut-backs;
+      value = slice-of ys;
+      Ref = RefT Elements;
+      ref = ref;
+      before = mut-lies ys;
+      own = mut-own;
+      kept = mut-kept;
+      Last = Elements;
+      left = mut-left;
+      Known = λ zs. length zs ≡ length ys;
+      known = λ δ zs p. p .1;
+      after = mut-lies;
+      lends = mut-lends room;
+      backs = mut-backs;
     }
 
     abbrev pub lend-shr : Room-for ys → Loan W
     lend-shr room = record {
-      value = slice-of ys; before = lies ys; own = shr-own; kept = shr-kept; Last = Unit {0}; left = λ δ w. ftrue; Known = λ w. Unit {0}; known = λ δ w p. tt; after = λ w. lies ys;
-      lends = shr-lends room; backs = λ ν δ w. shr-backs ν δ;
+      value = slice-of ys;
+      Ref = RefT Elements;
+      ref = ref;
+      before = lies ys;
+      own = shr-own;
+      kept = shr-kept;
+      Last = Unit {0};
+      left = λ δ w. ftrue;
+      Known = λ w. Unit {0};
+      known = λ δ w p. tt;
+      after = λ w. lies ys;
+      lends = shr-lends room;
+      backs = λ ν δ w. shr-backs ν δ;
     }

@@ -2,6 +2,7 @@
 --   scan-more        one record more
 --   reach-le         how many records are tested: no more than there are, and at most 4,096
 --   scan-agrees      what the scan says is `agrees`
+--   agrees-count     where head and list agree, M records are there, and they are few
 -- Assumes nothing.
 use mathlib.Core.Path.{_≡_, refl, sym, ap, _∙_, subst}
 use mathlib.Core.Bool.{Bool, true, false, _&&_, cond}
@@ -15,15 +16,14 @@ use Rattle.theory.specs.Basics.{all}
 use Rattle.theory.specs.Lists.{pair, ends-in-range, smaller-first, weight-in-range, stands-before, before-first, rising, size-in-range, is-list}
 use borrow.Author.Tests.{lt-ltb}
 use Rattle.theory.proofs.Tests.{tests, no, or-left}
-use Rattle.records.specs.Records.{as-pair, as-pairs, held-list, agrees}
+use Rattle.records.specs.Records.{as-pair, as-pairs, blank, held-list, agrees}
 use Rattle.records.specs.Scan.{fits, begin-of, reach-of, step-of, scan}
 use Rattle.records.specs.declared.Pair.{Pair}
 use Rattle.records.specs.declared.Head.{Head}
 use Rattle.records.specs.declared.Seen.{Seen}
-use Rattle.records.proofs.Copies.{none}
 
 -- one record more is one step more
-pub scan-more : (n : ℕ) (s : Seen) (ps : List Pair) (i : ℕ) → i < length ps → scan n s (take (suc i) ps) ≡ step-of n (scan n s (take i ps)) (getD ps i none .a) (getD ps i none .b)
+pub scan-more : (n : ℕ) (s : Seen) (ps : List Pair) (i : ℕ) → i < length ps → scan n s (take (suc i) ps) ≡ step-of n (scan n s (take i ps)) (getD ps i blank .a) (getD ps i blank .b)
 unfolding scan
 scan-more n s [] i l = absurd (omega (arith, l))
 scan-more n s (p ∷ ps) zero l = refl
@@ -141,3 +141,7 @@ module _ (h : Head) (ps : List Pair) where
       by-fit : (t : Bool) → fits h (length ps) ≡ t → (cond t (h .m) 0 ≤ length ps) × (cond t (h .m) 0 ≤ 4096)
       by-fit true f = (fits-facts f .1 .1, fits-facts f .1 .0)
       by-fit false f = (omega arith, omega arith)
+
+  -- where head and list agree, M is at most the list's length and at most 4,096
+  pub agrees-count : agrees h ps ≡ true → (h .m ≤ length ps) × (h .m ≤ 4096)
+  agrees-count e = let k = fits-facts (parts-agree e .0) in (k .1 .1, k .1 .0)

@@ -2,6 +2,7 @@
 --   as-pair, as-pairs       the pairs that records stand for
 --   held-list               the list that a head and the lent records hold
 --   agrees                  head and list agree: number 13 is given where they do not
+--   blank                   the record 0,0
 --   ends-of                 records as words, two a record
 --   laid-out                a buffer of words after the first records were copied to it
 --   word-record, records-in records read from words
@@ -33,6 +34,10 @@ held-list h ps = record { n = h .n; pairs = as-pairs (take (h .m) ps) }
 -- N is 1 to 512, M at most 4,096 and at most the list's length, and the first M records are as described
 unfoldable pub agrees : Head → List Pair → Bool
 agrees h ps = leb (h .m) (length ps) && is-list (held-list h ps)
+
+-- the record 0,0: what a freed record becomes
+abbrev pub blank : Pair
+blank = record { a = 0; b = 0 }
 
 -- records as words: record j lies at words 2j and 2j + 1
 unfoldable pub ends-of : List Pair → List ℕ

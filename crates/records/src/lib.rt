@@ -43,7 +43,10 @@ pub fn copy_in(list: &mut [Pair], words: &[u32], m: usize)
 {
     let mut i = 0;
     while i < m {
-        list[i] = Pair { a: words[2 * i] as u16, b: words[2 * i + 1] as u16 };
+        list[i] = Pair {
+            a: words[2 * i] as u16,
+            b: words[2 * i + 1] as u16,
+        };
         i += 1;
     }
 }
@@ -61,15 +64,31 @@ fn begin(head: Head, len: usize) -> Seen
 {
     let m = head.m as usize;
     if head.n < 1 {
-        return Seen { ok: false, a: 0, b: 0 };
+        return Seen {
+            ok: false,
+            a: 0,
+            b: 0,
+        };
     }
     if 512 < head.n {
-        return Seen { ok: false, a: 0, b: 0 };
+        return Seen {
+            ok: false,
+            a: 0,
+            b: 0,
+        };
     }
     if 4096 < m {
-        return Seen { ok: false, a: 0, b: 0 };
+        return Seen {
+            ok: false,
+            a: 0,
+            b: 0,
+        };
     }
-    Seen { ok: m <= len, a: 0, b: 0 }
+    Seen {
+        ok: m <= len,
+        a: 0,
+        b: 0,
+    }
 }
 
 // How many records are tested.
@@ -87,18 +106,38 @@ fn step(n: u32, seen: Seen, a: u16, b: u16) -> Seen
     ensures { λ r. ⌜ r ≡ step-of n seen a b ⌝ }
 {
     if !seen.ok {
-        return Seen { ok: false, a: a, b: b };
+        return Seen {
+            ok: false,
+            a: a,
+            b: b,
+        };
     }
     if n <= b as u32 {
-        return Seen { ok: false, a: a, b: b };
+        return Seen {
+            ok: false,
+            a: a,
+            b: b,
+        };
     }
     if b <= a {
-        return Seen { ok: false, a: a, b: b };
+        return Seen {
+            ok: false,
+            a: a,
+            b: b,
+        };
     }
     if seen.a == a {
-        return Seen { ok: seen.b < b, a: a, b: b };
+        return Seen {
+            ok: seen.b < b,
+            a: a,
+            b: b,
+        };
     }
-    Seen { ok: seen.a < a, a: a, b: b }
+    Seen {
+        ok: seen.a < a,
+        a: a,
+        b: b,
+    }
 }
 
 // Whether head and list agree. The records are read where they lie.

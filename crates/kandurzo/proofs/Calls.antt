@@ -1,0 +1,195 @@
+-- From the records to the words and back: what add and remove do on words is what they do to the lent records.
+--   out                        the words after the records went out
+--   out-ready                  what add and remove on words ask of them
+--   out-number, back-is        the refusal number, and the records that come back
+--   add-says, remove-says      the calls' promises
+-- Assumes nothing.
+use mathlib.Core.Path.{_≡_, refl, sym, ap, _∙_}
+use mathlib.Core.Bool.{Bool, true, false, not, cond}
+use mathlib.Core.List.{List, [], _∷_, _++_, map, append-assoc}
+use Prim.Native.Nat.{ℕ, zero, suc, _+_, _*_, _-_, _≤_, _<_}
+use native.Mathlib.Omega.{arith}
+use lib.Dec.{eqb}
+use lib.ListN.{length, getD, take, drop, replicate, length-replicate}
+use borrow.Author.Tests.{eqb-true, eq-eqb, ne-eqb, eqb-false}
+use Rattle.theory.specs.Basics.{table}
+use Rattle.theory.specs.Lists as Lists
+use Rattle.theory.specs.Lists.{Pairs, pair}
+use Rattle.theory.specs.Refusals.{refusal}
+use Rattle.theory.specs.Words.{word-pair, pairs-in}
+use Rattle.theory.proofs.Lists.{Listed, listed}
+use Rattle.pairs.specs.Held.{insert-pair, remove-pair, smaller-first-pair}
+use Rattle.pairs.specs.Causes.{add-causes, remove-causes}
+use Rattle.pairs.specs.Located.{ones-in}
+use Rattle.pairs.proofs.Weights.{ones-at}
+use Rattle.records.specs.declared.Pair.{Pair}
+use Rattle.records.specs.declared.Head.{Head}
+use Rattle.records.specs.Records.{as-pairs, held-list, agrees, laid-out, word-record, records-in, put-back}
+use Rattle.records.proofs.Copies.{length-laid-out, pairs-laid-out}
+use Rattle.records.proofs.Steps.{Enough, Enough-back}
+use Rattle.kandurzo.specs.declared.Changed.{Changed}
+use Rattle.kandurzo.specs.declared.Edit.{Edit}
+use Rattle.kandurzo.specs.Listing.{if-taken, head-of, as-record, as-records, is-full, add-number, added, Add-says, remove-number, removed, Remove-says}
+use Rattle.kandurzo.specs.Edits.{word-list, records-out, Ready, edit-of, add-on-number, add-edit, add-words, remove-on-number, remove-edit, remove-words}
+use Rattle.kandurzo.proofs.Orders.{add-13, remove-13}
+use Rattle.kandurzo.proofs.Changes.{Edited, add-edited, remove-edited}
+use Rattle.kandurzo.proofs.Taken.{held-few, held-is-list, length-held}
+
+-- the words zs after the records went out to them
+unfoldable pub out : List ℕ → Head → List Pair → List ℕ
+out zs h ps = laid-out ps zs (records-out h (agrees h ps))
+
+-- the records that lie in words are those of the pairs
+table-map : (m : ℕ) (f : ℕ → Lists.Pair) (g : ℕ → Pair) → ((j : ℕ) → as-record (f j) ≡ g j) → table m g ≡ map as-record (table m f)
+unfolding table
+table-map zero f g e = refl
+table-map (suc m) f g e = cc (e 0, table-map m (λ j. f (suc j)) (λ j. g (suc j)) (λ j. e (suc j)))
+
+records-ones : (m : ℕ) (ws : List ℕ) → records-in m ws ≡ as-records (ones-in m ws)
+unfolding records-in as-records ones-in pairs-in
+records-ones m ws = table-map m (word-pair ws (replicate m 1)) (word-record ws) (λ j. unfold as-record word-pair word-record in refl)
+
+module _ (zs : List ℕ) (long : length zs ≡ 8192) (h : Head) (ps : List Pair) where
+  -- where head and list agree, the words hold the list
+  out-list : agrees h ps ≡ true → word-list h (out zs h ps) ≡ held-list h ps
+  unfolding word-list held-list out records-out ones-in
+  out-list e =
+      rw e
+      (ap (λ (qs : List Lists.Pair). record { n = h .n; pairs = qs })
+      (pairs-laid-out ps zs (h .m) (held-few h ps e) (replicate (h .m) 1) (λ j l. ones-at (h .m) j l)))
+
+  few : agrees h ps ≡ true → h .m ≤ 4096
+  few e = omega (arith, listed (held-list h ps) (held-is-list h ps e) .short, length-held h ps e)
+
+  -- how many records go out
+  pub out-count : (records-out h (agrees h ps) ≤ length ps) × (records-out h (agrees h ps) ≤ 4096)
+  unfolding records-out
+  out-count = go (agrees h ps) refl
+    where
+      go : (t : Bool) → agrees h ps ≡ t → (cond t (h .m) 0 ≤ length ps) × (cond t (h .m) 0 ≤ 4096)
+      go true e = (held-few h ps e, few e)
+      go false e = (omega arith, omega arith)
+
+  pub out-enough : Enough ps zs (records-out h (agrees h ps))
+  out-enough = (out-count .0, out-count .1, omega (arith, out-count .1))
+
+  pub out-ready : Ready h (agrees h ps) (length ps) (out zs h ps)
+  unfolding out
+  out-ready =
+      record {
+        long =
+            length-laid-out ps zs (records-out h (agrees h ps)) (out-count .0)
+            (omega (arith, out-count .1)) ∙ long;
+        held = λ e. rw (out-list e) (held-is-list h ps e);
+        fits = λ e. held-few h ps e;
+      }
+
+  -- the number on words is the number on records: where head and list disagree it is 13 for both
+  module _ (a b : ℕ) where
+    out-add-number : refusal (add-causes (not (agrees h ps)) (word-list h (out zs h ps)) (is-full h (length ps)) a b) ≡ add-number h ps a b
+    unfolding add-number
+    out-add-number = go (agrees h ps) refl
+      where
+        go : (t : Bool) → agrees h ps ≡ t →
+            refusal (add-causes (not t) (word-list h (out zs h ps)) (is-full h (length ps)) a b)
+            ≡ refusal (add-causes (not t) (held-list h ps) (is-full h (length ps)) a b)
+        go true e = rw (out-list e)
+        go false e = add-13 _ _ _ a b refl ∙ sym (add-13 _ _ _ a b refl)
+
+    out-remove-number : refusal (remove-causes (not (agrees h ps)) (word-list h (out zs h ps)) a b) ≡ remove-number h ps a b
+    unfolding remove-number
+    out-remove-number = go (agrees h ps) refl
+      where
+        go : (t : Bool) → agrees h ps ≡ t →
+            refusal (remove-causes (not t) (word-list h (out zs h ps)) a b) ≡ refusal (remove-causes (not t) (held-list h ps) a b)
+        go true e = rw (out-list e)
+        go false e = remove-13 _ _ a b refl ∙ sym (remove-13 _ _ a b refl)
+
+-- the records that come back: none after a refusal, else those of the pairs in the words
+back-is : (h : Head) (len k : ℕ) (new : Head) (back : ℕ) (after : List Lists.Pair) (words : List ℕ) (ps : List Pair) →
+    Edited h len k new back after words → put-back ps words (edit-of h k new back .count) ≡ if-taken k (as-records after ++ drop back ps) ps
+unfolding edit-of if-taken put-back
+back-is h len k new back after words ps e = go (eqb k 0) refl
+  where
+    go : (t : Bool) → eqb k 0 ≡ t →
+        records-in (cond t back 0) words ++ drop (cond t back 0) ps ≡ cond t (as-records after ++ drop back ps) ps
+    go true z = rw (records-ones back words, e .pairs (eqb-true k 0 z))
+    go false z = unfold records-in table in refl
+
+-- the pair 0,0 behind others is the record 0,0
+freed : (qs : List Lists.Pair) (rest : List Pair) → as-records (qs ++ (pair 0 0 ∷ [])) ++ rest ≡ as-records qs ++ (record { a = 0; b = 0 } ∷ rest)
+unfolding as-records as-record pair
+freed [] rest = refl
+freed (q ∷ qs) rest = ap (λ (ps : List Pair). as-record q ∷ ps) (freed qs rest)
+
+-- what comes back is said of the held pairs: where head and list disagree, nothing does
+module _ (zs : List ℕ) (long : length zs ≡ 8192) (h : Head) (ps : List Pair) (a b : ℕ) where
+  held-out : agrees h ps ≡ true → ones-in (h .m) (out zs h ps) ≡ held-list h ps .pairs
+  unfolding word-list
+  held-out e = ap (λ (g : Pairs). g .pairs) (out-list zs long h ps e)
+
+  taken-held : (k : ℕ) (new : List Lists.Pair → List Pair) → (agrees h ps ≡ false → k ≡ 13) →
+      if-taken k (new (ones-in (h .m) (out zs h ps))) ps ≡ if-taken k (new (held-list h ps .pairs)) ps
+  unfolding if-taken
+  taken-held k new f = go (agrees h ps) refl
+    where
+      go : (t : Bool) → agrees h ps ≡ t → cond (eqb k 0) (new (ones-in (h .m) (out zs h ps))) ps ≡ cond (eqb k 0) (new (held-list h ps .pairs)) ps
+      go true e = rw (held-out e)
+      go false e = let z : eqb k 0 ≡ false = ne-eqb k 0 (λ z. omega (arith, f e)) in rw z
+
+  abbrev t : Bool
+  t = agrees h ps
+
+  -- what comes back fits the list, and its records
+  back-enough : {k : ℕ} {new : Head} {back : ℕ} {after : List Lists.Pair} {words : List ℕ} → Edited h (length ps) k new back after words →
+      Enough-back ps words (edit-of h k new back .count)
+  back-enough e = (e .in-list, e .room, omega (arith, e .room, e .long), e .fit)
+
+  -- ADD: the answer on words is the call's
+  pub add-says : let e = add-edit h t (length ps) (out zs h ps) a b in
+      Add-says h ps a b (record { number = e .number; head = e .head }) (put-back ps (add-words h t (length ps) (out zs h ps) a b) (e .count))
+  unfolding added add-edit edit-of add-on-number
+  add-says =
+      let same = out-add-number zs long h ps a b in
+      let new : List Lists.Pair → List Pair = λ qs. as-records (insert-pair (smaller-first-pair a b) qs) ++ drop (h .m + 1) ps in
+      record {
+        number = same;
+        head = ap (λ (k : ℕ). if-taken k (head-of (h .n) (h .m + 1)) h) same;
+        list =
+            back-is h _ _ _ (h .m + 1) _ _ ps (add-edited h t (length ps) (out zs h ps) a b (out-ready zs long h ps))
+            ∙ ap (λ (k : ℕ). if-taken k (new (ones-in (h .m) (out zs h ps))) ps) same
+            ∙ taken-held (add-number h ps a b) new (λ d. unfold add-number in (add-13 _ _ _ a b (rw d)));
+      }
+
+  pub add-long : length (add-words h t (length ps) (out zs h ps) a b) ≡ 8192
+  add-long = add-edited h t (length ps) (out zs h ps) a b (out-ready zs long h ps) .long
+
+  pub add-back : Enough-back ps (add-words h t (length ps) (out zs h ps) a b) (add-edit h t (length ps) (out zs h ps) a b .count)
+  unfolding add-edit
+  add-back = back-enough (add-edited h t (length ps) (out zs h ps) a b (out-ready zs long h ps))
+
+  -- REMOVE likewise
+  pub remove-says : let e = remove-edit h t (out zs h ps) a b in
+      Remove-says h ps a b (record { number = e .number; head = e .head }) (put-back ps (remove-words h t (out zs h ps) a b) (e .count))
+  unfolding removed remove-edit edit-of remove-on-number
+  remove-says =
+      let same = out-remove-number zs long h ps a b in
+      let new : List Lists.Pair → List Pair =
+      λ qs. as-records (remove-pair (smaller-first-pair a b) qs) ++ (record { a = 0; b = 0 } ∷ drop (h .m) ps) in
+      record {
+        number = same;
+        head = ap (λ (k : ℕ). if-taken k (head-of (h .n) (h .m - 1)) h) same;
+        list =
+            back-is h _ _ _ (h .m) _ _ ps (remove-edited h t (length ps) (out zs h ps) a b (out-ready zs long h ps))
+            ∙ ap (λ (qs : List Pair). if-taken (refusal (remove-causes (not (agrees h ps)) (word-list h (out zs h ps)) a b)) qs ps)
+            (freed (remove-pair (smaller-first-pair a b) (ones-in (h .m) (out zs h ps))) (drop (h .m) ps))
+            ∙ ap (λ (k : ℕ). if-taken k (new (ones-in (h .m) (out zs h ps))) ps) same
+            ∙ taken-held (remove-number h ps a b) new (λ d. unfold remove-number in (remove-13 _ _ a b (rw d)));
+      }
+
+  pub remove-long : length (remove-words h t (out zs h ps) a b) ≡ 8192
+  remove-long = remove-edited h t (length ps) (out zs h ps) a b (out-ready zs long h ps) .long
+
+  pub remove-back : Enough-back ps (remove-words h t (out zs h ps) a b) (remove-edit h t (out zs h ps) a b .count)
+  unfolding remove-edit
+  remove-back = back-enough (remove-edited h t (length ps) (out zs h ps) a b (out-ready zs long h ps))

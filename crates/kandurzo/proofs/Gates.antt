@@ -1,0 +1,116 @@
+-- The gate, 13 and 12, and the work buffer once the records are in it.
+--   gate-open            where the gate is open, head and list agree and no buffer is short
+--   work-in              the work buffer after the records went out
+--   work-in-list         it holds the list
+--   work-in-words        so the calls on words may go on
+--   work-in-shut         where the gate refuses it is untouched
+--   work-in-zeroed       and zeros in front of it are zeros in front of the buffer as it was
+-- Assumes nothing.
+use mathlib.Core.Path.{_≡_, refl, sym, ap, _∙_}
+use mathlib.Core.Bool.{Bool, true, false, _||_, not, cond}
+use mathlib.Core.List.{List, [], _∷_, _++_}
+use Prim.Native.Nat.{ℕ, zero, suc, _+_, _*_, _-_, _≤_, _<_}
+use native.Mathlib.Omega.{arith}
+use lib.Dec.{eqb}
+use lib.ListN.{length, getD, take, drop, replicate, length-replicate, length-append}
+use lib.Seq.{drop-drop, length-take-le, drop-append-add}
+use borrow.Author.Tests.{eqb-true, eqb-false, eq-eqb, ne-eqb, not-false}
+use Rattle.theory.specs.Lists as Lists
+use Rattle.theory.specs.Lists.{Pairs, is-list}
+use Rattle.theory.specs.Refusals.{cause, refusal}
+use Rattle.theory.proofs.Refusals.{refusal-none, refusal-met, refusal-passed}
+use Rattle.theory.proofs.Lists.{Listed, listed}
+use Rattle.pairs.specs.Located.{ones-in}
+use Rattle.pairs.proofs.Weights.{ones-at}
+use Rattle.records.specs.declared.Pair.{Pair}
+use Rattle.records.specs.declared.Head.{Head}
+use Rattle.records.specs.Records.{held-list, agrees, ends-of, laid-out}
+use Rattle.records.proofs.Copies.{length-ends-of, length-laid-out, laid-out-none, pairs-laid-out}
+use Rattle.kandurzo.specs.Listing.{if-taken}
+use Rattle.kandurzo.specs.Edits.{word-list}
+use Rattle.kandurzo.specs.Buffers.{in-front, work-words}
+use Rattle.kandurzo.specs.Gate.{gate-causes, gate-number, records-through, On-words}
+use Rattle.kandurzo.proofs.Taken.{held-few, held-is-list, length-held}
+
+module _ (h : Head) (ps : List Pair) (short : Bool) where
+  pub gate-open : gate-number h ps short ≡ 0 → (agrees h ps ≡ true) × (short ≡ false)
+  unfolding gate-number gate-causes
+  gate-open e = let x = refusal-none 12 _ _ e in (not-false _ (x .0), refusal-none 11 _ _ (x .1) .0)
+
+  -- 13, 12 or 0
+  pub gate-one-of : (gate-number h ps short ≡ 0 → ⊥) → (eqb (gate-number h ps short) 12 || eqb (gate-number h ps short) 13) ≡ true
+  unfolding gate-number gate-causes refusal cause
+  gate-one-of = go (not (agrees h ps)) short
+    where
+      go : (a b : Bool) → (_≡_ {A = ℕ} (cond a 13 (cond b 12 0)) 0 → ⊥) →
+          (eqb (cond a 13 (cond b 12 0)) 12 || eqb (cond a 13 (cond b 12 0)) 13) ≡ true
+      go true b n = refl
+      go false true n = refl
+      go false false n = absurd (n refl)
+
+  -- the work buffer after the records went out
+  unfoldable pub work-in : List ℕ → List ℕ
+  work-in work = laid-out ps work (records-through h (gate-number h ps short))
+
+  pub through-count : (records-through h (gate-number h ps short) ≤ length ps) × (records-through h (gate-number h ps short) ≤ 4096)
+  unfolding records-through if-taken
+  through-count = go (eqb (gate-number h ps short) 0) refl
+    where
+      go : (t : Bool) → eqb (gate-number h ps short) 0 ≡ t → (cond t (h .m) 0 ≤ length ps) × (cond t (h .m) 0 ≤ 4096)
+      go true e =
+          let a = gate-open (eqb-true _ 0 e) .0 in
+          (held-few h ps a, omega (arith, listed (held-list h ps) (held-is-list h ps a) .short, length-held h ps a))
+      go false e = (omega arith, omega arith)
+
+  module _ (work : List ℕ) (enough : short ≡ false → 16384 ≤ length work) where
+    pub through-room : 2 * records-through h (gate-number h ps short) ≤ length work
+    unfolding records-through if-taken
+    through-room = go (eqb (gate-number h ps short) 0) refl
+      where
+        go : (t : Bool) → eqb (gate-number h ps short) 0 ≡ t → 2 * cond t (h .m) 0 ≤ length work
+        go true e =
+            let o = gate-open (eqb-true _ 0 e) in
+            omega (arith, listed (held-list h ps) (held-is-list h ps (o .0)) .short, length-held h ps (o .0), enough (o .1))
+        go false e = omega arith
+
+    pub length-work-in : length (work-in work) ≡ length work
+    unfolding work-in
+    length-work-in = length-laid-out ps work (records-through h (gate-number h ps short)) (through-count .0) through-room
+
+    -- an open gate: the buffer holds the list
+    pub work-in-list : gate-number h ps short ≡ 0 → word-list h (work-in work) ≡ held-list h ps
+    unfolding word-list held-list work-in records-through if-taken ones-in
+    work-in-list e =
+        rw e
+        (ap (λ (qs : List Lists.Pair). record { n = h .n; pairs = qs })
+        (pairs-laid-out ps work (h .m) (held-few h ps (gate-open e .0)) (replicate (h .m) 1) (λ j l. ones-at (h .m) j l)))
+
+    pub work-in-words : On-words h (gate-number h ps short) (work-in work)
+    work-in-words =
+        record {
+          held = λ e. rw (work-in-list e) (held-is-list h ps (gate-open e .0));
+          long = λ e. omega (arith, length-work-in, enough (gate-open e .1));
+        }
+
+    -- a shut gate: it is untouched
+    pub work-in-shut : (gate-number h ps short ≡ 0 → ⊥) → work-in work ≡ work
+    unfolding work-in records-through if-taken
+    work-in-shut n = rw (ne-eqb (gate-number h ps short) 0 n) (laid-out-none ps work)
+
+    -- zeros in front of it
+    pub work-in-zeroed : in-front (replicate work-words 0) (work-in work) ≡ in-front (replicate work-words 0) work
+    unfolding in-front work-in work-words
+    work-in-zeroed =
+        let k : ℕ = records-through h (gate-number h ps short) in
+        let zs : List ℕ = replicate work-words 0 in
+        let front : length (ends-of (take k ps)) ≡ 2 * k = length-ends-of (take k ps) ∙ ap (λ (i : ℕ). 2 * i) (length-take-le k ps (through-count .0)) in
+        let words : length zs ≡ 16384 = length-replicate {A = ℕ} 16384 0 in
+        let over : length zs ≡ length (ends-of (take k ps)) + (16384 - 2 * k) = omega (arith, through-count .1) in
+        let rest : 2 * k + (16384 - 2 * k) ≡ length zs = omega (arith, through-count .1) in
+        let past : drop (length (ends-of (take k ps)) + (16384 - 2 * k)) (laid-out ps work k) ≡ drop (16384 - 2 * k) (drop (2 * k) work) =
+        unfold laid-out in drop-append-add (ends-of (take k ps)) (drop (2 * k) work) (16384 - 2 * k) in
+        ap (λ (xs : List ℕ). zs ++ xs)
+        (ap (λ (i : ℕ). drop i (laid-out ps work k)) over
+        ∙ past
+        ∙ drop-drop (16384 - 2 * k) (2 * k) work
+        ∙ ap (λ (i : ℕ). drop i work) rest)

@@ -1,0 +1,11 @@
+-- Laws behind the public calls; each file opens with what it gives.
+pub mod Orders
+pub mod Changes
+pub mod Taken
+pub mod Calls
+pub mod Filling
+pub mod Gates
+pub mod Parts
+pub mod Verdicts
+pub mod Judgements
+pub mod Peels

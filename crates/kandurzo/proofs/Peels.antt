@@ -1,0 +1,105 @@
+-- Peel on words: 32-bit numbers in front of local arrays, narrowed to the lent buffers; and the call's promise.
+--   narrowed, narrow-long, narrow-fits    n entries in front of an array, narrowed, stand in front of the buffer
+--   core-numbers-few                      on a list of ones a core number fits 16 bits
+--   peel-enough, peel-call                the call's promise
+-- Assumes nothing.
+use mathlib.Core.Path.{_≡_, refl, sym, ap, _∙_}
+use mathlib.Core.Bool.{Bool, true, false, _||_, cond}
+use mathlib.Core.List.{List, [], _∷_, _++_}
+use Prim.Native.Nat.{ℕ, zero, suc, _+_, _≤_, _<_}
+use native.Mathlib.Omega.{arith}
+use lib.Dec.{eqb}
+use lib.ListN.{length, getD, take, drop, replicate, length-append, List·getD-append}
+use lib.Seq.{take-at}
+use borrow.Author.Tests.{ltb-false, eqb-true, eqb-false, eq-eqb, ne-eqb}
+use Rattle.theory.specs.Lists as Lists
+use Rattle.theory.specs.Lists.{Pairs, pair, is-list}
+use Rattle.theory.specs.Leaving.{leaving}
+use Rattle.theory.specs.Cores.{core-number, core-numbers}
+use Rattle.theory.specs.Words.{word-pair, pairs-in}
+use Rattle.theory.specs.Basics.{table}
+use Rattle.theory.proofs.Bounds.{total, core-number-le}
+use Rattle.theory.proofs.Tables.{length-table}
+use Rattle.pairs.specs.Located.{ones-in}
+use Rattle.pairs.proofs.Weights.{ones-at}
+use Rattle.records.specs.declared.Pair.{Pair}
+use Rattle.records.specs.declared.Head.{Head}
+use Rattle.records.specs.Records.{held-list}
+use Rattle.kandurzo.specs.Listing.{if-taken}
+use Rattle.kandurzo.specs.Edits.{word-list}
+use Rattle.kandurzo.specs.Buffers.{in-front, work-words, work-left}
+use Rattle.kandurzo.specs.Gate.{gate-number}
+use Rattle.kandurzo.specs.Judged.{work-after}
+use Rattle.kandurzo.specs.Peeling.{peel-short, peel-number, Peel-call, Peel-on}
+use Rattle.kandurzo.proofs.Gates.{gate-open, gate-one-of, work-in, work-in-list, work-in-shut, work-in-zeroed}
+use Rattle.kandurzo.proofs.Judgements.{or-none, work-zeros, work-same}
+
+-- ---- narrowing
+
+module _ (n : ℕ) (xs rest new : List ℕ) (long : length xs ≡ n) (is : new ≡ xs ++ rest) where
+  pub narrowed : (to : List ℕ) → take n new ++ drop n to ≡ in-front xs to
+  unfolding in-front
+  narrowed to =
+      ap (λ (ys : List ℕ). take n ys ++ drop n to) is ∙ ap (λ (ys : List ℕ). ys ++ drop n to) (take-at xs rest n long)
+      ∙ ap (λ (i : ℕ). xs ++ drop i to) (sym long)
+
+  pub narrow-long : n ≤ length new
+  narrow-long = omega (arith, ap length is, length-append xs rest)
+
+  pub narrow-fits : (b : ℕ) → ((i : ℕ) → i < n → getD xs i 0 < b) → (i : ℕ) → i < n → getD new i 0 < b
+  narrow-fits b h i l =
+      omega (arith, ap (λ (ys : List ℕ). getD ys i 0) is, List·getD-append xs rest 0 i (omega (arith, long)), h i l)
+
+-- ---- core numbers of a list of ones
+
+total-table : (m : ℕ) (f : ℕ → Lists.Pair) → ((j : ℕ) → j < m → f j .w ≡ 1) → total (table m f) ≡ m
+unfolding total table
+total-table zero f e = refl
+total-table (suc m) f e = omega (arith, e 0 (omega arith), total-table m (λ j. f (suc j)) (λ j l. e (suc j) (omega arith)))
+
+total-ones : (m : ℕ) (ws : List ℕ) → total (ones-in m ws) ≡ m
+unfolding ones-in pairs-in
+total-ones m ws = total-table m (word-pair ws (replicate m 1)) (λ j l. unfold word-pair in ones-at m j l)
+
+pub core-numbers-few : (h : Head) (work : List ℕ) (v : ℕ) → h .m ≤ 4096 → core-number (word-list h work) v < 65536
+unfolding word-list
+core-numbers-few h work v few = omega (arith, core-number-le (word-list h work) v, total-ones (h .m) work)
+
+-- ---- the call
+
+module _ (h : Head) (ps : List Pair) (order cores work : List ℕ) where
+  abbrev short : Bool
+  short = peel-short h (length order) (length cores) (length work)
+
+  pub peel-enough : short ≡ false → (h .n ≤ length order) × (h .n ≤ length cores) × (16384 ≤ length work)
+  unfolding peel-short work-words
+  peel-enough e =
+      let x = or-none _ _ e in
+      let y = or-none _ _ (x .1) in
+      (ltb-false _ _ (x .0), ltb-false _ _ (y .0), ltb-false _ _ (y .1))
+
+  pub peel-call : {order′ cores′ work′ : List ℕ} → Peel-on h (gate-number h ps short) order cores (work-in h ps short work) order′ cores′ work′ →
+      Peel-call h ps order cores work (gate-number h ps short) order′ cores′ work′
+  unfolding peel-number work-after if-taken
+  peel-call {order′} {cores′} {work′} on = go (eqb (gate-number h ps short) 0) refl
+    where
+      go : (t : Bool) → eqb (gate-number h ps short) 0 ≡ t → Peel-call h ps order cores work (gate-number h ps short) order′ cores′ work′
+      go true e =
+          let z : gate-number h ps short ≡ 0 = eqb-true _ 0 e in
+          let same = work-in-list h ps short work (λ f. peel-enough f .2) z in
+          record {
+            number = refl;
+            order-is = rw same at (on .order-is);
+            cores-are = rw same at (on .cores-are);
+            left = on .left ∙ rw e (work-in-zeroed h ps short work (λ f. peel-enough f .2))
+                ∙ sym (work-zeros (gate-number h ps short) work (λ x. omega arith) (λ x. omega arith));
+          }
+      go false e =
+          let n : gate-number h ps short ≡ 0 → ⊥ = eqb-false _ 0 e in
+          record {
+            number = refl;
+            order-is = on .order-is ∙ rw e;
+            cores-are = on .cores-are ∙ rw e;
+            left = on .left ∙ rw e (work-in-shut h ps short work (λ f. peel-enough f .2) n)
+                ∙ sym (work-same (gate-number h ps short) work (gate-one-of h ps short n));
+          }

@@ -1,0 +1,256 @@
+-- What follows where add or remove is taken, and what the lent records then hold.
+--   Add-taken, add-number-none          no cause of add is met
+--   Remove-taken, remove-number-none    nor of remove
+--   as-pairs-back, as-records-back      records and pairs of weight 1 are the same
+--   held-added, held-removed            the held pairs after a taken call
+--   added-agrees, removed-agrees        head and list agree afterwards: 13 never follows a taken call
+--   added-held                          what add accepts is held afterwards, and nothing else changed
+--   add-remove                          a pair added and removed leaves the held records as they were
+--   adds-commute                        two adds that are taken in either order leave the same held records
+--   held-alone                          lists that hold the same pairs have the same held records: the order of arrival leaves no trace
+-- Assumes nothing.
+use mathlib.Core.Path.{_≡_, refl, sym, ap, _∙_}
+use mathlib.Core.Bool.{Bool, true, false, _&&_, _||_, not, cond}
+use mathlib.Core.List.{List, [], _∷_, _++_, map}
+use Prim.Native.Nat.{ℕ, zero, suc, _+_, _-_, _≤_, _<_}
+use native.Mathlib.Omega.{arith}
+use native.Mathlib.Numerals.{add-one}
+use lib.Dec.{leb, eqb}
+use lib.ListN.{length, take, drop, length-map, length-append, length-drop}
+use lib.Seq.{length-take-le, take-at}
+use borrow.Author.Tests.{eqb-true, eqb-false, leb-true, le-leb, not-false, not-true}
+use Rattle.theory.specs.Basics.{all}
+use Rattle.theory.specs.Lists as Lists
+use Rattle.theory.specs.Lists.{Pairs, pair, rising, is-list}
+use Rattle.theory.specs.Refusals.{refusal}
+use Rattle.theory.proofs.Tests.{tests, no}
+use Rattle.theory.proofs.Lists.{listed}
+use Rattle.pairs.specs.Held.{same-ends, is-held, insert-pair, remove-pair, with-pair, without-pair, smaller-first-pair}
+use Rattle.pairs.specs.Causes.{pair-causes}
+use Rattle.pairs.proofs.Causes.{pair-good}
+use Rattle.pairs.proofs.Changes.{insert-length, remove-length, insert-all, remove-all, insert-held, insert-swap, insert-remove}
+use Rattle.pairs.proofs.Order.{same-refl}
+use Rattle.pairs.proofs.Keeps.{insert-list, remove-list, counts-once, ones-alone}
+use Rattle.records.specs.declared.Pair.{Pair}
+use Rattle.records.specs.declared.Head.{Head}
+use Rattle.records.specs.Records.{as-pair, as-pairs, held-list, agrees}
+use Rattle.kandurzo.specs.Listing.{head-of, as-record, as-records, is-full, add-number, added, remove-number, removed}
+use Rattle.kandurzo.proofs.Orders.{add-none, remove-none, remove-taken}
+
+-- ---- what a taken call passed
+
+pub record Add-taken (h : Head) (ps : List Pair) (a b : ℕ) : Type 0 where
+  pub agreed : agrees h ps ≡ true
+  pub fine : refusal (pair-causes (h .n) a b) ≡ 0
+  pub new : is-held (smaller-first-pair a b) (held-list h ps .pairs) ≡ false
+  pub room : is-full h (length ps) ≡ false
+
+pub add-number-none : (h : Head) (ps : List Pair) (a b : ℕ) → add-number h ps a b ≡ 0 → Add-taken h ps a b
+unfolding add-number
+add-number-none h ps a b e =
+    let x = add-none _ (held-list h ps) _ a b e in
+    record { agreed = not-false _ (x .0); fine = unfold held-list in (x .1); new = x .2; room = x .3 }
+
+pub record Remove-taken (h : Head) (ps : List Pair) (a b : ℕ) : Type 0 where
+  pub agreed : agrees h ps ≡ true
+  pub held : is-held (smaller-first-pair a b) (held-list h ps .pairs) ≡ true
+
+pub remove-number-none : (h : Head) (ps : List Pair) (a b : ℕ) → remove-number h ps a b ≡ 0 → Remove-taken h ps a b
+unfolding remove-number
+remove-number-none h ps a b e =
+    let x = remove-none _ (held-list h ps) a b e in
+    record { agreed = not-false _ (x .0); held = x .1 }
+
+-- ---- records and pairs
+
+pub as-records-back : (ps : List Pair) → as-records (as-pairs ps) ≡ ps
+unfolding as-records as-record as-pairs as-pair pair
+as-records-back [] = refl
+as-records-back (p ∷ ps) = ap (λ (qs : List Pair). p ∷ qs) (as-records-back ps)
+
+pub length-as-pairs : (ps : List Pair) → length (as-pairs ps) ≡ length ps
+unfolding as-pairs
+length-as-pairs ps = length-map ps as-pair
+
+pub length-as-records : (ps : List Lists.Pair) → length (as-records ps) ≡ length ps
+unfolding as-records
+length-as-records ps = length-map ps as-record
+
+-- every record's pair counts once
+once-as-pairs : (ps : List Pair) → all counts-once (as-pairs ps) ≡ true
+unfolding all counts-once as-pairs as-pair pair
+once-as-pairs [] = refl
+once-as-pairs (p ∷ ps) = once-as-pairs ps
+
+pub as-pairs-back : (ps : List Lists.Pair) → all counts-once ps ≡ true → as-pairs (as-records ps) ≡ ps
+unfolding all counts-once as-records as-record as-pairs as-pair pair
+as-pairs-back [] e = refl
+as-pairs-back (p ∷ ps) e =
+    let e′ = simp tests at e in
+    let one : p .w ≡ 1 = e′ .0 in
+    let same : _≡_ {A = Lists.Pair} (record { a = p .a; b = p .b; w = 1 }) (record { a = p .a; b = p .b; w = p .w }) = cc in
+    cc (same, as-pairs-back ps (e′ .1))
+
+-- ---- the held pairs
+
+module _ (h : Head) (ps : List Pair) (agreed : agrees h ps ≡ true) where
+  pub held-few : h .m ≤ length ps
+  unfolding agrees
+  held-few = (simp tests at agreed) .0
+
+  pub held-is-list : is-list (held-list h ps) ≡ true
+  unfolding agrees
+  held-is-list = (simp tests at agreed) .1
+
+  pub length-held : length (held-list h ps .pairs) ≡ h .m
+  unfolding held-list
+  length-held = length-as-pairs (take (h .m) ps) ∙ length-take-le (h .m) ps held-few
+
+  pub held-once : all counts-once (held-list h ps .pairs) ≡ true
+  unfolding held-list
+  held-once = once-as-pairs (take (h .m) ps)
+
+  -- the held records are those of the held pairs
+  pub held-records : as-records (held-list h ps .pairs) ≡ take (h .m) ps
+  unfolding held-list
+  held-records = as-records-back (take (h .m) ps)
+
+-- the records of m pairs in front of others: the held pairs are these
+held-front : (n m : ℕ) (qs : List Lists.Pair) (rest : List Pair) → length qs ≡ m → all counts-once qs ≡ true →
+    held-list (head-of n m) (as-records qs ++ rest) ≡ record { n = n; pairs = qs }
+unfolding held-list head-of
+held-front n m qs rest l o =
+    ap (λ (ps : List Pair). record { n = n; pairs = as-pairs ps }) (take-at (as-records qs) rest m (length-as-records qs ∙ l))
+    ∙ ap (λ (ps : List Lists.Pair). record { n = n; pairs = ps }) (as-pairs-back qs o)
+
+agrees-front : (n m : ℕ) (qs : List Lists.Pair) (rest : List Pair) → length qs ≡ m → all counts-once qs ≡ true →
+    is-list (record { n = n; pairs = qs }) ≡ true → agrees (head-of n m) (as-records qs ++ rest) ≡ true
+unfolding agrees
+agrees-front n m qs rest l o e =
+    simp tests (unfold head-of in (omega (arith, length-append (as-records qs) rest, length-as-records qs)), rw (held-front n m qs rest l o) e)
+
+-- ---- after a taken add
+
+module _ (h : Head) (ps : List Pair) (a b : ℕ) (taken : add-number h ps a b ≡ 0) where
+  abbrev new-pair : Lists.Pair
+  new-pair = smaller-first-pair a b
+
+  passed : Add-taken h ps a b
+  passed = add-number-none h ps a b taken
+
+  added-once : all counts-once (insert-pair new-pair (held-list h ps .pairs)) ≡ true
+  added-once = insert-all counts-once new-pair _ (unfold counts-once smaller-first-pair pair in refl) (held-once h ps (passed .agreed))
+
+  added-length : length (insert-pair new-pair (held-list h ps .pairs)) ≡ h .m + 1
+  added-length = omega (arith, insert-length new-pair (held-list h ps .pairs), length-held h ps (passed .agreed))
+
+  -- the list holds the pair, and otherwise what it held
+  pub held-added : held-list (head-of (h .n) (h .m + 1)) (added h ps a b) ≡ with-pair new-pair (held-list h ps)
+  unfolding added with-pair
+  held-added =
+      held-front (h .n) (h .m + 1) (insert-pair new-pair (held-list h ps .pairs)) _ added-length added-once
+      ∙ (unfold held-list in refl)
+
+  not-full-few : h .m < 4096
+  unfolding is-full
+  not-full-few =
+      let l = listed (held-list h ps) (held-is-list h ps (passed .agreed)) in
+      go (eqb (h .m) 4096) refl (omega (arith, l .short, length-held h ps (passed .agreed)))
+    where
+      go : (t : Bool) → eqb (h .m) 4096 ≡ t → h .m ≤ 4096 → h .m < 4096
+      go true e few = no (sym (or-false-left e))
+        where
+          or-false-left : eqb (h .m) 4096 ≡ true → true ≡ false
+          or-false-left x = sym (rw x) ∙ passed .room
+      go false e few = let d : h .m ≡ 4096 → ⊥ = eqb-false (h .m) 4096 e in omega arith
+
+  pub added-list : is-list (with-pair new-pair (held-list h ps)) ≡ true
+  added-list =
+      let good = pair-good (h .n) a b (passed .fine) in
+      insert-list (held-list h ps) new-pair (held-is-list h ps (passed .agreed)) (unfold held-list in (good .0)) (good .1) (good .2) (passed .new)
+      (omega (arith, length-held h ps (passed .agreed), not-full-few))
+
+  -- 13 never follows a taken add
+  pub added-agrees : agrees (head-of (h .n) (h .m + 1)) (added h ps a b) ≡ true
+  unfolding added
+  added-agrees =
+      agrees-front (h .n) (h .m + 1) (insert-pair new-pair (held-list h ps .pairs)) _ added-length added-once
+      (unfold with-pair held-list in added-list)
+
+  -- what add accepts is held afterwards, and nothing else changed
+  pub added-held : (r : Lists.Pair) →
+      is-held r (held-list (head-of (h .n) (h .m + 1)) (added h ps a b) .pairs) ≡ (same-ends r new-pair || is-held r (held-list h ps .pairs))
+  added-held r =
+      ap (λ (g : Pairs). is-held r (g .pairs)) held-added ∙ (unfold with-pair in (insert-held r new-pair (held-list h ps .pairs)))
+
+  -- removing it again is taken, and leaves the held records as they were
+  pub add-remove : (remove-number (head-of (h .n) (h .m + 1)) (added h ps a b) a b ≡ 0)
+      × (take (h .m) (removed (head-of (h .n) (h .m + 1)) (added h ps a b) a b) ≡ take (h .m) ps)
+  unfolding remove-number removed
+  add-remove =
+      let own : is-held new-pair (held-list (head-of (h .n) (h .m + 1)) (added h ps a b) .pairs) ≡ true =
+      added-held new-pair ∙ rw (same-refl new-pair) in
+      let back : remove-pair new-pair (held-list (head-of (h .n) (h .m + 1)) (added h ps a b) .pairs) ≡ held-list h ps .pairs =
+      ap (λ (g : Pairs). remove-pair new-pair (g .pairs)) held-added ∙ (unfold with-pair in (insert-remove new-pair (held-list h ps .pairs))) in (
+        remove-taken _ _ a b (rw added-agrees) (unfold held-list head-of in (passed .fine)) own,
+        rw back (take-at (as-records (held-list h ps .pairs)) _ (h .m) (length-as-records _ ∙ length-held h ps (passed .agreed))
+            ∙ held-records h ps (passed .agreed)),
+      )
+
+-- two adds that are taken one after the other, in either order, leave the same held pairs
+pub adds-commute : (h : Head) (ps : List Pair) (a b c d : ℕ) → add-number h ps a b ≡ 0 → add-number h ps c d ≡ 0 →
+    add-number (head-of (h .n) (h .m + 1)) (added h ps a b) c d ≡ 0 → add-number (head-of (h .n) (h .m + 1)) (added h ps c d) a b ≡ 0 →
+    held-list (head-of (h .n) (h .m + 1 + 1)) (added (head-of (h .n) (h .m + 1)) (added h ps a b) c d)
+    ≡ held-list (head-of (h .n) (h .m + 1 + 1)) (added (head-of (h .n) (h .m + 1)) (added h ps c d) a b)
+unfolding head-of with-pair
+adds-commute h ps a b c d x y z w =
+    let other : same-ends (smaller-first-pair c d) (smaller-first-pair a b) ≡ false =
+    or-fails _ (is-held (smaller-first-pair c d) (held-list h ps .pairs))
+    (sym (added-held h ps a b x (smaller-first-pair c d)) ∙ add-number-none _ _ c d z .new) in
+    held-added (head-of (h .n) (h .m + 1)) (added h ps a b) c d z
+    ∙ ap (with-pair (smaller-first-pair c d)) (held-added h ps a b x)
+    ∙ ap (λ (qs : List Lists.Pair). record { n = held-list h ps .n; pairs = qs })
+    (insert-swap (smaller-first-pair c d) (smaller-first-pair a b) (held-list h ps .pairs) other)
+    ∙ sym (held-added (head-of (h .n) (h .m + 1)) (added h ps c d) a b w
+    ∙ ap (with-pair (smaller-first-pair a b)) (held-added h ps c d y))
+  where
+    or-fails : (s t : Bool) → (s || t) ≡ false → s ≡ false
+    or-fails true t e = e
+    or-fails false t e = refl
+
+-- lists that hold the same pairs have the same held records
+pub held-alone : (h k : Head) (ps qs : List Pair) → agrees h ps ≡ true → agrees k qs ≡ true →
+    ((r : Lists.Pair) → is-held r (held-list h ps .pairs) ≡ is-held r (held-list k qs .pairs)) → take (h .m) ps ≡ take (k .m) qs
+held-alone h k ps qs x y same =
+    sym (held-records h ps x)
+    ∙ ap as-records
+    (ones-alone (held-list h ps .pairs) (held-list k qs .pairs) (listed _ (held-is-list h ps x) .rises) (listed _ (held-is-list k qs y) .rises)
+    (held-once h ps x) (held-once k qs y) same)
+    ∙ held-records k qs y
+
+-- ---- after a taken remove
+
+module _ (h : Head) (ps : List Pair) (a b : ℕ) (taken : remove-number h ps a b ≡ 0) where
+  passed-out : Remove-taken h ps a b
+  passed-out = remove-number-none h ps a b taken
+
+  removed-once : all counts-once (remove-pair (smaller-first-pair a b) (held-list h ps .pairs)) ≡ true
+  removed-once = remove-all counts-once (smaller-first-pair a b) _ (held-once h ps (passed-out .agreed))
+
+  removed-length : length (remove-pair (smaller-first-pair a b) (held-list h ps .pairs)) ≡ h .m - 1
+  removed-length =
+      omega (arith, remove-length (smaller-first-pair a b) (held-list h ps .pairs) (passed-out .held), length-held h ps (passed-out .agreed))
+
+  pub held-removed : held-list (head-of (h .n) (h .m - 1)) (removed h ps a b) ≡ without-pair (smaller-first-pair a b) (held-list h ps)
+  unfolding removed without-pair
+  held-removed =
+      held-front (h .n) (h .m - 1) (remove-pair (smaller-first-pair a b) (held-list h ps .pairs)) _ removed-length removed-once
+      ∙ (unfold held-list in refl)
+
+  -- 13 never follows a taken remove
+  pub removed-agrees : agrees (head-of (h .n) (h .m - 1)) (removed h ps a b) ≡ true
+  unfolding removed
+  removed-agrees =
+      agrees-front (h .n) (h .m - 1) (remove-pair (smaller-first-pair a b) (held-list h ps .pairs)) _ removed-length removed-once
+      (unfold without-pair held-list in
+      (remove-list (held-list h ps) (smaller-first-pair a b) (held-is-list h ps (passed-out .agreed)) (passed-out .held)))

@@ -1,0 +1,21 @@
+-- `check_gate` meets its contract. Assumes nothing.
+use mathlib.Core.Path.{ap, _∙_}
+use mathlib.Core.Bool.{Bool}
+use borrow.Author.Needs.{needs}
+use Rattle.kandurzo.specs.Gate.{gate-of}
+use Rattle.kandurzo.proofs.judging.check_gate.Statement.{statement}
+use Rattle.kandurzo.proofs.judging.check_gate.Tie as tie
+
+check-short-requires : tie.Need-check-short-requires
+check-short-requires c κs = search needs
+
+gate-requires : tie.Need-gate-requires
+gate-requires c κs = search needs
+
+returns : tie.Need-returns
+returns c =
+    let a = c .before .before .args in
+    c .gate .ensures ∙ ap (λ (b : Bool). gate-of (a .head) (a .agreed) b) (c .before .check-short .ensures)
+
+pub check-gate-spec : {M : Type 1} → statement M
+check-gate-spec = tie.close (tie.spec check-short-requires gate-requires returns)

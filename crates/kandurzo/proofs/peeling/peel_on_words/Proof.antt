@@ -1,0 +1,91 @@
+-- `peel_on_words` meets its contract: nothing behind a shut gate; else the list in the parts, and zeros in the end. Assumes nothing.
+use mathlib.Core.Path.{_≡_, refl, sym, ap, _∙_}
+use native.Mathlib.Omega.{arith}
+use borrow.Author.Needs.{needs}
+use borrow.Author.Tests.{eq-eqb, ne-eqb}
+use lib.ListN.{length}
+use denote.Ref.{now}
+use Rattle.kandurzo.specs.Listing.{if-taken}
+use Rattle.kandurzo.specs.Buffers.{filled}
+use Rattle.kandurzo.specs.Judged.{work-after}
+use Rattle.kandurzo.proofs.Parts.{few, room, length-weighed, parts-list, parts-held, weighed-cleared}
+use Rattle.kandurzo.proofs.Peels.{core-numbers-few}
+use Rattle.kandurzo.proofs.peeling.peel_on_words.Statement.{statement}
+use Rattle.kandurzo.proofs.peeling.peel_on_words.Tie as tie
+
+returns : tie.Need-returns
+unfolding work-after if-taken
+returns c = let n = ne-eqb _ 0 (c .if1 .taken) in record { order-is = sym (rw n); cores-are = sym (rw n); left = sym (rw n) }
+
+cast-n : tie.Need-cast-n
+cast-n c = search needs
+
+cast-m : tie.Need-cast-m
+cast-m c = search needs
+
+add-fill : tie.Need-add-fill
+add-fill c = search needs
+
+fill-requires : tie.Need-fill-requires
+fill-requires c κs = (omega arith, room (c .before .before .before .before .before .before .before .args .head) (c .before .before .before .before .before .before .before .args .gate) (now (c .before .before .before .before .before .before .before .args .work)) (c .before .before .before .before .before .before .before .pre .0) (c .before .before .before .if1 .left))
+
+peel-in-requires : tie.Need-peel-in-requires
+peel-in-requires c κs =
+    let w = c .before .before .before .before .before .fill .ensures in
+    let z = c .before .before .before .before .before .before .before .before .before .if1 .left in (
+      rw w (parts-held (c .before .before .before .before .before .before .before .before .before .before .before .before .before .args .head) (c .before .before .before .before .before .before .before .before .before .before .before .before .before .args .gate) (now (c .before .before .before .before .before .before .before .before .before .before .before .before .before .args .work)) (c .before .before .before .before .before .before .before .before .before .before .before .before .before .pre .0) (c .before .before .before .before .before .before .before .before .before .if1 .left)),
+      (
+        few (c .before .before .before .before .before .before .before .before .before .before .before .before .before .args .head) (c .before .before .before .before .before .before .before .before .before .before .before .before .before .args .gate) (now (c .before .before .before .before .before .before .before .before .before .before .before .before .before .args .work)) (c .before .before .before .before .before .before .before .before .before .before .before .before .before .pre .0) (c .before .before .before .before .before .before .before .before .before .if1 .left),
+        (
+          omega (arith, ap length w, length-weighed (c .before .before .before .before .before .before .before .before .before .before .before .before .before .args .head) (c .before .before .before .before .before .before .before .before .before .before .before .before .before .args .gate) (now (c .before .before .before .before .before .before .before .before .before .before .before .before .before .args .work)) (c .before .before .before .before .before .before .before .before .before .before .before .before .before .pre .0) (c .before .before .before .before .before .before .before .before .before .if1 .left), c .before .before .before .before .before .before .before .before .before .before .before .before .before .pre .0 .long z),
+          (
+            c .before .before .before .before .before .before .before .before .before .before .before .before .before .pre .1 z,
+            (
+              c .before .before .before .before .before .before .before .before .before .before .before .before .before .pre .2 z,
+              λ v. rw (w, parts-list (c .before .before .before .before .before .before .before .before .before .before .before .before .before .args .head) (c .before .before .before .before .before .before .before .before .before .before .before .before .before .args .gate) (now (c .before .before .before .before .before .before .before .before .before .before .before .before .before .args .work)) (c .before .before .before .before .before .before .before .before .before .before .before .before .before .pre .0) (c .before .before .before .before .before .before .before .before .before .if1 .left)) (core-numbers-few _ _ v (few (c .before .before .before .before .before .before .before .before .before .before .before .before .before .args .head) (c .before .before .before .before .before .before .before .before .before .before .before .before .before .args .gate) (now (c .before .before .before .before .before .before .before .before .before .before .before .before .before .args .work)) (c .before .before .before .before .before .before .before .before .before .before .before .before .before .pre .0) (c .before .before .before .before .before .before .before .before .before .if1 .left))),
+            ),
+          ),
+        ),
+      ),
+    )
+
+fill-requires-2 : tie.Need-fill-requires-2
+fill-requires-2 c κs =
+    (omega arith, omega (arith, ap length (c .before .before .before .before .before .before .before .before .before .before .before .fill .ensures), length-weighed (c .before .before .before .before .before .before .before .before .before .before .before .before .before .before .before .before .before .before .before .args .head) (c .before .before .before .before .before .before .before .before .before .before .before .before .before .before .before .before .before .before .before .args .gate) (now (c .before .before .before .before .before .before .before .before .before .before .before .before .before .before .before .before .before .before .before .args .work)) (c .before .before .before .before .before .before .before .before .before .before .before .before .before .before .before .before .before .before .before .pre .0) (c .before .before .before .before .before .before .before .before .before .before .before .before .before .before .before .if1 .left), c .before .before .before .before .before .before .before .before .before .before .before .before .before .before .before .before .before .before .before .pre .0 .long (c .before .before .before .before .before .before .before .before .before .before .before .before .before .before .before .if1 .left)))
+
+same-length : tie.Need-same-length
+same-length c = search needs
+
+same-length-2 : tie.Need-same-length-2
+same-length-2 c = search needs
+
+same-length-3 : tie.Need-same-length-3
+same-length-3 c = search needs
+
+returns-2 : tie.Need-returns-2
+unfolding work-after if-taken
+returns-2 c =
+    let w = c .before .before .before .before .before .before .before .before .before .before .before .before .before .before .fill .ensures in
+    let z = eq-eqb _ 0 (c .before .before .before .before .before .before .before .before .before .before .before .before .before .before .before .before .before .before .if1 .left) in
+    let done = rw (w, parts-list (c .before .before .before .before .before .before .before .before .before .before .before .before .before .before .before .before .before .before .before .before .before .before .args .head) (c .before .before .before .before .before .before .before .before .before .before .before .before .before .before .before .before .before .before .before .before .before .before .args .gate) (now (c .before .before .before .before .before .before .before .before .before .before .before .before .before .before .before .before .before .before .before .before .before .before .args .work)) (c .before .before .before .before .before .before .before .before .before .before .before .before .before .before .before .before .before .before .before .before .before .before .pre .0) (c .before .before .before .before .before .before .before .before .before .before .before .before .before .before .before .before .before .before .if1 .left)) at (c .before .before .before .before .before .before .before .before .peel-in .ensures) in
+    record {
+      order-is = done .0 ∙ sym (rw z);
+      cores-are = done .1 ∙ sym (rw z);
+      left = c .before .before .fill2 .ensures ∙ ap (filled 0 16384 0) w ∙ weighed-cleared (c .before .before .before .before .before .before .before .before .before .before .before .before .before .before .before .before .before .before .before .before .before .before .args .head) (c .before .before .before .before .before .before .before .before .before .before .before .before .before .before .before .before .before .before .before .before .before .before .args .gate) (now (c .before .before .before .before .before .before .before .before .before .before .before .before .before .before .before .before .before .before .before .before .before .before .args .work)) (c .before .before .before .before .before .before .before .before .before .before .before .before .before .before .before .before .before .before .before .before .before .before .pre .0) (c .before .before .before .before .before .before .before .before .before .before .before .before .before .before .before .before .before .before .if1 .left) ∙ sym (rw z);
+    }
+
+pub peel-on-words-spec : {M : Type 1} → statement M
+peel-on-words-spec =
+    tie.close
+    (tie.spec
+    returns
+    cast-n
+    cast-m
+    add-fill
+    fill-requires
+    peel-in-requires
+    fill-requires-2
+    same-length
+    same-length-2
+    same-length-3
+    returns-2)

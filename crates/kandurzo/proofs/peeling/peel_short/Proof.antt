@@ -1,0 +1,25 @@
+-- `peel_short` meets its contract. Assumes nothing.
+use borrow.Author.Needs.{needs}
+use borrow.Author.Tests.{lt-ltb, le-ltb}
+use Rattle.kandurzo.specs.Buffers.{work-words}
+use Rattle.kandurzo.specs.Peeling.{peel-short}
+use Rattle.kandurzo.proofs.peeling.peel_short.Statement.{statement}
+use Rattle.kandurzo.proofs.peeling.peel_short.Tie as tie
+
+cast-n : tie.Need-cast-n
+cast-n c = search needs
+
+returns : tie.Need-returns
+unfolding peel-short
+returns c = rw (lt-ltb _ _ (c .if1 .taken))
+
+returns-2 : tie.Need-returns-2
+unfolding peel-short
+returns-2 c = rw (le-ltb _ _ (c .before .if1 .left), lt-ltb _ _ (c .if2 .taken))
+
+returns-3 : tie.Need-returns-3
+unfolding peel-short work-words
+returns-3 c = rw (le-ltb _ _ (c .before .if1 .left), le-ltb _ _ (c .if2 .left))
+
+pub peel-short-spec : {M : Type 1} → statement M
+peel-short-spec = tie.close (tie.spec cast-n returns returns-2 returns-3)

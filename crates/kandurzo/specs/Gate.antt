@@ -1,0 +1,38 @@
+-- The refusals that come first in peel, solve, check and surplus: 13, then 12; and the list in the work buffer once neither holds.
+--   gate-causes, gate-number    13: head and list disagree; 12: a lent buffer is shorter than stated
+--   records-through, gate-of    how many records go out to the work buffer
+--   On-words                    what is known of the work buffer once the records are in it
+-- Assumes nothing: these are definitions.
+use mathlib.Core.Path.{_≡_}
+use mathlib.Core.Bool.{Bool, true, not}
+use mathlib.Core.List.{List, [], _∷_}
+use Prim.Native.Nat.{ℕ, _*_, _≤_}
+use lib.ListN.{length}
+use Rattle.theory.specs.Lists.{is-list}
+use Rattle.theory.specs.Refusals.{Cause, cause, refusal}
+use Rattle.records.specs.declared.Pair.{Pair}
+use Rattle.records.specs.declared.Head.{Head}
+use Rattle.records.specs.Records.{agrees}
+use Rattle.kandurzo.specs.declared.Gate.{Gate}
+use Rattle.kandurzo.specs.Listing.{if-taken}
+use Rattle.kandurzo.specs.Edits.{word-list}
+
+unfoldable pub gate-causes : (disagree short : Bool) → List Cause
+gate-causes d s = cause 13 d ∷ cause 12 s ∷ []
+
+-- 13, 12, or 0
+unfoldable pub gate-number : Head → List Pair → (short : Bool) → ℕ
+gate-number h ps short = refusal (gate-causes (not (agrees h ps)) short)
+
+-- how many records go out to the work buffer: none where the gate refuses
+unfoldable pub records-through : Head → (gate : ℕ) → ℕ
+records-through h k = if-taken k (h .m) 0
+
+-- the number, and how many records go out
+unfoldable pub gate-of : Head → (agreed short : Bool) → Gate
+gate-of h t s = record { number = refusal (gate-causes (not t) s); out = records-through h (refusal (gate-causes (not t) s)) }
+
+-- where the gate is open: the list lies in the first words, of which there are enough
+pub record On-words (h : Head) (gate : ℕ) (work : List ℕ) : Type 0 where
+  pub held : gate ≡ 0 → is-list (word-list h work) ≡ true
+  pub long : gate ≡ 0 → 16384 ≤ length work

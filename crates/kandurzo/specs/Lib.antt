@@ -1,0 +1,8 @@
+-- What the public calls answer and leave behind; each file opens with what it gives.
+pub mod Listing
+pub mod Edits
+pub mod Buffers
+pub mod Gate
+pub mod Peeling
+pub mod Judging
+pub mod Judged

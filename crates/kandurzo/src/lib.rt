@@ -1,0 +1,193 @@
+// The public calls of Kandurzo, over lent records (document 01, "The list and its calls").
+mod buffers;
+mod edits;
+mod judging;
+mod peeling;
+
+ghost use mathlib.Core.Path.{_≡_};
+ghost use Rattle.kandurzo.specs.Listing.{started, changed-to, Add-says, Remove-says};
+ghost use Rattle.kandurzo.specs.Peeling.{Peel-call};
+ghost use Rattle.kandurzo.specs.Judging.{Check-call, Surplus-call};
+use edits::add_on_words;
+use edits::records_out;
+use edits::remove_on_words;
+use judging::check_gate;
+use judging::check_on_words;
+use judging::surplus_gate;
+use judging::surplus_on_words;
+use peeling::peel_gate;
+use peeling::peel_on_words;
+use records::Head;
+use records::Pair;
+use records::agree;
+use records::copy_in;
+use records::copy_out;
+use verify::Difference;
+use verify::Verdict;
+
+// What start, add and remove answer: the refusal number or 0, and the head after the call.
+#[repr(C)]
+pub struct Changed {
+    pub number: u32,
+    pub head: Head,
+}
+
+// A change of the words: the number, the head after it, and how many records come back to the list.
+pub struct Edit {
+    pub number: u32,
+    pub head: Head,
+    pub count: usize,
+}
+
+// What the first two refusals say: 13, 12 or 0, and how many records go out to the work buffer.
+pub struct Gate {
+    pub number: u32,
+    pub out: usize,
+}
+
+// A list of n modules without pairs. Refuses by 2.
+#[no_mangle]
+pub extern "C" fn kandurzo_start(n: u32) -> Changed
+    ensures { λ r. ⌜ r ≡ started n ⌝ }
+{
+    if n < 1 {
+        return Changed {
+            number: 2,
+            head: Head { n: 0, m: 0 },
+        };
+    }
+    if 512 < n {
+        return Changed {
+            number: 2,
+            head: Head { n: 0, m: 0 },
+        };
+    }
+    Changed {
+        number: 0,
+        head: Head { n, m: 0 },
+    }
+}
+
+pub use kandurzo_start as start;
+
+// Adds the pair of modules a and b, in either order. Refuses by 13, 4, 5, 10, 11; head and list are then as before. Costs up to a pass over
+// the list's records out to words and back.
+#[no_mangle]
+pub extern "C" fn kandurzo_add(head: Head, list: &mut [Pair], a: u32, b: u32) -> Changed
+    ensures { λ r. ⌜ Add-says head (now (list .entry)) a b r (now (list .exit)) ⌝ }
+{
+    let agreed = agree(head, list);
+    let mut words = [0u32; 8192];
+    let out = records_out(head, agreed);
+    copy_out(list, &mut words, out);
+    let edit = add_on_words(head, agreed, list.len(), &mut words, a, b);
+    copy_in(list, &words, edit.count);
+    Changed {
+        number: edit.number,
+        head: edit.head,
+    }
+}
+
+pub use kandurzo_add as add;
+
+// Removes the pair of modules a and b, in either order. Refuses by 13, 4, 5, 14; head and list are then as before.
+#[no_mangle]
+pub extern "C" fn kandurzo_remove(head: Head, list: &mut [Pair], a: u32, b: u32) -> Changed
+    ensures { λ r. ⌜ Remove-says head (now (list .entry)) a b r (now (list .exit)) ⌝ }
+{
+    let agreed = agree(head, list);
+    let mut words = [0u32; 8192];
+    let out = records_out(head, agreed);
+    copy_out(list, &mut words, out);
+    let edit = remove_on_words(head, agreed, list.len(), &mut words, a, b);
+    copy_in(list, &words, edit.count);
+    Changed {
+        number: edit.number,
+        head: edit.head,
+    }
+}
+
+pub use kandurzo_remove as remove;
+
+// Adds to the caller's own head and list, and answers the number.
+#[no_mangle]
+pub extern "C" fn kandurzo_add_to(head: &mut Head, list: &mut [Pair], a: u32, b: u32) -> u32
+    ensures { λ r. ⌜ Add-says (now (head .entry)) (now (list .entry)) a b (changed-to r (now (head .exit))) (now (list .exit)) ⌝ }
+{
+    let answer = kandurzo_add(*head, list, a, b);
+    *head = answer.head;
+    answer.number
+}
+
+pub use kandurzo_add_to as add_to;
+
+// Removes from the caller's own head and list, and answers the number.
+#[no_mangle]
+pub extern "C" fn kandurzo_remove_from(head: &mut Head, list: &mut [Pair], a: u32, b: u32) -> u32
+    ensures { λ r. ⌜ Remove-says (now (head .entry)) (now (list .entry)) a b (changed-to r (now (head .exit))) (now (list .exit)) ⌝ }
+{
+    let answer = kandurzo_remove(*head, list, a, b);
+    *head = answer.head;
+    answer.number
+}
+
+pub use kandurzo_remove_from as remove_from;
+
+// Leaving order and core numbers, into the first N entries of the two buffers. Refuses by 13, 12 (order, cores, work).
+#[no_mangle]
+pub extern "C" fn kandurzo_peel(
+    head: Head,
+    list: &[Pair],
+    order: &mut [u16],
+    cores: &mut [u16],
+    work: &mut [u32],
+) -> u32
+    ensures { λ r. ⌜ Peel-call head (now (list .entry)) (now (order .entry)) (now (cores .entry)) (now (work .entry)) r (now (order .exit)) (now (cores .exit)) (now (work .exit)) ⌝ }
+{
+    let agreed = agree(head, list);
+    let gate = peel_gate(head, agreed, order.len(), cores.len(), work.len());
+    copy_out(list, work, gate.out);
+    peel_on_words(head, gate.number, order, cores, work);
+    gate.number
+}
+
+pub use kandurzo_peel as peel;
+
+// Whether the shares are a split at the group's size Q with no load above its inside count P: then no group is denser and no split has a
+// lower greatest load over its share size. Refuses by 13, 12 (members, shares, work), 7, 8, 9.
+#[no_mangle]
+pub extern "C" fn kandurzo_check(
+    head: Head,
+    list: &[Pair],
+    members: &[u8],
+    shares: &[u16],
+    work: &mut [u32],
+) -> Verdict
+    ensures { λ r. ⌜ Check-call head (now (list .entry)) (now (members .entry)) (now (shares .entry)) (now (work .entry)) r (now (work .exit)) ⌝ }
+{
+    let agreed = agree(head, list);
+    let gate = check_gate(head, agreed, members.len(), shares.len(), work.len());
+    copy_out(list, work, gate.out);
+    check_on_words(head, gate.number, members, shares, work)
+}
+
+pub use kandurzo_check as check;
+
+// The surplus of the first group against the second. Refuses by 13, 12 (both sets), 7.
+#[no_mangle]
+pub extern "C" fn kandurzo_surplus(
+    head: Head,
+    list: &[Pair],
+    first: &[u8],
+    second: &[u8],
+) -> Difference
+    ensures { λ r. ⌜ Surplus-call head (now (list .entry)) (now (first .entry)) (now (second .entry)) r ⌝ }
+{
+    let agreed = agree(head, list);
+    let mut words = [0u32; 16384];
+    let gate = surplus_gate(head, agreed, first.len(), second.len());
+    copy_out(list, &mut words, gate.out);
+    surplus_on_words(head, gate.number, &mut words, first, second)
+}
+
+pub use kandurzo_surplus as surplus;

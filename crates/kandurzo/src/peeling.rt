@@ -1,0 +1,83 @@
+// Peel on words: the gate (13, 12), then the list in the work buffer's words, then zeros.
+ghost use mathlib.Core.Path.{_≡_};
+ghost use mathlib.Core.Bool.{true};
+ghost use Prim.Native.Nat.{ℕ, _≤_, _<_};
+ghost use lib.ListN.{length};
+ghost use Rattle.theory.specs.Lists.{is-list};
+ghost use Rattle.theory.specs.Leaving.{leaving};
+ghost use Rattle.theory.specs.Cores.{core-number, core-numbers};
+ghost use Rattle.theory.specs.Words.{list-in};
+ghost use Rattle.kandurzo.specs.Buffers.{in-front};
+ghost use Rattle.kandurzo.specs.Gate.{gate-of, On-words};
+ghost use Rattle.kandurzo.specs.Judged.{ends-part, weights-part};
+ghost use Rattle.kandurzo.specs.Peeling.{peel-short, Peel-on};
+use crate::Gate;
+use crate::buffers::fill;
+use crate::buffers::narrow;
+use crate::judging::gate;
+use peel::peel;
+use records::Head;
+
+fn peel_short(head: Head, order: usize, cores: usize, work: usize) -> bool
+    ensures { λ r. ⌜ r ≡ peel-short head order cores work ⌝ }
+{
+    let n = head.n as usize;
+    if order < n {
+        return true;
+    }
+    if cores < n {
+        return true;
+    }
+    work < 16384
+}
+
+pub fn peel_gate(head: Head, agreed: bool, order: usize, cores: usize, work: usize) -> Gate
+    ensures { λ r. ⌜ r ≡ gate-of head agreed (peel-short head order cores work) ⌝ }
+{
+    gate(head, agreed, peel_short(head, order, cores, work))
+}
+
+// Peel of the list in the words' parts; its 32-bit numbers are narrowed to the buffers' 16.
+fn peel_in(n: usize, m: usize, work: &[u32], order: &mut [u16], cores: &mut [u16])
+    requires { ⌜ is-list (list-in n m (ends-part m (now work)) (weights-part m (now work))) ≡ true ⌝ }
+    requires { ⌜ m ≤ 4096 ⌝ }
+    requires { ⌜ 16384 ≤ length (now work) ⌝ }
+    requires { ⌜ n ≤ length (now order) ⌝ }
+    requires { ⌜ n ≤ length (now cores) ⌝ }
+    requires { ⌜ ((v : ℕ) → core-number (list-in n m (ends-part m (now work)) (weights-part m (now work))) v < 65536) ⌝ }
+    ensures { λ _. ⌜ now (order .exit) ≡ in-front (leaving (list-in n m (ends-part m (now (work .entry))) (weights-part m (now (work .entry))))) (now (order .entry)) ⌝ }
+    ensures { λ _. ⌜ now (cores .exit) ≡ in-front (core-numbers (list-in n m (ends-part m (now (work .entry))) (weights-part m (now (work .entry))))) (now (cores .entry)) ⌝ }
+{
+    let mut leavers = [0u32; 512];
+    let mut numbers = [0u32; 512];
+    let mut places = [0u32; 512];
+    let ends = 2 * m;
+    let weights = 8192 + m;
+    peel(
+        n,
+        m,
+        1,
+        &work[0..ends],
+        &work[8192..weights],
+        &mut leavers,
+        &mut numbers,
+        &mut places,
+    );
+    narrow(&leavers, n, order);
+    narrow(&numbers, n, cores);
+}
+
+// Behind the gate the list's weights are set to 1, and the work buffer is cleared in the end.
+pub fn peel_on_words(head: Head, gate: u32, order: &mut [u16], cores: &mut [u16], work: &mut [u32])
+    requires { ⌜ On-words head gate (now work) × (gate ≡ 0 → head .n ≤ length (now order)) × (gate ≡ 0 → head .n ≤ length (now cores)) ⌝ }
+    ensures { λ _. ⌜ Peel-on head gate (now (order .entry)) (now (cores .entry)) (now (work .entry)) (now (order .exit)) (now (cores .exit)) (now (work .exit)) ⌝ }
+{
+    if gate != 0 {
+        return;
+    }
+    let n = head.n as usize;
+    let m = head.m as usize;
+    fill(work, 8192, 8192 + m, 1);
+    peel_in(n, m, work, order, cores);
+    fill(work, 0, 16384, 0);
+}
