@@ -29,25 +29,34 @@ add-fill : tie.Need-add-fill
 add-fill c = search needs
 
 fill-requires : tie.Need-fill-requires
-fill-requires c κs = (omega arith, room (c .before .before .before .before .before .before .before .args .head) (c .before .before .before .before .before .before .before .args .gate) (now (c .before .before .before .before .before .before .before .args .words)) (c .before .before .before .before .before .before .before .pre .0) (c .before .before .before .if1 .left))
+fill-requires c κs =
+    let a = c .before .before .before .before .before .before .before .args in
+    let h = c .before .before .before .before .before .before .before .pre in
+    let z = c .before .before .before .if1 .left in
+    (omega arith, room (a .head) (a .gate) (now (a .words)) (h .0) z)
 
 surplus-in-requires : tie.Need-surplus-in-requires
 surplus-in-requires c κs =
-    let w = c .before .before .before .fill .ensures in
-    let z = c .before .before .before .before .before .before .before .if1 .left in (
-      rw w (parts-held (c .before .before .before .before .before .before .before .before .before .before .before .args .head) (c .before .before .before .before .before .before .before .before .before .before .before .args .gate) (now (c .before .before .before .before .before .before .before .before .before .before .before .args .words)) (c .before .before .before .before .before .before .before .before .before .before .before .pre .0) (c .before .before .before .before .before .before .before .if1 .left)),
+    let a = c .before .before .before .before .before .before .before .before .before .before .before .args in
+    let h = c .before .before .before .before .before .before .before .before .before .before .before .pre in
+    let z = c .before .before .before .before .before .before .before .if1 .left in
+    let w = c .before .before .before .fill .ensures in (
+      rw w (parts-held (a .head) (a .gate) (now (a .words)) (h .0) z),
       (
-        few (c .before .before .before .before .before .before .before .before .before .before .before .args .head) (c .before .before .before .before .before .before .before .before .before .before .before .args .gate) (now (c .before .before .before .before .before .before .before .before .before .before .before .args .words)) (c .before .before .before .before .before .before .before .before .before .before .before .pre .0) (c .before .before .before .before .before .before .before .if1 .left),
+        few (a .head) (a .gate) (now (a .words)) (h .0) z,
         (
-          omega (arith, ap length w, length-weighed (c .before .before .before .before .before .before .before .before .before .before .before .args .head) (c .before .before .before .before .before .before .before .before .before .before .before .args .gate) (now (c .before .before .before .before .before .before .before .before .before .before .before .args .words)) (c .before .before .before .before .before .before .before .before .before .before .before .pre .0) (c .before .before .before .before .before .before .before .if1 .left), c .before .before .before .before .before .before .before .before .before .before .before .pre .0 .long z),
-          (c .before .before .before .before .before .before .before .before .before .before .before .pre .1 z, c .before .before .before .before .before .before .before .before .before .before .before .pre .2 z),
+          omega (arith, ap length w, length-weighed (a .head) (a .gate) (now (a .words)) (h .0) z, h .0 .long z),
+          (h .1 z, h .2 z),
         ),
       ),
     )
 
 fill-requires-2 : tie.Need-fill-requires-2
 fill-requires-2 c κs =
-    (omega arith, omega (arith, ap length (c .before .before .before .before .before .fill .ensures), length-weighed (c .before .before .before .before .before .before .before .before .before .before .before .before .before .args .head) (c .before .before .before .before .before .before .before .before .before .before .before .before .before .args .gate) (now (c .before .before .before .before .before .before .before .before .before .before .before .before .before .args .words)) (c .before .before .before .before .before .before .before .before .before .before .before .before .before .pre .0) (c .before .before .before .before .before .before .before .before .before .if1 .left), c .before .before .before .before .before .before .before .before .before .before .before .before .before .pre .0 .long (c .before .before .before .before .before .before .before .before .before .if1 .left)))
+    let a = c .before .before .before .before .before .before .before .before .before .before .before .before .before .args in
+    let h = c .before .before .before .before .before .before .before .before .before .before .before .before .before .pre in
+    let z = c .before .before .before .before .before .before .before .before .before .if1 .left in
+    (omega arith, omega (arith, ap length (c .before .before .before .before .before .fill .ensures), length-weighed (a .head) (a .gate) (now (a .words)) (h .0) z, h .0 .long z))
 
 same-length : tie.Need-same-length
 same-length c = search needs
@@ -55,10 +64,13 @@ same-length c = search needs
 returns-2 : tie.Need-returns-2
 unfolding surplus-difference work-after if-taken
 returns-2 c =
-    let w = c .before .before .before .before .before .before .before .before .fill .ensures in
-    let z = eq-eqb _ 0 (c .before .before .before .before .before .before .before .before .before .before .before .before .if1 .left) in (
-      difference-is _ _ _ (rw (w, parts-list (c .before .before .before .before .before .before .before .before .before .before .before .before .before .before .before .before .args .head) (c .before .before .before .before .before .before .before .before .before .before .before .before .before .before .before .before .args .gate) (now (c .before .before .before .before .before .before .before .before .before .before .before .before .before .before .before .before .args .words)) (c .before .before .before .before .before .before .before .before .before .before .before .before .before .before .before .before .pre .0) (c .before .before .before .before .before .before .before .before .before .before .before .before .if1 .left)) at (c .before .before .before .before .surplus-in .ensures)) ∙ sym (rw z),
-      c .before .before .fill2 .ensures ∙ ap (filled 0 16384 0) w ∙ weighed-cleared (c .before .before .before .before .before .before .before .before .before .before .before .before .before .before .before .before .args .head) (c .before .before .before .before .before .before .before .before .before .before .before .before .before .before .before .before .args .gate) (now (c .before .before .before .before .before .before .before .before .before .before .before .before .before .before .before .before .args .words)) (c .before .before .before .before .before .before .before .before .before .before .before .before .before .before .before .before .pre .0) (c .before .before .before .before .before .before .before .before .before .before .before .before .if1 .left) ∙ sym (rw z),
+    let a = c .before .before .before .before .before .before .before .before .before .before .before .before .before .before .before .before .args in
+    let h = c .before .before .before .before .before .before .before .before .before .before .before .before .before .before .before .before .pre in
+    let y = c .before .before .before .before .before .before .before .before .before .before .before .before .if1 .left in
+    let z = eq-eqb _ 0 y in
+    let w = c .before .before .before .before .before .before .before .before .fill .ensures in (
+      difference-is _ _ _ (rw (w, parts-list (a .head) (a .gate) (now (a .words)) (h .0) y) at (c .before .before .before .before .surplus-in .ensures)) ∙ sym (rw z),
+      c .before .before .fill2 .ensures ∙ ap (filled 0 16384 0) w ∙ weighed-cleared (a .head) (a .gate) (now (a .words)) (h .0) y ∙ sym (rw z),
     )
 
 pub surplus-on-words-spec : {M : Type 1} → statement M
