@@ -45,7 +45,7 @@ unfolding table
 table-map zero f g e = refl
 table-map (suc m) f g e = cc (e 0, table-map m (λ j. f (suc j)) (λ j. g (suc j)) (λ j. e (suc j)))
 
-records-ones : (m : ℕ) (ws : List ℕ) → records-in m ws ≡ as-records (ones-in m ws)
+pub records-ones : (m : ℕ) (ws : List ℕ) → records-in m ws ≡ as-records (ones-in m ws)
 unfolding records-in as-records ones-in pairs-in
 records-ones m ws = table-map m (word-pair ws (replicate m 1)) (word-record ws) (λ j. unfold as-record word-pair word-record in refl)
 

@@ -9,3 +9,4 @@ pub mod Parts
 pub mod Verdicts
 pub mod Judgements
 pub mod Peels
+pub mod Readings

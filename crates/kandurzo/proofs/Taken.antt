@@ -116,14 +116,14 @@ module _ (h : Head) (ps : List Pair) (agreed : agrees h ps ≡ true) where
   held-records = as-records-back (take (h .m) ps)
 
 -- the records of m pairs in front of others: the held pairs are these
-held-front : (n m : ℕ) (qs : List Lists.Pair) (rest : List Pair) → length qs ≡ m → all counts-once qs ≡ true →
+pub held-front : (n m : ℕ) (qs : List Lists.Pair) (rest : List Pair) → length qs ≡ m → all counts-once qs ≡ true →
     held-list (head-of n m) (as-records qs ++ rest) ≡ record { n = n; pairs = qs }
 unfolding held-list head-of
 held-front n m qs rest l o =
     ap (λ (ps : List Pair). record { n = n; pairs = as-pairs ps }) (take-at (as-records qs) rest m (length-as-records qs ∙ l))
     ∙ ap (λ (ps : List Lists.Pair). record { n = n; pairs = ps }) (as-pairs-back qs o)
 
-agrees-front : (n m : ℕ) (qs : List Lists.Pair) (rest : List Pair) → length qs ≡ m → all counts-once qs ≡ true →
+pub agrees-front : (n m : ℕ) (qs : List Lists.Pair) (rest : List Pair) → length qs ≡ m → all counts-once qs ≡ true →
     is-list (record { n = n; pairs = qs }) ≡ true → agrees (head-of n m) (as-records qs ++ rest) ≡ true
 unfolding agrees
 agrees-front n m qs rest l o e =

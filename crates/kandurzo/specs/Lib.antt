@@ -1,5 +1,6 @@
 -- What the public calls answer and leave behind; each file opens with what it gives.
 pub mod Listing
+pub mod Reading
 pub mod Edits
 pub mod Buffers
 pub mod Gate

@@ -3,9 +3,11 @@ mod buffers;
 mod edits;
 mod judging;
 mod peeling;
+mod reading;
 
 ghost use mathlib.Core.Path.{_≡_};
 ghost use Rattle.kandurzo.specs.Listing.{started, changed-to, Add-says, Remove-says};
+ghost use Rattle.kandurzo.specs.Reading.{Read-call};
 ghost use Rattle.kandurzo.specs.Peeling.{Peel-call};
 ghost use Rattle.kandurzo.specs.Judging.{Check-call, Surplus-call};
 use edits::add_on_words;
@@ -17,6 +19,8 @@ use judging::surplus_gate;
 use judging::surplus_on_words;
 use peeling::peel_gate;
 use peeling::peel_on_words;
+use reading::clear_words;
+use reading::read_on_words;
 use records::Head;
 use records::Pair;
 use records::agree;
@@ -132,6 +136,23 @@ pub extern "C" fn kandurzo_remove_from(head: &mut Head, list: &mut [Pair], a: u3
 }
 
 pub use kandurzo_remove_from as remove_from;
+
+// Reads a pair file: makes a new head, and writes the first M records in rising order. Refuses by 12 (work), then line by line: 1, 2; 1, 3, 11;
+// 1, 4, 5, 10; 6. A refused file changes nothing.
+#[no_mangle]
+pub extern "C" fn kandurzo_read(bytes: &[u8], list: &mut [Pair], work: &mut [u32]) -> Changed
+    ensures { λ r. ⌜ Read-call (now (bytes .entry)) (now (list .entry)) (now (work .entry)) r (now (list .exit)) (now (work .exit)) ⌝ }
+{
+    let answer = read_on_words(bytes, list.len(), work);
+    copy_in(list, work, answer.count);
+    clear_words(answer.number, work);
+    Changed {
+        number: answer.number,
+        head: answer.head,
+    }
+}
+
+pub use kandurzo_read as read;
 
 // Leaving order and core numbers, into the first N entries of the two buffers. Refuses by 13, 12 (order, cores, work).
 #[no_mangle]

@@ -1,0 +1,4 @@
+-- Flow has the promise that callers go by; Search and Drain say what the functions below it do.
+pub mod Flow
+pub mod Search
+pub mod Drain

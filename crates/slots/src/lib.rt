@@ -1,0 +1,224 @@
+// Units in slots: what the split search moves (document 01, "Words used", split), and how it lies in words.
+//
+// Pair j has two slots, 2j and 2j + 1: ends[s] is a slot's module, hold[s] the units of the pair that it holds. Both ends are alike, so nothing goes
+// by sides. A module's load is its own, which does not move, and the units that it holds. Three arguments are the list: n modules, m pairs, `ends`.
+// `spread` lays out a split, `loads` adds up, `links` chains each module's slots, `shift` moves units (no other function does), `even` balances
+// the loads. Each costs a step for each slot or pair. Nothing is refused: what is asked is in the contracts.
+ghost use mathlib.Core.Path.{_≡_};
+ghost use mathlib.Core.Bool.{_&&_, cond};
+ghost use Prim.Native.Nat.{ℕ, _+_, _*_, _≤_, _<_, min};
+ghost use lib.Dec.{eqb};
+ghost use lib.ListN.{length, getD};
+ghost use Rattle.slots.specs.Slots.{mate, moved, Ends, Room, Own, Loads, Covers, Kept};
+ghost use Rattle.slots.specs.Links.{Linked};
+ghost use Rattle.slots.specs.Split.{Weights, Split};
+
+// A word as an index.
+pub fn wide(x: u32) -> usize
+    ensures { λ r. ⌜ r ≡ x ⌝ }
+{
+    x as usize
+}
+
+// The smaller of two.
+pub fn least(a: u32, b: u32) -> u32
+    ensures { λ r. ⌜ r ≡ min a b ⌝ }
+{
+    if a < b { a } else { b }
+}
+
+// The slot of the pair's other end.
+pub fn other(s: usize) -> usize
+    requires { ⌜ s < 8192 ⌝ }
+    ensures { λ r. ⌜ r ≡ mate s ⌝ }
+{
+    if s % 2 == 0 { s + 1 } else { s - 1 }
+}
+
+// The first n entries become 0; those past them are free.
+pub fn clear(n: usize, xs: &mut [u32])
+    requires { ⌜ n ≤ length (now xs) ⌝ }
+    ensures { λ r. ⌜ ((v : ℕ) → v < n → getD (now (xs .exit)) v 0 ≡ 0) ⌝ }
+{
+    for v in 0..n {
+        xs[v] = 0;
+    }
+}
+
+// The first n entries of xs; those past them are free.
+fn copy(n: usize, xs: &[u32], ys: &mut [u32])
+    requires { ⌜ n ≤ length (now xs) ⌝ }
+    requires { ⌜ n ≤ length (now ys) ⌝ }
+    ensures { λ r. ⌜ ((v : ℕ) → v < n → getD (now (ys .exit)) v 0 ≡ getD (now (xs .entry)) v 0) ⌝ }
+{
+    for v in 0..n {
+        ys[v] = xs[v];
+    }
+}
+
+// Each module's load: its own and what its slots hold.
+pub fn loads(n: usize, m: usize, own: &[u32], ends: &[u32], hold: &[u32], load: &mut [u32])
+    requires { ⌜ Ends n m (now ends) ⌝ }
+    requires { ⌜ Own n (now own) ⌝ }
+    requires { ⌜ Room m (now hold) ⌝ }
+    requires { ⌜ n ≤ length (now load) ⌝ }
+    ensures { λ r. ⌜ Loads n m (now (own .entry)) (now (ends .entry)) (now (hold .entry)) (now (load .exit)) ⌝ }
+{
+    copy(n, own, load);
+    let slots = 2 * m;
+    let mut s = 0;
+    while s < slots {
+        let v = wide(ends[s]);
+        load[v] = load[v] + hold[s];
+        s = s + 1;
+    }
+}
+
+// Chains each module's slots, from its last one back: entries are a slot and 1 more, and 0 ends a chain.
+pub fn links(n: usize, m: usize, ends: &[u32], first: &mut [u32], next: &mut [u32])
+    requires { ⌜ Ends n m (now ends) ⌝ }
+    requires { ⌜ n ≤ length (now first) ⌝ }
+    requires { ⌜ 2 * m ≤ length (now next) ⌝ }
+    ensures { λ r. ⌜ Linked n m (now (ends .entry)) (now (first .exit)) (now (next .exit)) ⌝ }
+{
+    clear(n, first);
+    let slots = 2 * m;
+    let mut s = 0;
+    while s < slots {
+        let v = wide(ends[s]);
+        next[s] = first[v];
+        first[v] = (s + 1) as u32;
+        s = s + 1;
+    }
+}
+
+// Moves d from place i to place j.
+fn carry(i: usize, j: usize, d: u32, xs: &mut [u32])
+    requires { ⌜ i < length (now xs) ⌝ }
+    requires { ⌜ j < length (now xs) ⌝ }
+    requires { ⌜ (i ≡ j → ⊥) ⌝ }
+    requires { ⌜ d ≤ getD (now xs) i 0 ⌝ }
+    requires { ⌜ getD (now xs) j 0 + d < 4294967296 ⌝ }
+    ensures { λ r. ⌜ now (xs .exit) ≡ moved (now (xs .entry)) i j d ⌝ }
+{
+    xs[i] = xs[i] - d;
+    xs[j] = xs[j] + d;
+}
+
+// Moves d units from slot s to the pair's other slot, and the loads with them.
+pub fn shift(n: usize, m: usize, s: usize, d: u32, ends: &[u32], hold: &mut [u32], load: &mut [u32])
+    requires { ⌜ Ends n m (now ends) ⌝ }
+    requires { ⌜ Room m (now hold) ⌝ }
+    requires { ⌜ Covers n m (now ends) (now hold) (now load) ⌝ }
+    requires { ⌜ s < 2 * m ⌝ }
+    requires { ⌜ d ≤ getD (now hold) s 0 ⌝ }
+    ensures { λ r. ⌜ now (hold .exit) ≡ moved (now (hold .entry)) s (mate s) d ⌝ }
+    ensures { λ r. ⌜ now (load .exit) ≡ moved (now (load .entry)) (getD (now (ends .entry)) s 0) (getD (now (ends .entry)) (mate s) 0) d ⌝ }
+{
+    let o = other(s);
+    let u = wide(ends[s]);
+    let v = wide(ends[o]);
+    carry(s, o, d, hold);
+    carry(u, v, d, load);
+}
+
+// Evens out the loads of pair j's two ends, as far as the heavier one holds units of it.
+fn ease(n: usize, m: usize, j: usize, ends: &[u32], hold: &mut [u32], load: &mut [u32])
+    requires { ⌜ Ends n m (now ends) ⌝ }
+    requires { ⌜ Room m (now hold) ⌝ }
+    requires { ⌜ Covers n m (now ends) (now hold) (now load) ⌝ }
+    requires { ⌜ j < m ⌝ }
+    ensures { λ r. ⌜ Kept n m (now (ends .entry)) (now (hold .entry)) (now (load .entry)) (now (hold .exit)) (now (load .exit)) ⌝ }
+{
+    let s = 2 * j;
+    let o = s + 1;
+    let x = load[wide(ends[s])];
+    let y = load[wide(ends[o])];
+    if y < x {
+        let d = least((x - y) / 2, hold[s]);
+        shift(n, m, s, d, ends, hold, load);
+    } else {
+        let d = least((y - x) / 2, hold[o]);
+        shift(n, m, o, d, ends, hold, load);
+    }
+}
+
+// The same for every pair, one after another.
+fn sweep(n: usize, m: usize, ends: &[u32], hold: &mut [u32], load: &mut [u32])
+    requires { ⌜ Ends n m (now ends) ⌝ }
+    requires { ⌜ Room m (now hold) ⌝ }
+    requires { ⌜ Covers n m (now ends) (now hold) (now load) ⌝ }
+    ensures { λ r. ⌜ Kept n m (now (ends .entry)) (now (hold .entry)) (now (load .entry)) (now (hold .exit)) (now (load .exit)) ⌝ }
+{
+    for j in 0..m {
+        ease(n, m, j, ends, hold, load);
+    }
+}
+
+// Balances the loads by a number of sweeps over all pairs. How well is free: whatever units move, they move within pairs.
+pub fn even(n: usize, m: usize, sweeps: usize, ends: &[u32], hold: &mut [u32], load: &mut [u32])
+    requires { ⌜ Ends n m (now ends) ⌝ }
+    requires { ⌜ Room m (now hold) ⌝ }
+    requires { ⌜ Covers n m (now ends) (now hold) (now load) ⌝ }
+    ensures { λ r. ⌜ Kept n m (now (ends .entry)) (now (hold .entry)) (now (load .entry)) (now (hold .exit)) (now (load .exit)) ⌝ }
+{
+    for i in 0..sweeps {
+        sweep(n, m, ends, hold, load);
+    }
+}
+
+// The units of a pair of weight w at share size q: none where an end is outside the scope.
+fn pair_units(w: u32, q: u32, a: u8, b: u8) -> u32
+    requires { ⌜ w ≤ 1000 ⌝ }
+    requires { ⌜ q ≤ 512 ⌝ }
+    ensures { λ r. ⌜ r ≡ cond (eqb a 1 && eqb b 1) (w * q) 0 ⌝ }
+{
+    if a == 1 {
+        if b == 1 {
+            return w * q;
+        }
+    }
+    0
+}
+
+// The part of u units that a pair's first end gets: half of them, or what x at share size `old` is at q. At most all, else free.
+fn first_part(u: u32, q: u32, old: u32, x: u32) -> u32
+    requires { ⌜ q ≤ 512 ⌝ }
+    requires { ⌜ x ≤ 512000 ⌝ }
+    ensures { λ r. ⌜ r ≤ u ⌝ }
+{
+    if old == 0 {
+        return u / 2;
+    }
+    least(x * q / old, u)
+}
+
+// A split at share size q inside the scope: near the one that hold has at share size `old`, or in halves where `old` is 0.
+pub fn spread(
+    n: usize,
+    m: usize,
+    q: u32,
+    old: u32,
+    ends: &[u32],
+    weights: &[u32],
+    scope: &[u8],
+    hold: &mut [u32],
+)
+    requires { ⌜ Ends n m (now ends) ⌝ }
+    requires { ⌜ Weights m (now weights) ⌝ }
+    requires { ⌜ length (now scope) ≡ n ⌝ }
+    requires { ⌜ q ≤ 512 ⌝ }
+    requires { ⌜ Room m (now hold) ⌝ }
+    ensures { λ r. ⌜ Split m q (now (ends .entry)) (now (weights .entry)) (now (scope .entry)) (now (hold .exit)) ⌝ }
+{
+    let mut j = 0;
+    while j < m {
+        let a = wide(ends[2 * j]);
+        let b = wide(ends[2 * j + 1]);
+        let u = pair_units(weights[j], q, scope[a], scope[b]);
+        let x = first_part(u, q, old, hold[2 * j]);
+        hold[2 * j] = x;
+        hold[2 * j + 1] = u - x;
+        j = j + 1;
+    }
+}
