@@ -1,0 +1,80 @@
+-- `check_trials::sheets::share_out` is safe and ends. The buffers keep their lengths. Assumes nothing.
+use mathlib.Core.Path.{_≡_}
+use Prim.Native.Nat.{_-_}
+use lib.ListN.{length}
+use borrow.Author.Needs.{needs}
+use Rattle.check_trials.proofs.sheets.share_out.Statement.{statement}
+use Rattle.check_trials.proofs.sheets.share_out.Tie as tie
+
+abbrev Inv-loop : tie.InvT-loop
+Inv-loop kind q pairs shares₀ m j₀ shares j = length shares ≡ length shares₀
+
+abbrev μ-loop : tie.MeasureT-loop
+μ-loop kind q pairs shares₀ m j₀ shares j = m - j
+
+loop-holds : tie.Need-loop-holds Inv-loop μ-loop
+loop-holds c = search needs
+
+mul-fair-share : tie.Need-mul-fair-share Inv-loop μ-loop
+mul-fair-share c = search needs
+
+mul-fair-share-2 : tie.Need-mul-fair-share-2 Inv-loop μ-loop
+mul-fair-share-2 c = search needs
+
+shared-slice-read-fair-share : tie.Need-shared-slice-read-fair-share Inv-loop μ-loop
+shared-slice-read-fair-share c = search needs
+
+mul-fair-share-3 : tie.Need-mul-fair-share-3 Inv-loop μ-loop
+mul-fair-share-3 c = search needs
+
+add-fair-share : tie.Need-add-fair-share Inv-loop μ-loop
+add-fair-share c = search needs
+
+mul-fair-share-4 : tie.Need-mul-fair-share-4 Inv-loop μ-loop
+mul-fair-share-4 c = search needs
+
+shared-slice-read-fair-share-2 : tie.Need-shared-slice-read-fair-share-2 Inv-loop μ-loop
+shared-slice-read-fair-share-2 c = search needs
+
+fair-share-requires : tie.Need-fair-share-requires Inv-loop μ-loop
+fair-share-requires c κs = search needs
+
+put-share-requires : tie.Need-put-share-requires Inv-loop μ-loop
+put-share-requires c κs = search needs
+
+add-j : tie.Need-add-j Inv-loop μ-loop
+add-j c = search needs
+
+loop-less : tie.Need-loop-less Inv-loop μ-loop
+loop-less c = search needs
+
+loop-again : tie.Need-loop-again Inv-loop μ-loop
+loop-again c = search needs
+
+same-length : tie.Need-same-length Inv-loop μ-loop
+same-length c = search needs
+
+returns : tie.Need-returns Inv-loop μ-loop
+returns c = search needs
+
+pub share-out-spec : {M : Type 1} → statement M
+share-out-spec =
+    tie.close
+    (tie.spec
+    Inv-loop
+    μ-loop
+    loop-holds
+    mul-fair-share
+    mul-fair-share-2
+    shared-slice-read-fair-share
+    mul-fair-share-3
+    add-fair-share
+    mul-fair-share-4
+    shared-slice-read-fair-share-2
+    fair-share-requires
+    put-share-requires
+    add-j
+    loop-less
+    loop-again
+    same-length
+    returns)

@@ -1,0 +1,10 @@
+-- Slots against lists, groups and splits; each file opens with what it gives.
+pub mod Words
+pub mod Units
+pub mod Loads
+pub mod Answers
+pub mod Enough
+pub mod Counts
+pub mod Rounds
+pub mod Sheets
+pub mod Solving

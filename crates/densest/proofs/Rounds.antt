@@ -1,0 +1,128 @@
+-- What a round learns, and what all rounds do.
+--   Bounded, candidate-bounded    a group's inside count and size are small
+--   round-of                      a round, from what `flow` answers
+--   Going, going-on               what holds from round to round
+--   steps, steps-fall             how many rounds are left at most: ratios rise
+-- Assumes nothing.
+use mathlib.Core.Path.{_≡_, refl, sym, ap}
+use mathlib.Core.Bool.{Bool, true, false, cond}
+use mathlib.Core.List.{List}
+use Prim.Native.Nat.{ℕ, suc, _*_, _-_, _/_, _≤_, _<_}
+use native.Mathlib.Omega.{arith}
+use native.Mathlib.Nat.{mul-le-mul-right, div-le-self}
+use lib.ListN.{length, replicate}
+use Rattle.theory.specs.Lists.{Pairs, is-list}
+use Rattle.theory.specs.Groups.{size, is-group, inside}
+use Rattle.theory.specs.Cores.{core}
+use Rattle.theory.specs.Splits.{rounded-up}
+use Rattle.theory.specs.Words.{list-in}
+use Rattle.theory.proofs.Groups.{size-pos, group-bits}
+use Rattle.theory.proofs.Bounds.{inside-bound, size-bound, size-le-length}
+use Rattle.slots.specs.Slots.{Room}
+use Rattle.slots.specs.Split.{Split}
+use Rattle.flow.specs.Flow.{Flowed, Largest}
+use Rattle.peel.specs.Peel.{Held}
+use Rattle.densest.specs.Search.{Candidate, Cored, Linked, Round, Searched}
+use Rattle.densest.proofs.Words.{list-weights}
+use Rattle.densest.proofs.Units.{split-kept, split-room, own-none, zero-at}
+use Rattle.densest.proofs.Answers.{denser-group}
+use Rattle.densest.proofs.Enough.{drained-found, ratio-rises}
+
+pub record Bounded (p q : ℕ) : Type 0 where
+  pub few : p ≤ 4096000
+  pub some : 1 ≤ q
+  pub small : q ≤ 512
+
+pub candidate-bounded : (g : Pairs) (p q : ℕ) → is-list g ≡ true → Candidate g p q → Bounded p q
+candidate-bounded g p q l c = record {
+  few = omega (arith, c .inside-count, inside-bound g (c .members) l);
+  some = omega (arith, c .modules, size-pos g (c .members) (c .group));
+  small = omega (arith, c .modules, size-bound g (c .members) l (c .group));
+}
+
+module _ (n m p q : ℕ) (ends weights : List ℕ) (h : Held n m ends weights) (c : Candidate (list-in n m ends weights) p q) where
+  pub round-of : (k : ℕ) (scope hold hold' t : List ℕ) (r : Bool) → scope ≡ core (list-in n m ends weights) (rounded-up p q) →
+      Split m q ends weights scope hold → Flowed n m p (replicate {A = ℕ} k 0) scope ends hold hold' t r → Round n m p q ends weights scope hold' t r
+  unfolding list-in
+  round-of k scope hold hold' t r e sp f =
+      let own = replicate {A = ℕ} k 0 in
+      let g = list-in n m ends weights in
+      let sp' = split-kept n m q ends weights scope hold sp hold' (f .long) (f .units) in
+      let dg : r ≡ false → _ = λ z.
+      denser-group n m p q own ends weights scope hold' sp' (λ v b. absurd (omega (arith, zero-at k v))) t (f .denser z) in
+      let core-split : Split m q ends weights (core g (rounded-up p q)) hold' = rw e at sp' in
+      record {
+        scope-is = e;
+        split = sp';
+        room = split-room n m q ends weights scope hold' sp' (candidate-bounded g p q (h .listed) c .small) (list-weights n m ends weights (h .listed) (h .weights-long));
+        good = λ z v b. omega (arith, f .good z v b);
+        found = λ z.
+            let lar : Largest n m p own (core g (rounded-up p q)) ends hold' t = rw e at (f .largest z) in
+            drained-found n m p q own ends weights hold' (c .members) t (h .listed) (c .group) (sym (c .inside-count)) (sym (c .modules)) (λ v b. zero-at k v)
+            core-split (f .good z) lar;
+        is-a-group = λ z. dg z .group;
+        denser = λ z. omega (arith, dg z .more, own-none own t (λ v b. zero-at k v));
+      }
+
+-- ---- from round to round
+
+-- p over q is a group's ratio; once a round has found a split, the found group's
+pub record Going (n m : ℕ) (ends weights cores first next scope hold group : List ℕ) (p q : ℕ) (done : Bool) : Type 0 where
+  pub held : Held n m ends weights
+  pub cored : Cored (list-in n m ends weights) cores
+  pub linked : Linked n m first next
+  pub scope-long : length scope ≡ n
+  pub group-long : length group ≡ n
+  pub room : Room m hold
+  pub at-hand : Candidate (list-in n m ends weights) p q
+  pub ended : done ≡ true → Searched n m ends weights hold group p q
+
+-- rounds left at most, by the ratio at n · n
+unfoldable pub steps : (n p q : ℕ) → (done : Bool) → ℕ
+steps n p q done = cond done 0 (suc (4096000 * (n * n) - p * (n * n) / q))
+
+-- the group of a round is a group
+round-group : (n m p q : ℕ) (ends weights scope hold group : List ℕ) (r : Bool) → Round n m p q ends weights scope hold group r →
+    is-group (list-in n m ends weights) group ≡ true
+round-group n m p q ends weights scope hold group true d = d .found refl .group
+round-group n m p q ends weights scope hold group false d = d .is-a-group refl
+
+-- no group has more than n modules
+size-most : (n m : ℕ) (ends weights s : List ℕ) → is-group (list-in n m ends weights) s ≡ true → size s ≤ n
+unfolding list-in
+size-most n m ends weights s h =
+    let b = group-bits (list-in n m ends weights) s h in omega (arith, b .0, size-le-length s (b .1))
+
+module _ (n m : ℕ) (ends weights cores first next scope hold group scope' hold' group' : List ℕ) (p q p' q' : ℕ) (done r : Bool)
+    (s : Going n m ends weights cores first next scope hold group p q done) (d : Round n m p q ends weights scope' hold' group' r)
+    (hp : p' ≡ inside (list-in n m ends weights) group') (hq : q' ≡ size group') where
+  pub going-on : length scope' ≡ n → length group' ≡ n → Going n m ends weights cores first next scope' hold' group' p' q' r
+  going-on ls lg = record {
+    held = s .held;
+    cored = s .cored;
+    linked = s .linked;
+    scope-long = ls;
+    group-long = lg;
+    room = d .room;
+    at-hand = record { members = group'; group = round-group n m p q ends weights scope' hold' group' r d; inside-count = hp; modules = hq };
+    ended = λ e. record { found = d .found e; inside-count = hp; modules = hq; room = d .room };
+  }
+
+  pub steps-fall : done ≡ false → steps n p' q' r < steps n p q done
+  unfolding steps
+  steps-fall e = rw e (go r d)
+    where
+      go : (r : Bool) → Round n m p q ends weights scope' hold' group' r →
+          cond r 0 (suc (4096000 * (n * n) - p' * (n * n) / q')) < suc (4096000 * (n * n) - p * (n * n) / q)
+      go true d = omega arith
+      go false d =
+          let g = list-in n m ends weights in
+          let c = s .at-hand in
+          let gs = d .is-a-group refl in
+          let b = candidate-bounded g p q (s .held .listed) c in
+          let up : p * q' < p' * q =
+          omega (arith, d .denser refl, ap (λ (z : ℕ). p * z) hq, ap (λ (z : ℕ). z * q) hp) in
+          let rise = ratio-rises p q p' q' n (b .some) (omega (arith, size-pos g group' gs))
+          (omega (arith, c .modules, size-most n m ends weights (c .members) (c .group))) (omega (arith, size-most n m ends weights group' gs)) up in
+          let most : p' ≤ 4096000 = omega (arith, inside-bound g group' (s .held .listed)) in
+          omega (arith, rise, div-le-self (p' * (n * n)) q', mul-le-mul-right (n * n) most)

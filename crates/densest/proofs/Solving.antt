@@ -1,0 +1,146 @@
+-- From the leaving order to the answer.
+--   peeled-cored, peeled-candidate, peeled-by-place    what `peel` gives the search
+--   peelable-zeros, room-zeros    buffers of zeros are long enough
+--   searched-bounded              the found group's inside count and size are small
+--   solved-of                     the answer, from the last round; its split search answers true
+--   solves-of                     where it stands in the buffers
+-- Assumes nothing.
+use mathlib.Core.Path.{_≡_, refl, sym, ap, _∙_}
+use mathlib.Core.Bool.{Bool, true, false}
+use mathlib.Core.List.{List, _++_}
+use Prim.Native.Nat.{ℕ, _*_, _≤_, _<_}
+use native.Mathlib.Omega.{arith}
+use lib.Dec.{ltb}
+use lib.ListN.{length, getD, drop, replicate, length-replicate, List·getD-append}
+use lib.Seq.{length-front, length-take-le, take-at, drop-at}
+use Rattle.theory.specs.Basics.{table}
+use Rattle.theory.specs.Lists.{Pairs, is-list}
+use Rattle.theory.specs.Groups.{size, inside, at-most}
+use Rattle.theory.specs.Leaving.{leaving, remainder, before}
+use Rattle.theory.specs.Cores.{core, core-number, core-numbers}
+use Rattle.theory.specs.Splits.{rounded-up}
+use Rattle.theory.specs.Words.{word-pair, pairs-in, list-in}
+use Rattle.theory.specs.Promise.{Found-alone}
+use Rattle.theory.proofs.Tests.{tests}
+use Rattle.theory.proofs.Tables.{length-table, table-at}
+use Rattle.theory.proofs.Lists.{listed}
+use Rattle.theory.proofs.Groups.{found-alone}
+use Rattle.slots.specs.Slots.{mate, Room}
+use Rattle.peel.specs.Peel.{Held, Peelable, Peels}
+use Rattle.peel.specs.Promise.{Peel-promised}
+use Rattle.peel.specs.declared.Remainder.{Remainder}
+use Rattle.peel.proofs.Leavers.{remainder-group}
+use Rattle.peel.proofs.Promises.{peel-promised}
+use Rattle.densest.specs.declared.Solution.{Solution}
+use Rattle.densest.specs.Search.{Candidate, Cored, Round, Searched, sheet-share}
+use Rattle.densest.specs.Solve.{Solved, Solves}
+use Rattle.densest.proofs.Units.{zero-at}
+use Rattle.densest.proofs.Rounds.{Bounded, candidate-bounded}
+use Rattle.densest.proofs.Sheets.{Sheet, sheet-optimal, sheet-outside}
+
+-- ---- the leaving order
+
+module _ (g : Pairs) (l : is-list g ≡ true) (order cores place order' cores' place' : List ℕ) (r : Remainder)
+    (h : Peels g 1 order cores place order' cores' place' r) where
+  pub peeled-cored : length cores' ≡ 512 → Cored g cores'
+  unfolding core-numbers
+  peeled-cored e = record {
+    long = omega (arith, listed g l .few);
+    numbers = λ v b.
+        ap (λ (xs : List ℕ). getD xs v 0) (h .cores-are)
+        ∙ List·getD-append (core-numbers g) (drop (g .n) cores) 0 v (omega (arith, length-table (g .n) (core-number g)))
+        ∙ table-at (g .n) (core-number g) v 0 b;
+  }
+
+  pub peeled-candidate : Candidate g (r .p) (r .q)
+  unfolding Peel-promised
+  peeled-candidate =
+      let k = peel-promised g 1 order cores place order' cores' place' r l (omega arith) (listed g l .some) h in record {
+        members = remainder g (r .at);
+        group = remainder-group g (r .at) (omega (arith, k .rest, k .enough));
+        inside-count = h .p-is;
+        modules = h .q-is;
+      }
+
+  pub peeled-by-place : (a b : ℕ) → a < g .n → b < g .n → before (leaving g) a b ≡ ltb (getD place' a 0) (getD place' b 0)
+  unfolding Peel-promised
+  peeled-by-place = peel-promised g 1 order cores place order' cores' place' r l (omega arith) (listed g l .some) h .by-place
+
+pub peelable-zeros : (n m : ℕ) (ends weights : List ℕ) → Held n m ends weights →
+    Peelable n 1 (replicate {A = ℕ} 512 0) (replicate {A = ℕ} 512 0) (replicate {A = ℕ} 512 0)
+unfolding list-in
+peelable-zeros n m ends weights h =
+    let l = listed (list-in n m ends weights) (h .listed) in
+    record { some = omega arith; few = l .some; order-long = l .few; cores-long = l .few; place-long = l .few }
+
+pub room-zeros : (m k : ℕ) → 2 * m ≤ k → Room m (replicate {A = ℕ} k 0)
+room-zeros m k h = record { long = omega (arith, length-replicate {A = ℕ} k 0); small = λ s l. omega (arith, zero-at k s, zero-at k (mate s)) }
+
+-- ---- the answer
+
+module _ (n m : ℕ) (ends weights : List ℕ) (h : Held n m ends weights) (hold₀ s : List ℕ) (p q : ℕ)
+    (f : Searched n m ends weights hold₀ s p q) where
+  pub searched-candidate : Candidate (list-in n m ends weights) p q
+  searched-candidate = record { members = s; group = f .found .group; inside-count = f .inside-count; modules = f .modules }
+
+  pub searched-bounded : Bounded p q
+  searched-bounded = candidate-bounded (list-in n m ends weights) p q (h .listed) searched-candidate
+
+  -- no group is denser, so the last round finds a split
+  last-true : (scope hold t : List ℕ) (r : Bool) → Round n m p q ends weights scope hold t r → r ≡ true
+  unfolding at-most
+  last-true scope hold t true d = refl
+  last-true scope hold t false d =
+      let g = list-in n m ends weights in
+      absurd (omega (
+        arith,
+        d .denser refl,
+        simp tests at (f .found .greatest t (d .is-a-group refl)),
+        ap (λ (z : ℕ). z * size t) (f .inside-count),
+        ap (λ (z : ℕ). inside g t * z) (f .modules),
+      ))
+
+  pub solved-of : (scope place hold t shares : List ℕ) (r : Bool) (x : Solution) → Round n m p q ends weights scope hold t r →
+      ((a b : ℕ) → a < n → b < n → before (leaving (list-in n m ends weights)) a b ≡ ltb (getD place a 0) (getD place b 0)) →
+      length shares ≡ m → ((j : ℕ) → j < m → getD shares j 0 ≡ sheet-share q ends weights scope place hold j) →
+      x .p ≡ p → x .q ≡ q → x .k ≡ rounded-up p q → x .core ≡ size scope → Solved (list-in n m ends weights) t shares x
+  unfolding Found-alone
+  solved-of scope place hold t shares r x d by long written xp xq xk xc =
+      let g = list-in n m ends weights in
+      let yes = last-true scope hold t r d in
+      let same : s ≡ t = found-alone g s t (h .listed) (f .found) (d .found yes) in
+      let ep : p ≡ inside g t = f .inside-count ∙ ap (inside g) same in
+      let eq : q ≡ size t = f .modules ∙ ap size same in
+      let ek : rounded-up p q ≡ rounded-up (inside g t) (size t) = rw (ep, eq) in
+      let sheet : Sheet n m ends weights scope place hold t shares = record {
+        held = h;
+        found = d .found yes;
+        scope-is = d .scope-is ∙ ap (core g) ek;
+        split = rw eq at (d .split);
+        most = λ v b. omega (arith, d .good yes v b);
+        by-place = by;
+        long = long;
+        written = rw eq at written;
+      } in
+      record {
+        found = d .found yes;
+        optimal = rw (xp, xq, ep, eq) (sheet-optimal n m ends weights scope place hold t shares sheet);
+        outside = rw (xq, eq) (sheet-outside n m ends weights scope place hold t shares sheet);
+        order = xk ∙ ek;
+        core-size = xc ∙ ap size (d .scope-is ∙ ap (core g) (sym xk));
+      }
+
+-- the answer, in buffers that may be longer
+pub solves-of : (n m : ℕ) (ends weights members shares s xs : List ℕ) (x : Solution) → n ≤ length members → m ≤ length shares → length s ≡ n →
+    length xs ≡ m → Solved (list-in n m ends weights) s xs x →
+    Solves (list-in n m ends weights) members shares (s ++ drop n members) (xs ++ drop m shares) x
+unfolding list-in pairs-in
+solves-of n m ends weights members shares s xs x ln lm ls lx d =
+    let few : length (table m (word-pair ends weights)) ≡ m = length-table m (word-pair ends weights) in
+    record {
+      members-long = length-front members s n (ls ∙ sym (length-take-le n members ln));
+      shares-long = length-front shares xs m (lx ∙ sym (length-take-le m shares lm));
+      members-rest = drop-at s (drop n members) n ls;
+      shares-rest = rw few (drop-at xs (drop m shares) m lx);
+      solved = rw (few, take-at s (drop n members) n ls, take-at xs (drop m shares) m lx) d;
+    }

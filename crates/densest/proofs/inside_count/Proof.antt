@@ -1,0 +1,72 @@
+-- `densest::inside_count` meets its contract: the pairs passed are added up. Assumes nothing.
+use native.Mathlib.Omega.{arith}
+use mathlib.Core.Path.{_≡_, _∙_, ap}
+use Prim.Native.Nat.{ℕ, _*_, _-_, _≤_}
+use lib.ListN.{length}
+use Rattle.peel.specs.Peel.{Held}
+use Rattle.peel.proofs.Words.{few-pairs, good-pair}
+use Rattle.densest.proofs.Words.{list-ends}
+use Rattle.densest.proofs.Counts.{counted, counted-none, counted-next, counted-all, pick-le}
+use Rattle.densest.proofs.inside_count.Statement.{statement}
+use Rattle.densest.proofs.inside_count.Tie as tie
+
+abbrev Inv-loop : tie.InvT-loop
+Inv-loop n m ends weights group count₀ j₀ count j =
+    Held n m ends weights × (length group ≡ n) × (j ≤ m) × (count ≤ 1000 * j) × (count ≡ counted j ends weights group)
+
+abbrev μ-loop : tie.MeasureT-loop
+μ-loop n m ends weights group count₀ j₀ count j = m - j
+
+loop-holds : tie.Need-loop-holds Inv-loop μ-loop
+loop-holds c = (c .before .before .before .pre .0, c .before .before .before .pre .1, omega arith, omega arith, counted-none _ _ _)
+
+inner-requires : tie.Need-inner-requires Inv-loop μ-loop
+inner-requires c κs = let i = c .before .loop .inv in (list-ends _ _ _ _ (i .0 .listed) (i .0 .ends-long), (omega arith, i .1))
+
+mul-pick : tie.Need-mul-pick Inv-loop μ-loop
+mul-pick c = let l = c .before .before .loop .inv .0 .weights-long in omega arith
+
+shared-slice-read-pick : tie.Need-shared-slice-read-pick Inv-loop μ-loop
+shared-slice-read-pick c = let l = c .before .before .before .loop .inv .0 .weights-long in omega arith
+
+pick-requires : tie.Need-pick-requires Inv-loop μ-loop
+pick-requires c κs = tt
+
+add-count : tie.Need-add-count Inv-loop μ-loop
+add-count c = let i = c .before .before .before .before .loop .inv in let a = c .before .before .before .before .before .before .before .before .args in
+    omega (arith, few-pairs (a .n) (a .m) (a .ends .now) (a .weights .now) (i .0 .listed), pick-le (c .before .before .inner .result) _ _ (c .pick .ensures) (good-pair (a .n) (a .m) (a .ends .now) (a .weights .now) (i .0 .listed) (c .before .before .before .before .loop .j) (omega arith) .light))
+
+add-j : tie.Need-add-j Inv-loop μ-loop
+add-j c = omega arith
+
+loop-less : tie.Need-loop-less Inv-loop μ-loop
+loop-less c = omega arith
+
+loop-again : tie.Need-loop-again Inv-loop μ-loop
+loop-again c = let i = c .before .before .before .before .loop .inv in
+    let a = c .before .before .before .before .before .before .before .before .args in
+    let l = pick-le (c .before .before .inner .result) _ _ (c .pick .ensures) (good-pair (a .n) (a .m) (a .ends .now) (a .weights .now) (i .0 .listed) (c .before .before .before .before .loop .j) (omega arith) .light) in
+    (i .0, i .1, omega arith, omega arith, counted-next (a .ends .now) (a .weights .now) (a .group .now) (c .before .before .before .before .loop .j) _ _ _ (i .4) (c .before .before .inner .ensures) (c .pick .ensures))
+
+returns : tie.Need-returns Inv-loop μ-loop
+returns c = let i = c .before .loop .inv in
+    let a = c .before .before .before .before .before .args in
+    let e : c .before .loop .j ≡ a .m = omega arith in
+    i .4 ∙ ap (λ (x : ℕ). counted x (a .ends .now) (a .weights .now) (a .group .now)) e ∙ counted-all (a .n) (a .m) (a .ends .now) (a .weights .now) (a .group .now)
+
+pub inside-count-spec : {M : Type 1} → statement M
+inside-count-spec =
+    tie.close
+    (tie.spec
+    Inv-loop
+    μ-loop
+    loop-holds
+    inner-requires
+    mul-pick
+    shared-slice-read-pick
+    pick-requires
+    add-count
+    add-j
+    loop-less
+    loop-again
+    returns)

@@ -1,0 +1,105 @@
+-- `densest::search` meets its contract: from round to round `Going` holds, and `steps` falls. Assumes nothing.
+use mathlib.Core.Path.{_≡_, refl, sym, _∙_}
+use mathlib.Core.Bool.{Bool, true, false, not}
+use lib.ListN.{length}
+use Rattle.theory.specs.Words.{list-in}
+use Rattle.theory.proofs.Lists.{listed}
+use Rattle.theory.proofs.Tests.{no}
+use Rattle.densest.proofs.Rounds.{Going, going-on, steps, steps-fall}
+use Rattle.densest.proofs.search.Statement.{statement}
+use Rattle.densest.proofs.search.Tie as tie
+
+not-true : (b : Bool) → not b ≡ true → b ≡ false
+not-true true e = no e
+not-true false e = refl
+
+not-false : (b : Bool) → not b ≡ false → b ≡ true
+not-false true e = refl
+not-false false e = no (sym e)
+
+abbrev Inv-loop : tie.InvT-loop
+Inv-loop n m p0 q0 ends weights cores first next scope₀ hold₀ group₀ p₀ q₀ old₀ done₀ scope hold group p q old done =
+    Going n m ends weights cores first next scope hold group p q done × (length scope ≡ length scope₀) × (length hold ≡ length hold₀)
+    × (length group ≡ length group₀)
+
+abbrev μ-loop : tie.MeasureT-loop
+μ-loop n m p0 q0 ends weights cores first next scope₀ hold₀ group₀ p₀ q₀ old₀ done₀ scope hold group p q old done = steps n p q done
+
+loop-holds : tie.Need-loop-holds Inv-loop μ-loop
+loop-holds c =
+    let k = c .before .before .before .before .before .before .before .before .pre in (
+      record {
+        held = k .0;
+        cored = k .1 .1 .0;
+        linked = k .1 .1 .1 .0;
+        scope-long = k .1 .1 .1 .1 .0 .0;
+        group-long = k .1 .1 .1 .1 .0 .1;
+        room = k .1 .1 .1 .1 .1;
+        at-hand = k .1 .0;
+        ended = λ e. no e;
+      },
+      refl,
+      refl,
+      refl,
+    )
+
+round-requires : tie.Need-round-requires Inv-loop μ-loop
+round-requires c κs = let i = c .before .before .before .before .loop .inv .0 in (i .held, (i .at-hand, (i .cored, (i .linked, ((i .scope-long, i .group-long), i .room)))))
+
+inside-count-requires : tie.Need-inside-count-requires Inv-loop μ-loop
+inside-count-requires c κs = let i = c .before .before .before .before .before .before .before .before .before .before .before .before .loop .inv .0 in (i .held, c .before .before .before .before .before .before .before .round .kept .1 .1 .1 .1 .1 .1 .1 .1 .1 .1 .1 .1 .0 ∙ i .group-long)
+
+group-size-requires : tie.Need-group-size-requires Inv-loop μ-loop
+unfolding list-in
+group-size-requires c κs =
+    let i = c .before .before .before .before .before .before .before .before .before .before .before .before .before .before .loop .inv .0 in
+    let a = c .before .before .before .before .before .before .before .before .before .before .before .before .before .before .before .before .before .before .before .before .before .before .before .args in
+    (listed (list-in (a .n) (a .m) (a .ends .now) (a .weights .now)) (i .held .listed) .few, c .before .before .before .before .before .before .before .before .before .round .kept .1 .1 .1 .1 .1 .1 .1 .1 .1 .1 .1 .1 .0 ∙ i .group-long)
+
+loop-less : tie.Need-loop-less Inv-loop μ-loop
+loop-less c =
+    let a = c .before .before .before .before .before .before .before .before .before .before .before .before .before .before .before .before .before .before .before .before .before .before .before .before .args in
+    let l = c .before .before .before .before .before .before .before .before .before .before .before .before .before .before .before .loop in
+    steps-fall (a .n) (a .m) (a .ends .now) (a .weights .now) (a .cores .now) (a .first .now) (a .next .now) (l .scope) (l .hold) (l .group) _ _ _
+    (l .p) (l .q) _ _ (l .done) _ (l .inv .0) (c .before .before .before .before .before .before .before .before .before .before .round .ensures) (c .before .before .inside-count .ensures) (c .group-size .ensures) (not-true (l .done) (c .before .before .before .before .before .before .before .before .before .before .before .before .before .before .loop-test .taken))
+
+loop-again : tie.Need-loop-again Inv-loop μ-loop
+loop-again c =
+    let a = c .before .before .before .before .before .before .before .before .before .before .before .before .before .before .before .before .before .before .before .before .before .before .before .before .args in
+    let l = c .before .before .before .before .before .before .before .before .before .before .before .before .before .before .before .loop in (
+      going-on (a .n) (a .m) (a .ends .now) (a .weights .now) (a .cores .now) (a .first .now) (a .next .now) (l .scope) (l .hold) (l .group) _ _ _
+          (l .p) (l .q) _ _ (l .done) _ (l .inv .0) (c .before .before .before .before .before .before .before .before .before .before .round .ensures) (c .before .before .inside-count .ensures) (c .group-size .ensures)
+          (c .before .before .before .before .before .before .before .before .before .before .round .kept .1 .1 .1 .1 .1 .1 .1 .1 .1 .1 .0 ∙ l .inv .0 .scope-long) (c .before .before .before .before .before .before .before .before .before .before .round .kept .1 .1 .1 .1 .1 .1 .1 .1 .1 .1 .1 .1 .0 ∙ l .inv .0 .group-long),
+      c .before .before .before .before .before .before .before .before .before .before .round .kept .1 .1 .1 .1 .1 .1 .1 .1 .1 .1 .0 ∙ l .inv .1,
+      c .before .before .before .before .before .before .before .before .before .before .round .kept .1 .1 .1 .1 .1 .1 .1 .1 .1 .1 .1 .0 ∙ l .inv .2,
+      c .before .before .before .before .before .before .before .before .before .before .round .kept .1 .1 .1 .1 .1 .1 .1 .1 .1 .1 .1 .1 .0 ∙ l .inv .3,
+    )
+
+same-length : tie.Need-same-length Inv-loop μ-loop
+same-length c = c .before .loop .inv .1
+
+same-length-2 : tie.Need-same-length-2 Inv-loop μ-loop
+same-length-2 c = c .before .loop .inv .2
+
+same-length-3 : tie.Need-same-length-3 Inv-loop μ-loop
+same-length-3 c = c .before .loop .inv .3
+
+returns : tie.Need-returns Inv-loop μ-loop
+returns c = c .before .loop .inv .0 .ended (not-false (c .before .loop .done) (c .loop-test .left))
+
+pub search-spec : {M : Type 1} → statement M
+search-spec =
+    tie.close
+    (tie.spec
+    Inv-loop
+    μ-loop
+    loop-holds
+    round-requires
+    inside-count-requires
+    group-size-requires
+    loop-less
+    loop-again
+    same-length
+    same-length-2
+    same-length-3
+    returns)

@@ -1,0 +1,74 @@
+-- `densest::solve` meets its contract. Assumes nothing.
+use mathlib.Core.Path.{sym, _∙_}
+use Prim.Native.Nat.{ℕ, _≤_}
+use lib.ListN.{replicate}
+use lib.Seq.{length-take-le}
+use Rattle.theory.specs.Words.{list-in}
+use Rattle.theory.proofs.Lists.{listed}
+use Rattle.densest.proofs.Solving.{solves-of}
+use borrow.Author.Needs.{needs}
+use Rattle.densest.proofs.solve.Statement.{statement}
+use Rattle.densest.proofs.solve.Tie as tie
+
+few : (s : tie.Start) → s .args .n ≤ 512
+unfolding list-in
+few s = listed (list-in (s .args .n) (s .args .m) (s .args .ends .now) (s .args .weights .now)) (s .pre .0 .listed) .few
+
+array-borrow-prefix-scope : tie.Need-array-borrow-prefix-scope
+array-borrow-prefix-scope c = few (c .before .before .before .before)
+
+slice-aggregate-solve-in : tie.Need-slice-aggregate-solve-in
+slice-aggregate-solve-in c = sym (length-take-le (c .before .before .before .before .before .args .n) (replicate {A = ℕ} 512 0) (few (c .before .before .before .before .before)))
+
+slice-relend-prefix-solve-in : tie.Need-slice-relend-prefix-solve-in
+slice-relend-prefix-solve-in c = search needs
+
+slice-aggregate-solve-in-2 : tie.Need-slice-aggregate-solve-in-2
+slice-aggregate-solve-in-2 c = sym (length-take-le (c .before .before .before .before .before .before .args .n) (c .before .before .before .before .before .before .args .members .now) (c .before .before .before .before .before .before .pre .1 .0))
+
+slice-relend-prefix-solve-in-2 : tie.Need-slice-relend-prefix-solve-in-2
+slice-relend-prefix-solve-in-2 c = search needs
+
+slice-aggregate-solve-in-3 : tie.Need-slice-aggregate-solve-in-3
+slice-aggregate-solve-in-3 c = sym (length-take-le (c .before .before .before .before .before .before .before .args .m) (c .before .before .before .before .before .before .before .args .shares .now) (c .before .before .before .before .before .before .before .pre .1 .1))
+
+solve-in-requires : tie.Need-solve-in-requires
+solve-in-requires c κs =
+    let k = c .before .before .before .before .before .before .before .pre in
+    let a = c .before .before .before .before .before .before .before .args in (
+      k .0,
+      (
+        length-take-le (a .n) (replicate {A = ℕ} 512 0) (few (c .before .before .before .before .before .before .before)),
+        length-take-le (a .n) (a .members .now) (k .1 .0),
+        length-take-le (a .m) (a .shares .now) (k .1 .1),
+      ),
+    )
+
+same-length : tie.Need-same-length
+same-length c = search needs
+
+same-length-2 : tie.Need-same-length-2
+same-length-2 c = search needs
+
+returns : tie.Need-returns
+returns c =
+    let k = c .before .before .before .before .before .before .before .before .before .before .before .before .before .pre in
+    let a = c .before .before .before .before .before .before .before .before .before .before .before .before .before .args in
+    solves-of (a .n) (a .m) (a .ends .now) (a .weights .now) (a .members .now) (a .shares .now) (c .before .before .before .before .before .solve-in .last .1 .1 .1 .1 .1 .0) (c .before .before .before .before .before .solve-in .last .1 .1 .1 .1 .1 .1 .0) _
+    (k .1 .0) (k .1 .1) (c .before .before .before .before .before .solve-in .kept .1 .1 .1 .1 .1 .0 ∙ length-take-le (a .n) (a .members .now) (k .1 .0))
+    (c .before .before .before .before .before .solve-in .kept .1 .1 .1 .1 .1 .1 .0 ∙ length-take-le (a .m) (a .shares .now) (k .1 .1)) (c .before .before .before .before .before .solve-in .ensures)
+
+pub solve-spec : {M : Type 1} → statement M
+solve-spec =
+    tie.close
+    (tie.spec
+    array-borrow-prefix-scope
+    slice-aggregate-solve-in
+    slice-relend-prefix-solve-in
+    slice-aggregate-solve-in-2
+    slice-relend-prefix-solve-in-2
+    slice-aggregate-solve-in-3
+    solve-in-requires
+    same-length
+    same-length-2
+    returns)

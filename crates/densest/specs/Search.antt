@@ -1,0 +1,61 @@
+-- What the functions under `solve` take and leave; only this crate cites it.
+--   Candidate      a group at hand, by its inside count and size
+--   Cored, Linked  buffers that have the core numbers; buffers for the links
+--   Round          what one round learns
+--   Searched       what all rounds learn
+--   sheet-share    a pair's share, from its slots and the leaving places
+-- Assumes nothing: these are definitions.
+use mathlib.Core.Path.{_≡_}
+use mathlib.Core.Bool.{Bool, true, false, cond}
+use mathlib.Core.List.{List}
+use Prim.Native.Nat.{ℕ, _+_, _*_, _≤_, _<_}
+use lib.Dec.{ltb}
+use lib.ListN.{length, getD}
+use Rattle.theory.specs.Lists.{Pairs}
+use Rattle.theory.specs.Groups.{size, is-group, holds-pair, inside, Found}
+use Rattle.theory.specs.Cores.{core, core-number}
+use Rattle.theory.specs.Splits.{units, rounded-up}
+use Rattle.theory.specs.Words.{word-pair, list-in}
+use Rattle.slots.specs.Slots.{held-by, Room}
+use Rattle.slots.specs.Split.{Split}
+
+-- some group of the list has p inside and q modules
+pub record Candidate (g : Pairs) (p q : ℕ) : Type 0 where
+  pub members : List ℕ
+  pub group : is-group g members ≡ true
+  pub inside-count : p ≡ inside g members
+  pub modules : q ≡ size members
+
+-- the first n entries are the core numbers
+pub record Cored (g : Pairs) (cores : List ℕ) : Type 0 where
+  pub long : g .n ≤ length cores
+  pub numbers : (v : ℕ) → v < g .n → getD cores v 0 ≡ core-number g v
+
+-- links are free: they only say where to look first
+pub record Linked (n m : ℕ) (first next : List ℕ) : Type 0 where
+  pub first-long : n ≤ length first
+  pub next-long : 2 * m ≤ length next
+
+-- the scope is the core of p over q rounded up, and hold a split inside it at share size q; true: no load is above p, and the group is the found
+-- group; false: the group is denser than p over q
+pub record Round (n m p q : ℕ) (ends weights scope hold group : List ℕ) (r : Bool) : Type 0 where
+  pub scope-is : scope ≡ core (list-in n m ends weights) (rounded-up p q)
+  pub split : Split m q ends weights scope hold
+  pub room : Room m hold
+  pub good : r ≡ true → (v : ℕ) → v < n → held-by m ends hold v ≤ p
+  pub found : r ≡ true → Found (list-in n m ends weights) group
+  pub is-a-group : r ≡ false → is-group (list-in n m ends weights) group ≡ true
+  pub denser : r ≡ false → p * size group < inside (list-in n m ends weights) group * q
+
+-- the found group, its inside count and its size; where units lie is free
+pub record Searched (n m : ℕ) (ends weights hold group : List ℕ) (p q : ℕ) : Type 0 where
+  pub found : Found (list-in n m ends weights) group
+  pub inside-count : p ≡ inside (list-in n m ends weights) group
+  pub modules : q ≡ size group
+  pub room : Room m hold
+
+-- the share of pair j: what its first slot holds where both its ends are in the scope, else all of it or nothing, by who left first
+unfoldable pub sheet-share : (q : ℕ) → (ends weights scope place hold : List ℕ) → (j : ℕ) → ℕ
+sheet-share q ends weights scope place hold j =
+    cond (holds-pair scope (word-pair ends weights j)) (getD hold (2 * j) 0)
+    (cond (ltb (getD place (getD ends (2 * j) 0) 0) (getD place (getD ends (2 * j + 1) 0) 0)) (units q (word-pair ends weights j)) 0)

@@ -1,0 +1,336 @@
+// The set search (document 01, "The list and its calls", solve), on a held list in words: the found group and its load sheet.
+//
+// It stands above the split search (crate `flow`) and knows only its promise. The densest remainder of the leaving order is the first group at
+// hand. A round asks for a split at the group's size with no load above its inside count, inside the core of the group's ratio rounded up. Where
+// there is none, `flow` hands over a denser group, and the next round starts from that; where there is one, what does not drain is the found
+// group. One round more, at the found group's size, makes the load sheet. (The Dinkelbach iteration for the maximal densest subgraph.)
+// Cost: peeling, and a few rounds; ratios rise from round to round, so the rounds end. Nothing is refused, and 15 never comes.
+ghost use mathlib.Core.Path.{_≡_};
+ghost use mathlib.Core.Bool.{_&&_, cond};
+ghost use Prim.Native.Nat.{ℕ, _+_, _*_, _≤_, _<_};
+ghost use lib.Dec.{leb, ltb, eqb};
+ghost use lib.ListN.{length, getD};
+ghost use Rattle.theory.specs.Basics.{mark};
+ghost use Rattle.theory.specs.Groups.{is-in, inside, size};
+ghost use Rattle.theory.specs.Splits.{rounded-up};
+ghost use Rattle.theory.specs.Words.{list-in};
+ghost use Rattle.slots.specs.Slots.{Ends, Room};
+ghost use Rattle.peel.specs.Peel.{Held};
+ghost use Rattle.densest.specs.Search.{Candidate, Cored, Linked, Round, Searched, sheet-share};
+ghost use Rattle.densest.specs.Solve.{Solved, Solves};
+
+// The found group's inside count p and size q, k = p/q rounded up, and the size of the core of order k.
+pub struct Solution {
+    pub p: u32,
+    pub q: u32,
+    pub k: u32,
+    pub core: u32,
+}
+
+// A group's inside count and size.
+struct Ratio {
+    p: u32,
+    q: u32,
+}
+
+// An entry of the load sheet.
+type Share = u32;
+
+// A word as an index.
+fn wide(x: u32) -> usize
+    ensures { λ r. ⌜ r ≡ x ⌝ }
+{
+    x as usize
+}
+
+// Whether two bytes are member bytes.
+fn both(a: u8, b: u8) -> bool
+    ensures { λ r. ⌜ r ≡ (eqb a 1 && eqb b 1) ⌝ }
+{
+    if a == 1 { b == 1 } else { false }
+}
+
+// x or 0.
+fn pick(c: bool, x: u32) -> u32
+    ensures { λ r. ⌜ r ≡ cond c x 0 ⌝ }
+{
+    if c { x } else { 0 }
+}
+
+// p over q, rounded up.
+fn rounded_up(p: u32, q: u32) -> u32
+    requires { ⌜ (p ≤ 4096000) × (1 ≤ q) × (q ≤ 512) ⌝ }
+    ensures { λ r. ⌜ r ≡ rounded-up p q ⌝ }
+{
+    (p + q - 1) / q
+}
+
+// Whether a core number is k or more, as a byte.
+fn core_byte(k: u32, number: u32) -> u8
+    ensures { λ r. ⌜ r ≡ mark (leb k number) ⌝ }
+{
+    if k <= number { 1 } else { 0 }
+}
+
+// The core of order k.
+fn mark_core(n: usize, k: u32, cores: &[u32], scope: &mut [u8])
+    requires { ⌜ n ≤ length (now cores) ⌝ }
+    requires { ⌜ n ≤ length (now scope) ⌝ }
+    ensures { λ r. ⌜ ((v : ℕ) → v < n → getD (now (scope .exit)) v 0 ≡ mark (leb k (getD (now (cores .entry)) v 0))) ⌝ }
+{
+    for v in 0..n {
+        scope[v] = core_byte(k, cores[v]);
+    }
+}
+
+// The number of modules in a group.
+fn group_size(n: usize, group: &[u8]) -> u32
+    requires { ⌜ (n ≤ 512) × (length (now group) ≡ n) ⌝ }
+    ensures { λ r. ⌜ r ≡ size (now (group .entry)) ⌝ }
+{
+    let mut count = 0;
+    let mut v = 0;
+    while v < n {
+        count = count + (group[v] as u32);
+        v = v + 1;
+    }
+    count
+}
+
+// Whether both ends of pair j are in a group.
+fn inner(n: usize, m: usize, j: usize, ends: &[u32], group: &[u8]) -> bool
+    requires { ⌜ Ends n m (now ends) ⌝ }
+    requires { ⌜ (j < m) × (length (now group) ≡ n) ⌝ }
+    ensures { λ r. ⌜ r ≡ (is-in (now (group .entry)) (getD (now (ends .entry)) (2 * j) 0) && is-in (now (group .entry)) (getD (now (ends .entry)) (2 * j + 1) 0)) ⌝ }
+{
+    let a = wide(ends[2 * j]);
+    let b = wide(ends[2 * j + 1]);
+    both(group[a], group[b])
+}
+
+// Whether the first end of pair j left before the second.
+fn first_left(n: usize, m: usize, j: usize, ends: &[u32], place: &[u32]) -> bool
+    requires { ⌜ Ends n m (now ends) ⌝ }
+    requires { ⌜ (j < m) × (n ≤ length (now place)) ⌝ }
+    ensures { λ r. ⌜ r ≡ ltb (getD (now (place .entry)) (getD (now (ends .entry)) (2 * j) 0) 0) (getD (now (place .entry)) (getD (now (ends .entry)) (2 * j + 1) 0) 0) ⌝ }
+{
+    let a = wide(ends[2 * j]);
+    let b = wide(ends[2 * j + 1]);
+    place[a] < place[b]
+}
+
+// The inside count of a group.
+fn inside_count(n: usize, m: usize, ends: &[u32], weights: &[u32], group: &[u8]) -> u32
+    requires { ⌜ Held n m (now ends) (now weights) ⌝ }
+    requires { ⌜ length (now group) ≡ n ⌝ }
+    ensures { λ r. ⌜ r ≡ inside (list-in n m (now (ends .entry)) (now (weights .entry))) (now (group .entry)) ⌝ }
+{
+    let mut count = 0;
+    let mut j = 0;
+    while j < m {
+        count = count + pick(inner(n, m, j, ends, group), weights[j]);
+        j = j + 1;
+    }
+    count
+}
+
+// One round: a split at share size q inside the core of p over q rounded up, near the one that hold has at share size `old`, and what `flow`
+// makes of it.
+fn round(
+    n: usize,
+    m: usize,
+    p: u32,
+    q: u32,
+    old: u32,
+    ends: &[u32],
+    weights: &[u32],
+    cores: &[u32],
+    first: &[u32],
+    next: &[u32],
+    scope: &mut [u8],
+    hold: &mut [u32],
+    group: &mut [u8],
+) -> bool
+    requires { ⌜ Held n m (now ends) (now weights) ⌝ }
+    requires { ⌜ Candidate (list-in n m (now ends) (now weights)) p q ⌝ }
+    requires { ⌜ Cored (list-in n m (now ends) (now weights)) (now cores) ⌝ }
+    requires { ⌜ Linked n m (now first) (now next) ⌝ }
+    requires { ⌜ (length (now scope) ≡ n) × (length (now group) ≡ n) ⌝ }
+    requires { ⌜ Room m (now hold) ⌝ }
+    ensures { λ r. ⌜ Round n m p q (now (ends .entry)) (now (weights .entry)) (now (scope .exit)) (now (hold .exit)) (now (group .exit)) r ⌝ }
+{
+    let own = [0u32; 512];
+    let k = rounded_up(p, q);
+    mark_core(n, k, cores, scope);
+    slots::spread(n, m, q, old, ends, weights, scope, hold);
+    flow::flow(n, m, p, 2, &own, scope, ends, first, next, hold, group)
+}
+
+// Rounds from a group of inside count p0 and size q0 on, until one finds a split; the found group's inside count and size.
+fn search(
+    n: usize,
+    m: usize,
+    p0: u32,
+    q0: u32,
+    ends: &[u32],
+    weights: &[u32],
+    cores: &[u32],
+    first: &[u32],
+    next: &[u32],
+    scope: &mut [u8],
+    hold: &mut [u32],
+    group: &mut [u8],
+) -> Ratio
+    requires { ⌜ Held n m (now ends) (now weights) ⌝ }
+    requires { ⌜ Candidate (list-in n m (now ends) (now weights)) p0 q0 ⌝ }
+    requires { ⌜ Cored (list-in n m (now ends) (now weights)) (now cores) ⌝ }
+    requires { ⌜ Linked n m (now first) (now next) ⌝ }
+    requires { ⌜ (length (now scope) ≡ n) × (length (now group) ≡ n) ⌝ }
+    requires { ⌜ Room m (now hold) ⌝ }
+    ensures { λ r. ⌜ Searched n m (now (ends .entry)) (now (weights .entry)) (now (hold .exit)) (now (group .exit)) (r .p) (r .q) ⌝ }
+{
+    let mut p = p0;
+    let mut q = q0;
+    let mut old = 0;
+    let mut done = false;
+    while !done {
+        done = round(
+            n,
+            m,
+            p,
+            q,
+            old,
+            ends,
+            weights,
+            cores,
+            first,
+            next,
+            scope,
+            hold,
+            group,
+        );
+        old = q;
+        p = inside_count(n, m, ends, weights, group);
+        q = group_size(n, group);
+    }
+    Ratio { p, q }
+}
+
+// A pair's share: what its first slot holds where both ends are in the core, else all or nothing.
+fn share(inner: bool, held: u32, forced: u32) -> Share
+    ensures { λ r. ⌜ r ≡ cond inner held forced ⌝ }
+{
+    if inner { held } else { forced }
+}
+
+// The load sheet: pairs inside the core as their slots hold it, the others wholly with the end that left first.
+fn write_shares(
+    n: usize,
+    m: usize,
+    q: u32,
+    ends: &[u32],
+    weights: &[u32],
+    scope: &[u8],
+    place: &[u32],
+    hold: &[u32],
+    shares: &mut [Share],
+)
+    requires { ⌜ Held n m (now ends) (now weights) ⌝ }
+    requires { ⌜ q ≤ 512 ⌝ }
+    requires { ⌜ (length (now scope) ≡ n) × (n ≤ length (now place)) ⌝ }
+    requires { ⌜ (2 * m ≤ length (now hold)) × (m ≤ length (now shares)) ⌝ }
+    ensures { λ r. ⌜ ((j : ℕ) → j < m → getD (now (shares .exit)) j 0
+        ≡ sheet-share q (now (ends .entry)) (now (weights .entry)) (now (scope .entry)) (now (place .entry)) (now (hold .entry)) j) ⌝ }
+{
+    for j in 0..m {
+        let forced = pick(first_left(n, m, j, ends, place), weights[j] * q);
+        shares[j] = share(inner(n, m, j, ends, scope), hold[2 * j], forced);
+    }
+}
+
+// Solve, where the buffers are exactly as long as the list; `scope` is for its use.
+fn solve_in(
+    n: usize,
+    m: usize,
+    ends: &[u32],
+    weights: &[u32],
+    scope: &mut [u8],
+    members: &mut [u8],
+    shares: &mut [Share],
+) -> Solution
+    requires { ⌜ Held n m (now ends) (now weights) ⌝ }
+    requires { ⌜ (length (now scope) ≡ n) × (length (now members) ≡ n) × (length (now shares) ≡ m) ⌝ }
+    ensures { λ r. ⌜ Solved (list-in n m (now (ends .entry)) (now (weights .entry))) (now (members .exit)) (now (shares .exit)) r ⌝ }
+{
+    let mut order = [0u32; 512];
+    let mut cores = [0u32; 512];
+    let mut place = [0u32; 512];
+    let mut first = [0u32; 512];
+    let mut next = [0u32; 8192];
+    let mut hold = [0u32; 8192];
+    let start = peel::peel(n, m, 1, ends, weights, &mut order, &mut cores, &mut place);
+    slots::links(n, m, ends, &mut first, &mut next);
+    let best = search(
+        n,
+        m,
+        start.p,
+        start.q,
+        ends,
+        weights,
+        &cores,
+        &first,
+        &next,
+        scope,
+        &mut hold,
+        members,
+    );
+    round(
+        n,
+        m,
+        best.p,
+        best.q,
+        best.q,
+        ends,
+        weights,
+        &cores,
+        &first,
+        &next,
+        scope,
+        &mut hold,
+        members,
+    );
+    write_shares(n, m, best.q, ends, weights, scope, &place, &hold, shares);
+    Solution {
+        p: best.p,
+        q: best.q,
+        k: rounded_up(best.p, best.q),
+        core: group_size(n, scope),
+    }
+}
+
+// The found group's member bytes, a share for each pair, and the numbers of solve's record. Entries past the first n and the first m are as they
+// were.
+pub fn solve(
+    n: usize,
+    m: usize,
+    ends: &[u32],
+    weights: &[u32],
+    members: &mut [u8],
+    shares: &mut [Share],
+) -> Solution
+    requires { ⌜ Held n m (now ends) (now weights) ⌝ }
+    requires { ⌜ (n ≤ length (now members)) × (m ≤ length (now shares)) ⌝ }
+    ensures { λ r. ⌜ Solves (list-in n m (now (ends .entry)) (now (weights .entry))) (now (members .entry)) (now (shares .entry))
+        (now (members .exit)) (now (shares .exit)) r ⌝ }
+{
+    let mut scope = [0u8; 512];
+    solve_in(
+        n,
+        m,
+        ends,
+        weights,
+        &mut scope[..n],
+        &mut members[..n],
+        &mut shares[..m],
+    )
+}

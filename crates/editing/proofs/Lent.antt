@@ -1,0 +1,86 @@
+-- The list that is lent, and what add and remove make of it.
+--   start-list, length-start-list       the records 0,0 that the words are put over; a list that no goal computes
+--   lent-list, lent-as, length-lent     the list that is lent
+--   enough-in, enough-out               what the two copies ask is met
+--   Outcome, add-outcome, remove-outcome   the one answer and the one list that a call's contract allows
+--   through                             the contract of a call on words
+-- Assumes nothing.
+use mathlib.Core.Path.{_≡_, refl, sym, ap, _∙_, subst}
+use Prim.Native.Nat.{ℕ, _+_, _-_, _*_, _<_, _≤_, _^_}
+use native.Mathlib.Omega.{arith}
+use mathlib.Core.List.{List}
+use lib.ListN.{length, getD}
+use lib.Dec.{lit<}
+use denote.Builtin.{u32}
+use denote.Slice.{Room}
+use Rattle.records.specs.declared.Pair.{Pair}
+use Rattle.records.specs.declared.Head.{Head}
+use Rattle.records.specs.Records.{blank, laid-out, put-back, narrow}
+use Rattle.records.proofs.Arrays.{copies, copies-are, length-copies}
+use Rattle.records.proofs.Steps.{Enough, Enough-back}
+use Rattle.records.proofs.Copies.{length-put-back, length-laid-out}
+use Rattle.records.proofs.Pair as P
+use Rattle.kandurzo.specs.declared.Changed.{Changed}
+use Rattle.kandurzo.specs.Listing.{if-taken, head-of, add-number, added, Add-says, remove-number, removed, Remove-says}
+use Rattle.editing.specs.Lent.{Thin, Holds, lent, Through}
+
+abbrev pub start-list : ℕ → List Pair
+start-list len = copies len blank
+
+pub length-start-list : (len : ℕ) → length (start-list len) ≡ len
+length-start-list len = length-copies len blank
+
+-- what a call's contract speaks of: head and list, the pair, the answer, the list after it
+abbrev pub Call : Type 1
+Call = Head → List Pair → ℕ → ℕ → Changed → List Pair → Type 0
+
+-- what a call is: what it answers and leaves, and that its contract allows nothing else
+pub record Outcome (Says : Call) (h : Head) (ps : List Pair) (a b : ℕ) : Type 0 where
+  pub answer : Changed
+  pub left : List Pair
+  pub says : Says h ps a b answer left
+  pub only : (r : Changed) (qs : List Pair) → Says h ps a b r qs → (r ≡ answer) × (qs ≡ left)
+
+pub add-outcome : (h : Head) (ps : List Pair) (a b : ℕ) → Outcome Add-says h ps a b
+add-outcome h ps a b = record {
+  answer = record { number = add-number h ps a b; head = if-taken (add-number h ps a b) (head-of (h .n) (h .m + 1)) h };
+  left = if-taken (add-number h ps a b) (added h ps a b) ps;
+  says = record { number = refl; head = refl; list = refl };
+  only = λ r qs e. (λ i. record { number = e .number i; head = e .head i }, e .list);
+}
+
+pub remove-outcome : (h : Head) (ps : List Pair) (a b : ℕ) → Outcome Remove-says h ps a b
+remove-outcome h ps a b = record {
+  answer = record { number = remove-number h ps a b; head = if-taken (remove-number h ps a b) (head-of (h .n) (h .m - 1)) h };
+  left = if-taken (remove-number h ps a b) (removed h ps a b) ps;
+  says = record { number = refl; head = refl; list = refl };
+  only = λ r qs e. (λ i. record { number = e .number i; head = e .head i }, e .list);
+}
+
+module _ (len : ℕ) (few : len ≤ 4096) (ws : List ℕ) (holds : Holds len ws) where
+  abbrev pub lent-list : List Pair
+  lent-list = put-back (start-list len) ws len
+
+  lent-as : lent-list ≡ lent len ws
+  unfolding lent
+  lent-as = ap {B = List Pair} (λ (l : List Pair). put-back l ws len) (copies-are len blank)
+
+  thin : narrow len ws
+  unfolding narrow Thin
+  thin j l = (holds .thin (2 * j) (omega (arith, l, holds .long)), holds .thin (2 * j + 1) (omega (arith, l, holds .long)))
+
+  pub enough-in : Enough-back (start-list len) ws len
+  enough-in = (omega (arith, length-start-list len), few, omega (arith, holds .long), thin)
+
+  pub length-lent : length lent-list ≡ len
+  length-lent = length-put-back (start-list len) ws len (enough-in .0) ∙ length-start-list len
+
+  pub enough-out : (l : List Pair) → length l ≡ length lent-list → Enough l ws len
+  enough-out l e = (omega (arith, e, length-lent), few, omega (arith, holds .long))
+
+  pub words-long : (l : List Pair) → length l ≡ length lent-list → length (laid-out l ws len) ≡ length ws
+  words-long l e = length-laid-out l ws len (enough-out l e .0) (enough-out l e .2)
+
+  module _ (Says : Call) (h : Head) (a b : ℕ) (o : Outcome Says h lent-list a b) where
+    pub through : Through Says len h ws a b (o .answer) (laid-out (o .left) ws len)
+    through = record { left = o .left; says = subst (λ (l : List Pair). Says h l a b (o .answer) (o .left)) lent-as (o .says); laid = refl }

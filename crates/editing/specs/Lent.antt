@@ -1,0 +1,33 @@
+-- Records kept in words, two a record, and lent to a call as a list.
+--   Thin       the words fit 16 bits
+--   Holds      the words are those of so many records
+--   lent       the list that is lent
+--   Through    what a call says of the list that was lent, with the words after it
+-- Assumes nothing: these are definitions.
+use mathlib.Core.Path.{_≡_}
+use mathlib.Core.List.{List}
+use Prim.Native.Nat.{ℕ, _*_, _<_}
+use lib.ListN.{length, getD, replicate}
+use Rattle.records.specs.declared.Pair.{Pair}
+use Rattle.records.specs.declared.Head.{Head}
+use Rattle.records.specs.Records.{blank, laid-out, put-back}
+use Rattle.kandurzo.specs.declared.Changed.{Changed}
+
+-- each word is one of 16 bits
+unfoldable pub Thin : List ℕ → Type 0
+Thin words = (i : ℕ) → i < length words → getD words i 0 < 65536
+
+-- the words are those of `len` records: two a record
+pub record Holds (len : ℕ) (words : List ℕ) : Type 0 where
+  pub long : length words ≡ 2 * len
+  pub thin : Thin words
+
+-- the list of the records in the words
+unfoldable pub lent : (len : ℕ) → (words : List ℕ) → List Pair
+lent len ws = put-back (replicate len blank) ws len
+
+-- the call says what it says of the list, and the words are then those of the list that it leaves
+pub record Through (Says : Head → List Pair → ℕ → ℕ → Changed → List Pair → Type 0) (len : ℕ) (h : Head) (words : List ℕ) (a b : ℕ) (r : Changed) (after : List ℕ) : Type 0 where
+  pub left : List Pair
+  pub says : Says h (lent len words) a b r left
+  pub laid : after ≡ laid-out left words len

@@ -1,0 +1,2 @@
+-- The facts that the proofs here cite.
+pub mod Held

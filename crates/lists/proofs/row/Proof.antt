@@ -1,0 +1,56 @@
+-- `lists::row` meets its contract. The buffers keep their lengths. Assumes nothing.
+use mathlib.Core.Path.{_≡_}
+use Prim.Native.Nat.{_≤_, _<_, _-_}
+use lib.ListN.{length}
+use borrow.Author.Needs.{needs}
+use Rattle.lists.proofs.row.Statement.{statement}
+use Rattle.lists.proofs.row.Tie as tie
+
+abbrev Inv-loop : tie.InvT-loop
+Inv-loop kind n a ends₀ weights₀ now₀ b₀ ends weights now b = (b ≤ n) × (a < b) × (length ends ≡ length ends₀) × (length weights ≡ length weights₀)
+
+abbrev μ-loop : tie.MeasureT-loop
+μ-loop kind n a ends₀ weights₀ now₀ b₀ ends weights now b = n - b
+
+add-b : tie.Need-add-b Inv-loop μ-loop
+add-b c = search needs
+
+loop-holds : tie.Need-loop-holds Inv-loop μ-loop
+loop-holds c = search needs
+
+step-requires : tie.Need-step-requires Inv-loop μ-loop
+step-requires c κs = search needs
+
+add-b-2 : tie.Need-add-b-2 Inv-loop μ-loop
+add-b-2 c = search needs
+
+loop-less : tie.Need-loop-less Inv-loop μ-loop
+loop-less c = search needs
+
+loop-again : tie.Need-loop-again Inv-loop μ-loop
+loop-again c = search needs
+
+same-length : tie.Need-same-length Inv-loop μ-loop
+same-length c = search needs
+
+same-length-2 : tie.Need-same-length-2 Inv-loop μ-loop
+same-length-2 c = search needs
+
+returns : tie.Need-returns Inv-loop μ-loop
+returns c = search needs
+
+pub row-spec : {M : Type 1} → statement M
+row-spec =
+    tie.close
+    (tie.spec
+    Inv-loop
+    μ-loop
+    add-b
+    loop-holds
+    step-requires
+    add-b-2
+    loop-less
+    loop-again
+    same-length
+    same-length-2
+    returns)

@@ -1,0 +1,2 @@
+-- What the contract of is_held cites.
+pub mod Held
