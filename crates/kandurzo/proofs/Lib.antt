@@ -10,3 +10,5 @@ pub mod Verdicts
 pub mod Judgements
 pub mod Peels
 pub mod Readings
+pub mod Solves
+pub mod Sheets

@@ -7,3 +7,4 @@ pub mod Gate
 pub mod Peeling
 pub mod Judging
 pub mod Judged
+pub mod Solving

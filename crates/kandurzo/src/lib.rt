@@ -4,11 +4,13 @@ mod edits;
 mod judging;
 mod peeling;
 mod reading;
+mod solving;
 
 ghost use mathlib.Core.Path.{_≡_};
 ghost use Rattle.kandurzo.specs.Listing.{started, changed-to, Add-says, Remove-says};
 ghost use Rattle.kandurzo.specs.Reading.{Read-call};
 ghost use Rattle.kandurzo.specs.Peeling.{Peel-call};
+ghost use Rattle.kandurzo.specs.Solving.{Solve-call};
 ghost use Rattle.kandurzo.specs.Judging.{Check-call, Surplus-call};
 use edits::add_on_words;
 use edits::records_out;
@@ -26,6 +28,8 @@ use records::Pair;
 use records::agree;
 use records::copy_in;
 use records::copy_out;
+use solving::solve_gate;
+use solving::solve_on_words;
 use verify::Difference;
 use verify::Verdict;
 
@@ -34,6 +38,18 @@ use verify::Verdict;
 pub struct Changed {
     pub number: u32,
     pub head: Head,
+}
+
+// What solve answers: the refusal number or 0; P and Q, the found group's inside count and size; K, P/Q rounded up; the number of modules in the
+// core of order K; and P divided by Q, rounded once.
+#[repr(C)]
+pub struct Solved {
+    pub number: u32,
+    pub p: u32,
+    pub q: u32,
+    pub k: u32,
+    pub coresize: u32,
+    pub ratio: f64,
 }
 
 // A change of the words: the number, the head after it, and how many records come back to the list.
@@ -173,6 +189,34 @@ pub extern "C" fn kandurzo_peel(
 }
 
 pub use kandurzo_peel as peel;
+
+// The largest group of greatest ratio, by member bytes; the core numbers; and a load sheet: a share for each pair, of a split at share size Q
+// with no load above P. Refuses by 13, 12 (members, cores, shares, work), 15.
+#[no_mangle]
+pub extern "C" fn kandurzo_solve(
+    head: Head,
+    list: &[Pair],
+    members: &mut [u8],
+    cores: &mut [u16],
+    shares: &mut [u16],
+    work: &mut [u32],
+) -> Solved
+    ensures { λ r. ⌜ Solve-call head (now (list .entry)) (now (members .entry)) (now (cores .entry)) (now (shares .entry)) (now (work .entry)) r (now (members .exit)) (now (cores .exit)) (now (shares .exit)) (now (work .exit)) ⌝ }
+{
+    let agreed = agree(head, list);
+    let gate = solve_gate(
+        head,
+        agreed,
+        members.len(),
+        cores.len(),
+        shares.len(),
+        work.len(),
+    );
+    copy_out(list, work, gate.out);
+    solve_on_words(head, gate.number, members, cores, shares, work)
+}
+
+pub use kandurzo_solve as solve;
 
 // Whether the shares are a split at the group's size Q with no load above its inside count P: then no group is denser and no split has a
 // lower greatest load over its share size. Refuses by 13, 12 (members, shares, work), 7, 8, 9.

@@ -1,0 +1,98 @@
+-- Document 01, "Solve": the found group, the core numbers, the load sheet, and the record.
+--   solve-short              12: a lent buffer is shorter than stated
+--   No-split, Unsplit        the condition of 15
+--   Solve-number             13, 12, 15
+--   declined                 the record beside a refusal
+--   Narrow                   numbers that fit 16 bits
+--   Handed                   what is handed out; free are only the shares of pairs inside the core of order K
+--   Solve-call               the call
+--   Solve-on                 the same on words, once the records are out
+--   Records-in-order         two records' floats compare as their ratios do; the theorem is records-in-order
+-- Assumes nothing: these are definitions.
+use mathlib.Core.Path.{_≡_}
+use mathlib.Core.Bool.{Bool, true, _||_}
+use mathlib.Core.List.{List}
+use Prim.Native.Nat.{ℕ, _*_, _≤_, _<_}
+use lib.Dec.{ltb, leb, eqb}
+use lib.ListN.{length, getD, take, drop}
+use lib.Ieee.{lt, le, eq}
+use Rattle.theory.specs.Lists.{Pairs}
+use Rattle.theory.specs.Groups.{size, inside, Densest, Found}
+use Rattle.theory.specs.Cores.{core, core-number, core-numbers}
+use Rattle.theory.specs.Splits.{shares-good, is-split, greatest-load, rounded-up, outside-good}
+use Rattle.theory.specs.Ratio.{float-ratio}
+use Rattle.theory.specs.Promise.{Optimal}
+use Rattle.records.specs.declared.Pair.{Pair}
+use Rattle.records.specs.declared.Head.{Head}
+use Rattle.records.specs.Records.{held-list}
+use Rattle.kandurzo.specs.declared.Solved.{Solved}
+use Rattle.kandurzo.specs.Edits.{word-list}
+use Rattle.kandurzo.specs.Buffers.{in-front, work-words, work-left}
+use Rattle.kandurzo.specs.Gate.{gate-number}
+use Rattle.kandurzo.specs.Judged.{work-after}
+
+-- 12: members or cores shorter than N, shares than M, the work buffer than 16,384
+unfoldable pub solve-short : Head → (members cores shares work : ℕ) → Bool
+solve-short h a c d w = ltb a (h .n) || (ltb c (h .n) || (ltb d (h .m) || ltb w work-words))
+
+-- no split at a group's size keeps all loads at or below its inside count
+unfoldable pub No-split : Pairs → (s : List ℕ) → Type 0
+No-split g s = (xs : List ℕ) → is-split g (size s) xs ≡ true → inside g s < greatest-load g (size s) xs
+
+-- 15: a group than which none is denser, and no such split
+pub record Unsplit (g : Pairs) : Type 0 where
+  pub group : List ℕ
+  pub densest : Densest g group
+  pub no-split : No-split g group
+
+-- 13 and 12 stand first; then 15 exactly where its condition holds
+pub record Solve-number (gate : ℕ) (g : Pairs) (number : ℕ) : Type 0 where
+  pub first : (gate ≡ 0 → ⊥) → number ≡ gate
+  pub unsplit : gate ≡ 0 → Unsplit g → number ≡ 15
+  pub taken : gate ≡ 0 → (Unsplit g → ⊥) → number ≡ 0
+
+-- beside a refusal the other fields are 0, the ratio +0.0
+unfoldable pub declined : (number : ℕ) → Solved
+declined k = record { number = k; p = 0; q = 0; k = 0; coresize = 0; ratio = float-ratio 0 1 }
+
+-- a list whose core numbers, and shares at up to 512 modules, fit the buffers' 16 bits
+pub record Narrow (g : Pairs) : Type 0 where
+  pub cores : (v : ℕ) → core-number g v < 65536
+  pub shares : (q : ℕ) (xs : List ℕ) (j : ℕ) → q ≤ 512 → shares-good q (g .pairs) xs ≡ true → getD xs j 0 < 65536
+
+-- in front of the buffers stand the found group's member bytes, the core numbers and a share for each pair; entries past them are as before
+pub record Handed (g : Pairs) (members cores shares : List ℕ) (r : Solved) (members′ cores′ shares′ : List ℕ) : Type 0 where
+  pub members-rest : drop (g .n) members′ ≡ drop (g .n) members
+  pub cores-are : cores′ ≡ in-front (core-numbers g) cores
+  pub shares-rest : drop (length (g .pairs)) shares′ ≡ drop (length (g .pairs)) shares
+  -- the largest group of greatest ratio
+  pub found : Found g (take (g .n) members′)
+  -- P and Q are the group's; the greatest load at share size Q is exactly P; both are the best of all groups and of all splits
+  pub optimal : Optimal g (take (g .n) members′) (take (length (g .pairs)) shares′) (r .p) (r .q)
+  -- K = P/Q rounded up, and the number of modules in the core of order K
+  pub order : r .k ≡ rounded-up (r .p) (r .q)
+  pub core-size : r .coresize ≡ size (core g (r .k))
+  -- a pair with an end outside that core goes wholly to the end that left first
+  pub outside : outside-good g (r .k) (r .q) (g .pairs) (take (length (g .pairs)) shares′) ≡ true
+  -- P divided by Q, rounded once
+  pub float : r .ratio ≡ float-ratio (r .p) (r .q)
+
+-- what solve answers, and the lent buffers after it
+pub record Solve-call (h : Head) (ps : List Pair) (members cores shares work : List ℕ) (r : Solved) (members′ cores′ shares′ work′ : List ℕ) : Type 0 where
+  pub number : Solve-number (gate-number h ps (solve-short h (length members) (length cores) (length shares) (length work))) (held-list h ps) (r .number)
+  pub handed : r .number ≡ 0 → Handed (held-list h ps) members cores shares r members′ cores′ shares′
+  pub refused : (r .number ≡ 0 → ⊥) → (r ≡ declined (r .number)) × (members′ ≡ members) × (cores′ ≡ cores) × (shares′ ≡ shares)
+  pub left : work′ ≡ work-left (r .number) work
+
+-- on words: behind the gate, with the work buffer cleared
+pub record Solve-on (h : Head) (gate : ℕ) (members cores shares work : List ℕ) (r : Solved) (members′ cores′ shares′ work′ : List ℕ) : Type 0 where
+  pub number : r .number ≡ gate
+  pub handed : gate ≡ 0 → Handed (word-list h work) members cores shares r members′ cores′ shares′
+  pub refused : (gate ≡ 0 → ⊥) → (r ≡ declined gate) × (members′ ≡ members) × (cores′ ≡ cores) × (shares′ ≡ shares)
+  pub left : work′ ≡ work-after gate work
+
+-- <, ≤ and = of two records' floats are those of the cross products
+pub record Records-in-order (r s : Solved) : Type 0 where
+  pub less : lt (r .ratio) (s .ratio) ≡ ltb (r .p * s .q) (s .p * r .q)
+  pub at-most : le (r .ratio) (s .ratio) ≡ leb (r .p * s .q) (s .p * r .q)
+  pub equal : eq (r .ratio) (s .ratio) ≡ eqb (r .p * s .q) (s .p * r .q)

@@ -1,0 +1,156 @@
+// Solve on words: the gate (13, 12), then the list in the work buffer's words, then zeros. 15 never comes.
+ghost use mathlib.Core.Path.{_≡_};
+ghost use mathlib.Core.Bool.{true};
+ghost use Prim.Native.Nat.{_≤_};
+ghost use lib.ListN.{length};
+ghost use Rattle.theory.specs.Lists.{is-list};
+ghost use Rattle.theory.specs.Ratio.{float-ratio};
+ghost use Rattle.theory.specs.Words.{list-in};
+ghost use Rattle.densest.specs.Solve.{Solves};
+ghost use Rattle.kandurzo.specs.Gate.{gate-of, On-words};
+ghost use Rattle.kandurzo.specs.Judged.{ends-part, weights-part};
+ghost use Rattle.kandurzo.specs.Solving.{solve-short, declined, Narrow, Handed, Solve-on};
+use crate::Gate;
+use crate::Solved;
+use crate::buffers::fill;
+use crate::buffers::narrow;
+use crate::judging::gate;
+use crate::peeling::peel_in;
+use densest::Solution;
+use densest::solve;
+use records::Head;
+
+fn solve_short(head: Head, members: usize, cores: usize, shares: usize, work: usize) -> bool
+    ensures { λ r. ⌜ r ≡ solve-short head members cores shares work ⌝ }
+{
+    let n = head.n as usize;
+    if members < n {
+        return true;
+    }
+    if cores < n {
+        return true;
+    }
+    if shares < head.m as usize {
+        return true;
+    }
+    work < 16384
+}
+
+pub fn solve_gate(
+    head: Head,
+    agreed: bool,
+    members: usize,
+    cores: usize,
+    shares: usize,
+    work: usize,
+) -> Gate
+    ensures { λ r. ⌜ r ≡ gate-of head agreed (solve-short head members cores shares work) ⌝ }
+{
+    gate(
+        head,
+        agreed,
+        solve_short(head, members, cores, shares, work),
+    )
+}
+
+// P divided by Q, rounded once: a float holds both numbers exactly.
+fn ratio(p: u32, q: u32) -> f64
+    requires { ⌜ 1 ≤ q ⌝ }
+    ensures { λ r. ⌜ r ≡ float-ratio p q ⌝ }
+{
+    (p as f64) / (q as f64)
+}
+
+// The record beside a refusal.
+fn refused(number: u32) -> Solved
+    ensures { λ r. ⌜ r ≡ declined number ⌝ }
+{
+    Solved {
+        number,
+        p: 0,
+        q: 0,
+        k: 0,
+        coresize: 0,
+        ratio: 0.0,
+    }
+}
+
+// The group and the load sheet of the list in the words' parts; shares are narrowed to the buffer's 16 bits.
+fn sheet_in(n: usize, m: usize, work: &[u32], members: &mut [u8], shares: &mut [u16]) -> Solution
+    requires { ⌜ is-list (list-in n m (ends-part m (now work)) (weights-part m (now work))) ≡ true ⌝ }
+    requires { ⌜ m ≤ 4096 ⌝ }
+    requires { ⌜ 16384 ≤ length (now work) ⌝ }
+    requires { ⌜ n ≤ length (now members) ⌝ }
+    requires { ⌜ m ≤ length (now shares) ⌝ }
+    requires { ⌜ Narrow (list-in n m (ends-part m (now work)) (weights-part m (now work))) ⌝ }
+    ensures { λ r. ⌜ Solves (list-in n m (ends-part m (now (work .entry))) (weights-part m (now (work .entry)))) (now (members .entry)) (now (shares .entry)) (now (members .exit)) (now (shares .exit)) r ⌝ }
+{
+    let mut sheet = [0u32; 4096];
+    let ends = 2 * m;
+    let weights = 8192 + m;
+    let found = solve(
+        n,
+        m,
+        &work[0..ends],
+        &work[8192..weights],
+        members,
+        &mut sheet,
+    );
+    narrow(&sheet, m, shares);
+    found
+}
+
+// Core numbers, group and load sheet of the list in the words' parts, and the record.
+fn solve_in(
+    n: usize,
+    m: usize,
+    work: &[u32],
+    members: &mut [u8],
+    cores: &mut [u16],
+    shares: &mut [u16],
+) -> Solved
+    requires { ⌜ is-list (list-in n m (ends-part m (now work)) (weights-part m (now work))) ≡ true ⌝ }
+    requires { ⌜ m ≤ 4096 ⌝ }
+    requires { ⌜ 16384 ≤ length (now work) ⌝ }
+    requires { ⌜ n ≤ length (now members) ⌝ }
+    requires { ⌜ n ≤ length (now cores) ⌝ }
+    requires { ⌜ m ≤ length (now shares) ⌝ }
+    requires { ⌜ Narrow (list-in n m (ends-part m (now work)) (weights-part m (now work))) ⌝ }
+    ensures { λ r. ⌜ (r .number ≡ 0) × Handed (list-in n m (ends-part m (now (work .entry))) (weights-part m (now (work .entry)))) (now (members .entry)) (now (cores .entry)) (now (shares .entry)) r (now (members .exit)) (now (cores .exit)) (now (shares .exit)) ⌝ }
+{
+    let mut order = [0u16; 512];
+    peel_in(n, m, work, &mut order, cores);
+    let found = sheet_in(n, m, work, members, shares);
+    let ratio = ratio(found.p, found.q);
+    Solved {
+        number: 0,
+        p: found.p,
+        q: found.q,
+        k: found.k,
+        coresize: found.core,
+        ratio,
+    }
+}
+
+// Behind the gate the list's weights are set to 1, and the work buffer is cleared in the end.
+pub fn solve_on_words(
+    head: Head,
+    gate: u32,
+    members: &mut [u8],
+    cores: &mut [u16],
+    shares: &mut [u16],
+    work: &mut [u32],
+) -> Solved
+    requires { ⌜ On-words head gate (now work) × (gate ≡ 0 → head .n ≤ length (now members)) × (gate ≡ 0 → head .n ≤ length (now cores)) × (gate ≡ 0 → head .m ≤ length (now shares)) ⌝ }
+    ensures { λ r. ⌜ Solve-on head gate (now (members .entry)) (now (cores .entry)) (now (shares .entry)) (now (work .entry)) r (now (members .exit)) (now (cores .exit)) (now (shares .exit)) (now (work .exit)) ⌝ }
+{
+    if gate != 0 {
+        return refused(gate);
+    }
+    let n = head.n as usize;
+    let m = head.m as usize;
+    fill(work, 8192, 8192 + m, 1);
+    let found = solve_in(n, m, work, members, cores, shares);
+    fill(work, 0, 16384, 0);
+    found
+}
