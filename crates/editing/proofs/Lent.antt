@@ -61,7 +61,7 @@ module _ (len : ℕ) (few : len ≤ 4096) (ws : List ℕ) (holds : Holds len ws)
   abbrev pub lent-list : List Pair
   lent-list = put-back (start-list len) ws len
 
-  lent-as : lent-list ≡ lent len ws
+  pub lent-as : lent-list ≡ lent len ws
   unfolding lent
   lent-as = ap {B = List Pair} (λ (l : List Pair). put-back l ws len) (copies-are len blank)
 

@@ -3,14 +3,17 @@
 ghost use mathlib.Core.Path.{_≡_};
 ghost use mathlib.Core.Bool.{true};
 ghost use Rattle.kandurzo.specs.Listing.{Add-says, Remove-says};
-ghost use Rattle.editing.specs.Lent.{Thin, Holds, Through};
+ghost use Rattle.kandurzo.specs.Judging.{Check-call};
+ghost use Rattle.editing.specs.Lent.{Thin, Holds, lent, Through};
 use kandurzo::Changed;
 use kandurzo::add;
+use kandurzo::check;
 use kandurzo::remove;
 use records::Head;
 use records::Pair;
 use records::copy_in;
 use records::copy_out;
+use verify::Verdict;
 
 // add on the 4,096 records that the words hold.
 pub fn add_4096(head: Head, words: &mut [u32], a: u32, b: u32) -> Changed
@@ -60,6 +63,23 @@ pub fn remove_100(head: Head, words: &mut [u32], a: u32, b: u32) -> Changed
     answer
 }
 
+// check on the 4,096 records that the words hold.
+pub fn check_4096(
+    head: Head,
+    words: &[u32],
+    members: &[u8],
+    shares: &[u16],
+    work: &mut [u32],
+) -> Verdict
+    requires { ⌜ Holds 4096 (now words) ⌝ }
+    ensures { λ r. ⌜ Check-call head (lent 4096 (now (words .entry))) (now (members .entry)) (now (shares .entry)) (now (work .entry)) r
+        (now (work .exit)) ⌝ }
+{
+    let mut list = [Pair { a: 0, b: 0 }; 4096];
+    copy_in(&mut list, words, 4096);
+    check(head, &list, members, shares, work)
+}
+
 // Whether every word is one of 16 bits.
 fn thin(words: &[u32]) -> bool
     ensures { λ r. ⌜ (r ≡ true → Thin (now (words .entry))) ⌝ }
@@ -105,4 +125,29 @@ pub fn remove_words(head: Head, words: &mut [u32], a: u32, b: u32) -> Changed {
         return remove_100(head, words, a, b);
     }
     unlent(head)
+}
+
+// check on a list of as many records as the words hold.
+pub fn check_lent(
+    head: Head,
+    words: &[u32],
+    members: &[u8],
+    shares: &[u16],
+    work: &mut [u32],
+) -> Verdict {
+    if !thin(words) {
+        return Verdict {
+            number: 99,
+            p: 0,
+            q: 0,
+        };
+    }
+    if words.len() != 8192 {
+        return Verdict {
+            number: 99,
+            p: 0,
+            q: 0,
+        };
+    }
+    check_4096(head, words, members, shares, work)
 }

@@ -1,0 +1,388 @@
+// Solve against a plain second computation (module `plain`) that tries every subset: group, P, Q, K and core size of every list on up to 5
+// modules and of thousands of lists of up to 12 modules; and the sheet of each put to check. Then lists of 512 modules and up to 4,096 pairs of
+// several kinds: K and core size, and the sheet put to check. Prints a line for each kind: lists tried and their pairs, how many of them words
+// did not hold, and how many answers differ. Then answers with one thing altered, each of which must differ; a sheet with no pairs has no share
+// to alter.
+mod plain;
+
+use densest::Solution;
+use lists::Kind;
+use lists::wide;
+use verify::Verdict;
+
+// What was seen: lists, their pairs, those that are no held lists, answers that differ; and the random state.
+struct Tally {
+    lists: u32,
+    pairs: u32,
+    unheld: u32,
+    differ: u32,
+    state: u32,
+}
+
+// What is altered in solve's answer before it is compared.
+enum Altered {
+    Nothing,
+    Member,
+    Inside,
+    Size,
+    Order,
+    Core,
+    Share,
+}
+
+// What one list shows.
+enum Outcome {
+    Unheld,
+    Same,
+    Differs,
+}
+
+fn start() -> Tally {
+    Tally {
+        lists: 0,
+        pairs: 0,
+        unheld: 0,
+        differ: 0,
+        state: 2463534242,
+    }
+}
+
+fn one_more(x: u32) -> u32 {
+    std::num::wrapping_add_u32(x, 1)
+}
+
+// One list more, of m pairs, with the random state after it.
+fn seen(tally: Tally, m: usize, state: u32, outcome: Outcome) -> Tally {
+    let mut now = tally;
+    now.lists = one_more(now.lists);
+    now.pairs = std::num::wrapping_add_u32(now.pairs, lists::narrow(m));
+    now.state = state;
+    match outcome {
+        Outcome::Unheld => now.unheld = one_more(now.unheld),
+        Outcome::Same => {}
+        Outcome::Differs => now.differ = one_more(now.differ),
+    }
+    now
+}
+
+// A member byte, and 0 past the end.
+fn byte_at(bytes: &[u8], v: usize) -> u8 {
+    if v < bytes.len() { bytes[v] } else { 0 }
+}
+
+fn wide_byte(x: u8) -> u32 {
+    x as u32
+}
+
+fn put_byte(bytes: &mut [u8], v: usize, x: u8) {
+    if v < bytes.len() {
+        bytes[v] = x;
+    }
+}
+
+// A member becomes none, any other module a member.
+fn flip(members: &mut [u8], v: usize) {
+    if byte_at(members, v) == 0 {
+        put_byte(members, v, 1);
+    } else {
+        put_byte(members, v, 0);
+    }
+}
+
+// Alters one thing of solve's answer: a member byte, a number of the record, or the first share, which passes Q.
+fn alter(altered: Altered, solution: Solution, members: &mut [u8], shares: &mut [u32]) -> Solution {
+    let mut answer = solution;
+    match altered {
+        Altered::Nothing => {}
+        Altered::Member => flip(members, 0),
+        Altered::Inside => answer.p = one_more(answer.p),
+        Altered::Size => answer.q = one_more(answer.q),
+        Altered::Order => answer.k = one_more(answer.k),
+        Altered::Core => answer.core = one_more(answer.core),
+        Altered::Share => lists::put_word(shares, 0, one_more(answer.q)),
+    }
+    answer
+}
+
+fn narrow_share(x: u32) -> u16 {
+    if x < 65536 { x as u16 } else { 65535 }
+}
+
+fn put_share(sheet: &mut [u16], j: usize, x: u32) {
+    if j < sheet.len() {
+        sheet[j] = narrow_share(x);
+    }
+}
+
+// The first m shares as check takes them.
+fn copy_shares(m: usize, shares: &[u32], sheet: &mut [u16]) {
+    let mut j = 0;
+    while j < m {
+        put_share(sheet, j, lists::word_at(shares, j));
+        j += 1;
+    }
+}
+
+// Whether the first n bytes are the members of a set.
+fn same_members(n: usize, members: &[u8], set: &[u32]) -> bool {
+    let mut v = 0;
+    while v < n {
+        if wide_byte(byte_at(members, v)) != lists::word_at(set, v) {
+            return false;
+        }
+        v += 1;
+    }
+    true
+}
+
+// Whether the group is the densest of all sets, of equals the largest, with its inside count and size.
+fn group_right(n: u32, pairs: &[u32], members: &[u8], answer: Solution) -> bool {
+    let mut set = [0u32; 512];
+    let best = plain::densest(n, pairs);
+    if answer.p != best.p {
+        return false;
+    }
+    if answer.q != best.q {
+        return false;
+    }
+    plain::spell(wide(n), best.number, &mut set);
+    same_members(wide(n), members, &set)
+}
+
+// Whether check accepts the sheet, and counts the same P and Q.
+fn accepted(answer: Solution, verdict: Verdict) -> bool {
+    if verdict.number != 0 {
+        return false;
+    }
+    answer.p == verdict.p && answer.q == verdict.q
+}
+
+// Whether K is P over Q rounded up, and the core's size that of the core of order K.
+fn core_right(n: usize, pairs: &[u32], answer: Solution) -> bool {
+    if answer.k != plain::rounded_up(answer.p, answer.q) {
+        return false;
+    }
+    answer.core == plain::core_size(n, answer.k, pairs)
+}
+
+// Whether the group is right, where every subset can be tried.
+fn group_fits(n: u32, pairs: &[u32], members: &[u8], answer: Solution) -> bool {
+    if n < 13 {
+        group_right(n, pairs, members, answer)
+    } else {
+        true
+    }
+}
+
+// Whether solve's answer is right.
+fn agrees(n: u32, pairs: &[u32], members: &[u8], answer: Solution, verdict: Verdict) -> bool {
+    if !group_fits(n, pairs, members, answer) {
+        return false;
+    }
+    if !core_right(wide(n), pairs, answer) {
+        return false;
+    }
+    accepted(answer, verdict)
+}
+
+// Solves a list, puts the sheet to check, and compares.
+fn compare(n: u32, m: usize, ends: &[u32], weights: &[u32], altered: Altered) -> Outcome {
+    let mut members = [0u8; 512];
+    let mut shares = [0u32; 4096];
+    let mut sheet = [0u16; 4096];
+    let size = wide(n);
+    if !lists::is_held(size, m, ends, weights) {
+        return Outcome::Unheld;
+    }
+    let words = 2 * m;
+    let pairs = &ends[..words];
+    let solution = densest::solve(size, m, ends, weights, &mut members, &mut shares);
+    let answer = alter(altered, solution, &mut members, &mut shares);
+    copy_shares(m, &shares, &mut sheet);
+    let verdict = verify::check_words(size, m, ends, weights, &members, &sheet);
+    if agrees(n, pairs, &members, answer, verdict) {
+        Outcome::Same
+    } else {
+        Outcome::Differs
+    }
+}
+
+// Makes a list and looks at it.
+fn attempt(kind: Kind, n: u32, altered: Altered, tally: Tally) -> Tally {
+    let mut ends = [0u32; 8192];
+    let mut weights = [0u32; 4096];
+    let walk = lists::fill(kind, n, tally.state, &mut ends, &mut weights);
+    seen(
+        tally,
+        walk.m,
+        walk.state,
+        compare(n, walk.m, &ends, &weights, altered),
+    )
+}
+
+// Every list of n modules: `count` masks.
+fn masks(n: u32, count: u32, altered: Altered, tally: Tally) -> Tally {
+    let mut now = tally;
+    let mut mask = 0;
+    while mask < count {
+        now = attempt(Kind::Mask(mask), n, altered, now);
+        mask += 1;
+    }
+    now
+}
+
+// Every list of 1 to 5 modules.
+fn every(altered: Altered) -> Tally {
+    let one = masks(1, 1, altered, start());
+    let two = masks(2, 2, altered, one);
+    let three = masks(3, 8, altered, two);
+    let four = masks(4, 64, altered, three);
+    masks(5, 1024, altered, four)
+}
+
+// `count` lists of one kind.
+fn several(kind: Kind, n: u32, count: u32, tally: Tally) -> Tally {
+    let mut now = tally;
+    let mut i = 0;
+    while i < count {
+        now = attempt(kind, n, Altered::Nothing, now);
+        i += 1;
+    }
+    now
+}
+
+// Lists of n modules, each pair taken 1, 2, .. 15 times of 16.
+fn densities(n: u32, count: u32, tally: Tally) -> Tally {
+    let mut now = tally;
+    let mut i = 1;
+    while i < 16 {
+        let chance = 4096 * i;
+        now = several(Kind::Chance(chance), n, count, now);
+        i += 1;
+    }
+    now
+}
+
+// Lists of 6 to 12 modules.
+fn small(count: u32) -> Tally {
+    let mut now = start();
+    let mut n = 6;
+    while n < 13 {
+        now = densities(n, count, now);
+        n += 1;
+    }
+    now
+}
+
+// `count` lists of one kind of each number of modules from 1 to 12.
+fn sizes(kind: Kind, count: u32) -> Tally {
+    let mut now = start();
+    let mut n = 1;
+    while n < 13 {
+        now = several(kind, n, count, now);
+        n += 1;
+    }
+    now
+}
+
+fn field(label: &[u8], value: u32) {
+    io::write_all(1, label);
+    io::print_decimal(1, value as u64);
+}
+
+fn line(name: &[u8], tally: Tally) {
+    io::write_all(1, name);
+    field(b": lists=", tally.lists);
+    field(b" pairs=", tally.pairs);
+    field(b" unheld=", tally.unheld);
+    field(b" differ=", tally.differ);
+    io::write_all(1, b"\n");
+}
+
+// Lists of up to 12 modules, `count` of each number.
+fn each(name: &[u8], kind: Kind, count: u32) {
+    line(name, sizes(kind, count));
+}
+
+// Lists of 512 modules.
+fn large(name: &[u8], kind: Kind, count: u32) {
+    line(name, several(kind, 512, count, start()));
+}
+
+// A clique of the first `size` modules, and each other pair `chance` times of 65,536.
+fn planted(size: u32, chance: u32) -> Kind {
+    Kind::Planted { size, chance }
+}
+
+// Lists of up to 12 modules, of which every subset is tried.
+fn subsets() {
+    line(b"every list of 1 to 5 modules", every(Altered::Nothing));
+    line(b"drawn, 6 to 12 modules", small(40));
+    each(b"no pairs, 1 to 12 modules", Kind::Chance(0), 1);
+    each(b"full, 1 to 12 modules", Kind::Cliques(512), 1);
+    each(b"cycles, 1 to 12 modules", Kind::Cycle, 1);
+    each(b"stars, 1 to 12 modules", Kind::Star, 1);
+    each(b"separate pairs, 1 to 12 modules", Kind::Cliques(2), 1);
+    each(b"triangles, 1 to 12 modules", Kind::Cliques(3), 1);
+    each(b"cliques of 4, 1 to 12 modules", Kind::Cliques(4), 1);
+    each(b"cliques of 5, 1 to 12 modules", Kind::Cliques(5), 1);
+    each(b"bands of 2, 1 to 12 modules", Kind::Band(2), 1);
+    each(b"bands of 3, 1 to 12 modules", Kind::Band(3), 1);
+    each(
+        b"cliques of 4 with trees, 1 to 12 modules",
+        Kind::Hung(4),
+        1,
+    );
+    each(
+        b"cliques of 5 with trees, 1 to 12 modules",
+        Kind::Hung(5),
+        1,
+    );
+    each(
+        b"planted cliques of 4, 1 to 12 modules",
+        planted(4, 13000),
+        40,
+    );
+    each(
+        b"planted cliques of 5, 1 to 12 modules",
+        planted(5, 13000),
+        40,
+    );
+    each(
+        b"planted cliques of 6, 1 to 12 modules",
+        planted(6, 20000),
+        40,
+    );
+}
+
+// Lists of 512 modules and up to 4,096 pairs.
+fn sheets() {
+    large(b"drawn, 512 modules", Kind::Chance(2200), 4);
+    large(b"half drawn, 512 modules", Kind::Chance(1000), 4);
+    large(b"thin, 512 modules", Kind::Chance(500), 4);
+    large(b"sparse, 512 modules", Kind::Chance(150), 4);
+    large(b"planted clique of 16, 512 modules", planted(16, 1500), 4);
+    large(b"planted clique of 64, 512 modules", planted(64, 1100), 4);
+    large(b"clique of 91, 512 modules", planted(91, 0), 1);
+    large(b"band of 8, 512 modules", Kind::Band(8), 1);
+    large(b"path, 512 modules", Kind::Band(1), 1);
+    large(b"cycle, 512 modules", Kind::Cycle, 1);
+    large(b"star, 512 modules", Kind::Star, 1);
+    large(b"separate pairs, 512 modules", Kind::Cliques(2), 1);
+    large(b"triangles, 512 modules", Kind::Cliques(3), 1);
+    large(b"cliques of 16, 512 modules", Kind::Cliques(16), 1);
+    large(b"cliques of 17, 512 modules", Kind::Cliques(17), 1);
+    large(b"clique with trees, 512 modules", Kind::Hung(80), 1);
+    large(b"no pairs, 512 modules", Kind::Chance(0), 1);
+}
+
+fn main() {
+    subsets();
+    sheets();
+    line(b"member altered", every(Altered::Member));
+    line(b"P altered", every(Altered::Inside));
+    line(b"Q altered", every(Altered::Size));
+    line(b"K altered", every(Altered::Order));
+    line(b"core size altered", every(Altered::Core));
+    line(b"share altered", every(Altered::Share));
+}
