@@ -7,12 +7,14 @@
 // scope loaded below p drain, and so does whoever could pass units on to them: what stays is the largest set loaded p throughout.
 // Cost: a search takes a step for each slot of the modules that it reaches. Links say where to look first; that nothing leads out of a set is
 // found by one scan over all slots. There are at most as many searches as units lie above p. Nothing is refused.
+use push::phases;
+use slots::capped;
 use slots::clear;
-use slots::even;
 use slots::least;
 use slots::loads;
 use slots::other;
 use slots::shift;
+use slots::short;
 use slots::wide;
 ghost use mathlib.Core.Path.{_≡_};
 ghost use mathlib.Core.Bool.{true, _&&_, cond};
@@ -23,14 +25,6 @@ ghost use Rattle.slots.specs.Slots.{Ends, Room, Own, Covers};
 ghost use Rattle.flow.specs.Flow.{Flowed};
 ghost use Rattle.flow.specs.Search.{leads, Exit, Reached, Tree, Searched, Pulled, Settled, Marked};
 ghost use Rattle.flow.specs.Drain.{zeros, Level, Released, Drains, Drained};
-
-// x where that is at most `top`, else free: links only say where to look first.
-fn capped(x: u32, top: usize) -> usize
-    ensures { λ r. ⌜ (r ≤ top) × (x ≤ top → r ≡ x) ⌝ }
-{
-    let k = wide(x);
-    if k <= top { k } else { 0 }
-}
 
 // Whether slot s holds units and leads out of the set of modules with a rank.
 fn leading(n: usize, m: usize, s: usize, ends: &[u32], hold: &[u32], rank: &[u32]) -> bool
@@ -253,18 +247,6 @@ fn stays(p: u32, s: u8, x: u32) -> u32
     0
 }
 
-// 1 where it is in the scope and loaded below p, else 0.
-fn short(p: u32, s: u8, x: u32) -> usize
-    ensures { λ r. ⌜ r ≡ cond (eqb s 1 && ltb x p) 1 0 ⌝ }
-{
-    if s == 1 {
-        if x < p {
-            return 1;
-        }
-    }
-    0
-}
-
 // Who stays at the start of a drain; those of the scope who do not are queued. How many those are.
 fn level(n: usize, p: u32, scope: &[u8], load: &[u32], rank: &mut [u32], queue: &mut [u32]) -> usize
     requires { ⌜ n ≤ 512 ⌝ }
@@ -397,7 +379,7 @@ fn mark(n: usize, rank: &[u32], group: &mut [u8])
 }
 
 // True: units lie in hold so that no load is above p, and `group` is the largest tight set inside the scope.
-// False: more than p a module stays in `group`. `effort` sweeps balance the loads first: any number of them keeps the promise.
+// False: more than p a module stays in `group`. At most `effort` phases balance the loads first: any number of them keeps the promise.
 pub fn flow(
     n: usize,
     m: usize,
@@ -423,7 +405,7 @@ pub fn flow(
     let mut load = [0u32; 512];
     let mut rank = [0u32; 512];
     loads(n, m, own, ends, hold, &mut load);
-    even(n, m, effort, ends, hold, &mut load);
+    phases(n, m, p, effort, scope, ends, first, next, hold, &mut load);
     if settle(n, m, p, ends, first, next, hold, &mut load, &mut rank) {
         drain(n, m, p, scope, ends, first, next, hold, &load, &mut rank);
         mark(n, &rank, group);

@@ -2,14 +2,14 @@
 //
 // Pair j has two slots, 2j and 2j + 1: ends[s] is a slot's module, hold[s] the units of the pair that it holds. Both ends are alike, so nothing goes
 // by sides. A module's load is its own, which does not move, and the units that it holds. Three arguments are the list: n modules, m pairs, `ends`.
-// `spread` lays out a split, `loads` adds up, `links` chains each module's slots, `shift` moves units (no other function does), `even` balances
-// the loads. Each costs a step for each slot or pair. Nothing is refused: what is asked is in the contracts.
+// `spread` lays out a split, `loads` adds up, `links` chains each module's slots, `shift` moves units (no other function does). The first three cost a
+// step for each slot or pair. Nothing is refused: what is asked is in the contracts.
 ghost use mathlib.Core.Path.{_≡_};
 ghost use mathlib.Core.Bool.{_&&_, cond};
 ghost use Prim.Native.Nat.{ℕ, _+_, _*_, _≤_, _<_, min};
-ghost use lib.Dec.{eqb};
+ghost use lib.Dec.{eqb, ltb};
 ghost use lib.ListN.{length, getD};
-ghost use Rattle.slots.specs.Slots.{mate, moved, Ends, Room, Own, Loads, Covers, Kept};
+ghost use Rattle.slots.specs.Slots.{mate, moved, Ends, Room, Own, Loads, Covers};
 ghost use Rattle.slots.specs.Links.{Linked};
 ghost use Rattle.slots.specs.Split.{Weights, Split};
 
@@ -25,6 +25,26 @@ pub fn least(a: u32, b: u32) -> u32
     ensures { λ r. ⌜ r ≡ min a b ⌝ }
 {
     if a < b { a } else { b }
+}
+
+// x where that is at most `top`, else free: links only say where to look first.
+pub fn capped(x: u32, top: usize) -> usize
+    ensures { λ r. ⌜ (r ≤ top) × (x ≤ top → r ≡ x) ⌝ }
+{
+    let k = wide(x);
+    if k <= top { k } else { 0 }
+}
+
+// 1 where a module of scope byte s and load x is in the scope and loaded below p, else 0.
+pub fn short(p: u32, s: u8, x: u32) -> usize
+    ensures { λ r. ⌜ r ≡ cond (eqb s 1 && ltb x p) 1 0 ⌝ }
+{
+    if s == 1 {
+        if x < p {
+            return 1;
+        }
+    }
+    0
 }
 
 // The slot of the pair's other end.
@@ -120,51 +140,6 @@ pub fn shift(n: usize, m: usize, s: usize, d: u32, ends: &[u32], hold: &mut [u32
     let v = wide(ends[o]);
     carry(s, o, d, hold);
     carry(u, v, d, load);
-}
-
-// Evens out the loads of pair j's two ends, as far as the heavier one holds units of it.
-fn ease(n: usize, m: usize, j: usize, ends: &[u32], hold: &mut [u32], load: &mut [u32])
-    requires { ⌜ Ends n m (now ends) ⌝ }
-    requires { ⌜ Room m (now hold) ⌝ }
-    requires { ⌜ Covers n m (now ends) (now hold) (now load) ⌝ }
-    requires { ⌜ j < m ⌝ }
-    ensures { λ r. ⌜ Kept n m (now (ends .entry)) (now (hold .entry)) (now (load .entry)) (now (hold .exit)) (now (load .exit)) ⌝ }
-{
-    let s = 2 * j;
-    let o = s + 1;
-    let x = load[wide(ends[s])];
-    let y = load[wide(ends[o])];
-    if y < x {
-        let d = least((x - y) / 2, hold[s]);
-        shift(n, m, s, d, ends, hold, load);
-    } else {
-        let d = least((y - x) / 2, hold[o]);
-        shift(n, m, o, d, ends, hold, load);
-    }
-}
-
-// The same for every pair, one after another.
-fn sweep(n: usize, m: usize, ends: &[u32], hold: &mut [u32], load: &mut [u32])
-    requires { ⌜ Ends n m (now ends) ⌝ }
-    requires { ⌜ Room m (now hold) ⌝ }
-    requires { ⌜ Covers n m (now ends) (now hold) (now load) ⌝ }
-    ensures { λ r. ⌜ Kept n m (now (ends .entry)) (now (hold .entry)) (now (load .entry)) (now (hold .exit)) (now (load .exit)) ⌝ }
-{
-    for j in 0..m {
-        ease(n, m, j, ends, hold, load);
-    }
-}
-
-// Balances the loads by a number of sweeps over all pairs. How well is free: whatever units move, they move within pairs.
-pub fn even(n: usize, m: usize, sweeps: usize, ends: &[u32], hold: &mut [u32], load: &mut [u32])
-    requires { ⌜ Ends n m (now ends) ⌝ }
-    requires { ⌜ Room m (now hold) ⌝ }
-    requires { ⌜ Covers n m (now ends) (now hold) (now load) ⌝ }
-    ensures { λ r. ⌜ Kept n m (now (ends .entry)) (now (hold .entry)) (now (load .entry)) (now (hold .exit)) (now (load .exit)) ⌝ }
-{
-    for i in 0..sweeps {
-        sweep(n, m, ends, hold, load);
-    }
 }
 
 // The units of a pair of weight w at share size q: none where an end is outside the scope.

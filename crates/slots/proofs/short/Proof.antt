@@ -1,7 +1,7 @@
--- `flow::short` meets its contract. Assumes nothing.
+-- `slots::short` meets its contract. Assumes nothing.
 use borrow.Author.Tests.{eq-eqb, ne-eqb, lt-ltb, le-ltb}
-use Rattle.flow.proofs.short.Statement.{statement}
-use Rattle.flow.proofs.short.Tie as tie
+use Rattle.slots.proofs.short.Statement.{statement}
+use Rattle.slots.proofs.short.Tie as tie
 
 returns : tie.Need-returns
 returns c =

@@ -1,0 +1,96 @@
+-- `push::label_all` meets its contract. Assumes nothing.
+use native.Mathlib.Omega.{arith}
+use mathlib.Core.Path.{_≡_}
+use Prim.Native.Nat.{_-_, _≤_}
+use lib.ListN.{length}
+use Rattle.push.proofs.label_all.Statement.{statement}
+use Rattle.push.proofs.label_all.Tie as tie
+
+abbrev Inv-loop : tie.InvT-loop
+Inv-loop n m p scope ends first next hold load label₀ line₀ tail₀ at₀ label line tail at =
+    (at ≤ length line) × (tail ≤ length line) × (length line ≡ length line₀) × (n ≤ length label) × (length label ≡ length label₀)
+
+abbrev μ-loop : tie.MeasureT-loop
+μ-loop n m p scope ends first next hold load label₀ line₀ tail₀ at₀ label line tail at = length line - at
+
+-- the function's entry
+abbrev begin : tie.At-loop Inv-loop μ-loop → tie.Start Inv-loop μ-loop
+begin c =
+    let s = c .before .before .before .before .before in s .before .before .before .before .before .before .before .before .before .before .before
+
+start-requires : tie.Need-start-requires Inv-loop μ-loop
+start-requires c κs = omega arith
+
+loop-holds : tie.Need-loop-holds Inv-loop μ-loop
+loop-holds c = omega arith
+
+mul-wide : tie.Need-mul-wide Inv-loop μ-loop
+mul-wide c = omega arith
+
+slice-read-wide : tie.Need-slice-read-wide Inv-loop μ-loop
+slice-read-wide c = omega arith
+
+wide-requires : tie.Need-wide-requires Inv-loop μ-loop
+wide-requires c κs = omega arith
+
+add-at : tie.Need-add-at Inv-loop μ-loop
+add-at c = omega arith
+
+mul-above : tie.Need-mul-above Inv-loop μ-loop
+mul-above c = omega arith
+
+slice-read-above : tie.Need-slice-read-above Inv-loop μ-loop
+slice-read-above c = omega arith
+
+above-requires : tie.Need-above-requires Inv-loop μ-loop
+above-requires c κs = omega arith
+
+reach-from-requires : tie.Need-reach-from-requires Inv-loop μ-loop
+reach-from-requires c κs =
+    let q = begin (c .before .before .before .before .before .before .before .before) .pre in
+    let i = c .before .before .before .before .before .before .before .before .loop .inv in (q .1 .0, ((omega arith, q .1 .1 .1 .0 .1, q .1 .1 .1 .0 .2), (i .3, i .1)))
+
+loop-less : tie.Need-loop-less Inv-loop μ-loop
+loop-less c = omega arith
+
+loop-again : tie.Need-loop-again Inv-loop μ-loop
+loop-again c = omega arith
+
+loop-less-2 : tie.Need-loop-less-2 Inv-loop μ-loop
+loop-less-2 c = omega arith
+
+loop-again-2 : tie.Need-loop-again-2 Inv-loop μ-loop
+loop-again-2 c = omega arith
+
+same-length : tie.Need-same-length Inv-loop μ-loop
+same-length c = omega arith
+
+same-length-2 : tie.Need-same-length-2 Inv-loop μ-loop
+same-length-2 c = omega arith
+
+returns : tie.Need-returns Inv-loop μ-loop
+returns c = omega arith
+
+pub label-all-spec : {M : Type 1} → statement M
+label-all-spec =
+    tie.close
+    (tie.spec
+    Inv-loop
+    μ-loop
+    start-requires
+    loop-holds
+    mul-wide
+    slice-read-wide
+    wide-requires
+    add-at
+    mul-above
+    slice-read-above
+    above-requires
+    reach-from-requires
+    loop-less
+    loop-again
+    loop-less-2
+    loop-again-2
+    same-length
+    same-length-2
+    returns)

@@ -1,0 +1,91 @@
+-- `push::push_from` meets its contract. Assumes nothing.
+use native.Mathlib.Omega.{arith}
+use mathlib.Core.Path.{_≡_, refl, _∙_}
+use Prim.Native.Nat.{_*_, _-_, _≤_}
+use lib.ListN.{length}
+use Rattle.slots.specs.Slots.{Kept}
+use Rattle.slots.proofs.Moves.{kept-none, kept-more, kept-room, kept-covers}
+use Rattle.push.proofs.push_from.Statement.{statement}
+use Rattle.push.proofs.push_from.Tie as tie
+
+abbrev Inv-loop : tie.InvT-loop
+Inv-loop n m p v tail ends first next label hold₀ load₀ line₀ t₀ s₀ hold load line t s =
+    Kept n m ends hold₀ load₀ hold load × (s ≤ 2 * m) × (t ≤ length line) × (length line ≡ length line₀)
+
+abbrev μ-loop : tie.MeasureT-loop
+μ-loop n m p v tail ends first next label hold₀ load₀ line₀ t₀ s₀ hold load line t s = s
+
+-- the function's entry
+abbrev begin : tie.At-loop Inv-loop μ-loop → tie.Start Inv-loop μ-loop
+begin c = c .before .before .before .before .before .before .before .before .before .before
+
+mul-capped : tie.Need-mul-capped Inv-loop μ-loop
+mul-capped c = omega arith
+
+shared-slice-read-capped : tie.Need-shared-slice-read-capped Inv-loop μ-loop
+shared-slice-read-capped c = omega arith
+
+mul-capped-2 : tie.Need-mul-capped-2 Inv-loop μ-loop
+mul-capped-2 c = omega arith
+
+capped-requires : tie.Need-capped-requires Inv-loop μ-loop
+capped-requires c κs = omega arith
+
+loop-holds : tie.Need-loop-holds Inv-loop μ-loop
+loop-holds c = (kept-none _ _ _ _ _, c .capped .ensures .0, c .before .before .before .before .before .before .before .before .before .pre .1 .1 .1 .1, refl)
+
+sub-k : tie.Need-sub-k Inv-loop μ-loop
+sub-k c = omega arith
+
+mul-capped-3 : tie.Need-mul-capped-3 Inv-loop μ-loop
+mul-capped-3 c = omega arith
+
+shared-slice-read-capped-2 : tie.Need-shared-slice-read-capped-2 Inv-loop μ-loop
+shared-slice-read-capped-2 c = omega arith
+
+capped-requires-2 : tie.Need-capped-requires-2 Inv-loop μ-loop
+capped-requires-2 c κs = omega arith
+
+push-requires : tie.Need-push-requires Inv-loop μ-loop
+push-requires c κs = let q = begin (c .before .before .before .before .before .before) .pre in let i = c .before .before .before .before .before .before .loop .inv in (q .0, ((omega arith, q .1 .0 .2), (kept-room (i .0) (q .1 .1 .0), (kept-covers (i .0) (q .1 .1 .1 .0), i .2))))
+
+loop-less : tie.Need-loop-less Inv-loop μ-loop
+loop-less c = omega arith
+
+loop-again : tie.Need-loop-again Inv-loop μ-loop
+loop-again c = let i = c .before .before .before .before .before .before .before .before .before .before .before .before .before .loop .inv in (kept-more (i .0) (c .before .before .before .before .before .before .push .ensures .1), omega (arith, c .before .before .before .before .before .before .before .before .before .before .capped2 .ensures .0), omega (arith, c .before .before .before .before .before .before .push .ensures .0, c .before .before .before .before .before .before .push .kept .1 .1 .1 .1 .1), omega (arith, c .before .before .before .before .before .before .push .kept .1 .1 .1 .1 .1))
+
+same-length : tie.Need-same-length Inv-loop μ-loop
+same-length c = omega arith
+
+same-length-2 : tie.Need-same-length-2 Inv-loop μ-loop
+same-length-2 c = omega arith
+
+same-length-3 : tie.Need-same-length-3 Inv-loop μ-loop
+same-length-3 c = omega arith
+
+returns : tie.Need-returns Inv-loop μ-loop
+returns c = (omega arith, c .before .loop .inv .0)
+
+pub push-from-spec : {M : Type 1} → statement M
+push-from-spec =
+    tie.close
+    (tie.spec
+    Inv-loop
+    μ-loop
+    mul-capped
+    shared-slice-read-capped
+    mul-capped-2
+    capped-requires
+    loop-holds
+    sub-k
+    mul-capped-3
+    shared-slice-read-capped-2
+    capped-requires-2
+    push-requires
+    loop-less
+    loop-again
+    same-length
+    same-length-2
+    same-length-3
+    returns)

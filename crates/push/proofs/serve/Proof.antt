@@ -1,0 +1,87 @@
+-- `push::serve` meets its contract: each turn keeps what those before it kept. Assumes nothing.
+use native.Mathlib.Omega.{arith}
+use mathlib.Core.Path.{_≡_, refl, _∙_}
+use Prim.Native.Nat.{_-_, _≤_}
+use lib.ListN.{length}
+use Rattle.slots.specs.Slots.{Kept}
+use Rattle.slots.proofs.Moves.{kept-none, kept-more, kept-room, kept-covers}
+use Rattle.push.proofs.serve.Statement.{statement}
+use Rattle.push.proofs.serve.Tie as tie
+
+abbrev Inv-loop : tie.InvT-loop
+Inv-loop n m p count ends first next hold₀ load₀ label₀ line₀ at₀ tail₀ hold load label line at tail =
+    Kept n m ends hold₀ load₀ hold load × (at ≤ length line) × (tail ≤ length line) × (length line ≡ length line₀) × (n ≤ length label) × (length label ≡ length label₀)
+
+abbrev μ-loop : tie.MeasureT-loop
+μ-loop n m p count ends first next hold₀ load₀ label₀ line₀ at₀ tail₀ hold load label line at tail = length line - at
+
+-- the function's entry
+abbrev begin : tie.At-loop Inv-loop μ-loop → tie.Start Inv-loop μ-loop
+begin c = c .before .before .before .before .before .before .before .before
+
+loop-holds : tie.Need-loop-holds Inv-loop μ-loop
+loop-holds c = let q = c .before .before .before .before .before .before .before .pre in (kept-none _ _ _ _ _, omega arith, q .1 .1 .1 .1 .1 .1, refl, q .1 .1 .1 .1 .1 .0, refl)
+
+mul-wide : tie.Need-mul-wide Inv-loop μ-loop
+mul-wide c = omega arith
+
+slice-read-wide : tie.Need-slice-read-wide Inv-loop μ-loop
+slice-read-wide c = omega arith
+
+wide-requires : tie.Need-wide-requires Inv-loop μ-loop
+wide-requires c κs = omega arith
+
+add-at : tie.Need-add-at Inv-loop μ-loop
+add-at c = omega arith
+
+discharge-requires : tie.Need-discharge-requires Inv-loop μ-loop
+discharge-requires c κs = let q = begin (c .before .before .before .before .before .before .before .before) .pre in let i = c .before .before .before .before .before .before .before .before .loop .inv in (q .0, (q .1 .0, ((c .before .before .before .before .if1 .taken, q .1 .1 .0 .0, q .1 .1 .0 .1), (kept-room (i .0) (q .1 .1 .1 .0), (kept-covers (i .0) (q .1 .1 .1 .1 .0), (i .4, i .2))))))
+
+loop-less : tie.Need-loop-less Inv-loop μ-loop
+loop-less c = omega arith
+
+loop-again : tie.Need-loop-again Inv-loop μ-loop
+loop-again c = let i = c .before .before .before .before .before .before .before .before .before .before .before .before .before .before .before .before .before .loop .inv in let d = c .before .before .before .before .before .before .before .before .discharge in let k = d .kept .1 .1 .1 .1 .1 .1 .1 .1 .1 .1 in (kept-more (i .0) (d .ensures .1), omega (arith, k .1 .0), omega (arith, d .ensures .0, k .1 .0), omega (arith, k .1 .0), omega (arith, k .0), omega (arith, k .0))
+
+loop-less-2 : tie.Need-loop-less-2 Inv-loop μ-loop
+loop-less-2 c = omega arith
+
+loop-again-2 : tie.Need-loop-again-2 Inv-loop μ-loop
+loop-again-2 c = let i = c .before .before .before .before .loop .inv in (i .0, omega arith, i .2, i .3, i .4, i .5)
+
+same-length : tie.Need-same-length Inv-loop μ-loop
+same-length c = omega arith
+
+same-length-2 : tie.Need-same-length-2 Inv-loop μ-loop
+same-length-2 c = omega arith
+
+same-length-3 : tie.Need-same-length-3 Inv-loop μ-loop
+same-length-3 c = omega arith
+
+same-length-4 : tie.Need-same-length-4 Inv-loop μ-loop
+same-length-4 c = omega arith
+
+returns : tie.Need-returns Inv-loop μ-loop
+returns c = c .before .loop .inv .0
+
+pub serve-spec : {M : Type 1} → statement M
+serve-spec =
+    tie.close
+    (tie.spec
+    Inv-loop
+    μ-loop
+    loop-holds
+    mul-wide
+    slice-read-wide
+    wide-requires
+    add-at
+    discharge-requires
+    loop-less
+    loop-again
+    loop-less-2
+    loop-again-2
+    same-length
+    same-length-2
+    same-length-3
+    same-length-4
+    returns)
