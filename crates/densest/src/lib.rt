@@ -163,7 +163,7 @@ fn round(
     let k = rounded_up(p, q);
     mark_core(n, k, cores, scope);
     slots::spread(n, m, q, old, ends, weights, scope, hold);
-    flow::flow(n, m, p, 2, &own, scope, ends, first, next, hold, group)
+    flow::flow(n, m, p, 64, &own, scope, ends, first, next, hold, group)
 }
 
 // Rounds from a group of inside count p0 and size q0 on, until one finds a split; the found group's inside count and size.

@@ -167,6 +167,7 @@ module _ {n m p root : ℕ} {ends hold load rank from queue : List ℕ} {tail k 
       tree = reach-tree;
       within = omega (arith, low);
       low = λ l. (omega (arith, rank-new), h);
+      first = λ l x lx a ne. let o = rank-old x ne in (s .full x lx (omega arith), omega (arith, rank-new, s .high x lx));
       shut = λ z. absurd (omega (arith, low));
     }
 
@@ -177,5 +178,6 @@ scan-shut s x z = record {
   tree = s .tree;
   within = omega arith;
   low = λ l. absurd (omega arith);
+  first = λ l. absurd (omega arith);
   shut = λ y. ((λ t l. x .none t (omega arith)), s .full);
 }

@@ -63,6 +63,8 @@ pub record Searched (n m p root : ℕ) (ends hold load rank from : List ℕ) (r 
   pub tree : (top : ℕ) → Tree n m root top ends hold rank from
   pub within : r ≤ n
   pub low : r < n → (0 < getD rank r 0) × (getD load r 0 < p)
+  -- it is the first such module: every other one was reached before it and is loaded p or more
+  pub first : r < n → (v : ℕ) → v < n → 0 < getD rank v 0 → (v ≡ r → ⊥) → (p ≤ getD load v 0) × (getD rank v 0 < getD rank r 0)
   pub shut : r ≡ n → Closed m ends hold rank × Full n p load rank
 
 -- what the first k loads have above p, in all

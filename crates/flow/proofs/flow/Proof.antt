@@ -20,7 +20,7 @@ all-kept : (c : tie.After-settle) → let a = begin c .args in
     Kept (a .n) (a .m) (a .ends .now) (a .hold .now)
     (c .before .before .before .before .before .before .before .before .before .before .before .loads .last .1 .1 .1 .1 .1 .0)
     (c .settle .last .1 .1 .1 .1 .1 .1 .0) (c .settle .last .1 .1 .1 .1 .1 .1 .1 .0)
-all-kept c = kept-more (c .before .before .before .before .before .before .before .even .ensures) (c .settle .ensures .kept)
+all-kept c = kept-more (c .before .before .before .before .before .before .before .phases .ensures) (c .settle .ensures .kept)
 
 -- the loads after them
 all-loads : (c : tie.After-settle) → let a = begin c .args in
@@ -28,11 +28,11 @@ all-loads : (c : tie.After-settle) → let a = begin c .args in
 all-loads c = kept-loads (all-kept c) (c .before .before .before .before .before .before .before .before .before .before .before .loads .ensures)
 
 -- local buffers keep their length
-load-even : (c : tie.After-even) → length (c .even .last .1 .1 .1 .1 .1 .0) ≡ 512
-load-even c = c .even .kept .1 .1 .1 .1 .1 .0 ∙ c .before .before .before .before .loads .kept .1 .1 .1 .1 .1 .0
+load-phases : (c : tie.After-phases) → length (c .phases .last .1 .1 .1 .1 .1 .1 .1 .1 .1 .0) ≡ 512
+load-phases c = c .phases .kept .1 .1 .1 .1 .1 .1 .1 .1 .1 .0 ∙ c .before .before .before .before .loads .kept .1 .1 .1 .1 .1 .0
 
 load-settle : (c : tie.After-settle) → length (c .settle .last .1 .1 .1 .1 .1 .1 .1 .0) ≡ 512
-load-settle c = c .settle .kept .1 .1 .1 .1 .1 .1 .1 .0 ∙ load-even (c .before .before .before .before .before .before .before)
+load-settle c = c .settle .kept .1 .1 .1 .1 .1 .1 .1 .0 ∙ load-phases (c .before .before .before .before .before .before .before)
 
 rank-settle : (c : tie.After-settle) → length (c .settle .last .1 .1 .1 .1 .1 .1 .1 .1 .0) ≡ 512
 rank-settle c = c .settle .kept .1 .1 .1 .1 .1 .1 .1 .1 .0
@@ -47,16 +47,25 @@ loads-requires : tie.Need-loads-requires
 loads-requires c κs =
     let q = c .before .before .before .before .before .before .before .before .before .pre in (q .1 .0, (q .1 .1 .0, (q .1 .1 .1 .0, q .0)))
 
-slice-aggregate-even : tie.Need-slice-aggregate-even
-slice-aggregate-even c = sym (c .before .before .before .loads .kept .1 .1 .1 .1 .1 .0)
+slice-aggregate-phases : tie.Need-slice-aggregate-phases
+slice-aggregate-phases c = sym (c .before .before .before .loads .kept .1 .1 .1 .1 .1 .0)
 
-even-requires : tie.Need-even-requires
-even-requires c κs =
+phases-requires : tie.Need-phases-requires
+phases-requires c κs =
     let q = c .before .before .before .before .before .before .before .before .before .before .before .before .before .pre in
-    (q .1 .0, (q .1 .1 .1 .0, loads-covers (q .1 .1 .0) (c .before .before .before .loads .ensures)))
+    let f = q .1 .1 .1 .1 in (
+      q .0,
+      (
+        q .1 .0,
+        (
+          (omega (arith, f .1 .0), f .0 .0, f .0 .1),
+          (q .1 .1 .1 .0, loads-covers (q .1 .1 .0) (c .before .before .before .loads .ensures)),
+        ),
+      ),
+    )
 
 slice-aggregate-settle : tie.Need-slice-aggregate-settle
-slice-aggregate-settle c = sym (load-even (c .before .before .before .before .before))
+slice-aggregate-settle c = sym (load-phases (c .before .before .before .before .before))
 
 slice-aggregate-settle-2 : tie.Need-slice-aggregate-settle-2
 slice-aggregate-settle-2 c = refl
@@ -65,7 +74,7 @@ settle-requires : tie.Need-settle-requires
 settle-requires c κs =
     let s = c .before .before .before .before .before .before .before .before .before .before in
     let q = s .before .before .before .before .before .before .before .before .before .before .pre in
-    let k = c .before .before .before .before .before .before .even .ensures in
+    let k = c .before .before .before .before .before .before .phases .ensures in
     let f = q .1 .1 .1 .1 .0 in
     (q .0, (q .1 .0, (kept-room k (q .1 .1 .1 .0), (kept-covers k (loads-covers (q .1 .1 .0) (s .loads .ensures)), (f .0, f .1, q .0)))))
 
@@ -148,8 +157,8 @@ flow-spec =
     (tie.spec
     slice-aggregate-loads
     loads-requires
-    slice-aggregate-even
-    even-requires
+    slice-aggregate-phases
+    phases-requires
     slice-aggregate-settle
     slice-aggregate-settle-2
     settle-requires
