@@ -6,7 +6,7 @@
 ghost use mathlib.Core.Path.{_≡_};
 ghost use mathlib.Core.Bool.{true};
 ghost use mathlib.Core.Logic.{_↔_};
-ghost use Prim.Native.Nat.{_*_, _%_, _^_, _≤_, _<_, min};
+ghost use Prim.Native.Nat.{_+_, _*_, _%_, _^_, _≤_, _<_, min};
 ghost use lib.ListN.{getD, set};
 ghost use Rattle.lists.specs.Held.{held-in, sizes-fit, pair-fits, good-at};
 ghost use Rattle.lists.specs.Held.{follows as Held·follows};
@@ -89,6 +89,14 @@ pub fn put_word(words: &mut [u32], i: usize, x: u32)
     if i < words.len() {
         words[i] = x;
     }
+}
+
+// Adds 1 to entry i.
+pub fn bump(words: &mut [u32], i: usize)
+    ensures { λ r. ⌜ now (words .exit) ≡ set (now (words .entry)) i ((getD (now (words .entry)) i 0 + 1) % 2 ^ 32) ⌝ }
+{
+    let more = std::num::wrapping_add_u32(word_at(words, i), 1);
+    put_word(words, i, more);
 }
 
 // Whether the first n entries are the same.
