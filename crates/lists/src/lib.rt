@@ -48,14 +48,14 @@ pub fn next(state: u32) -> u32
     y ^ (y << 5)
 }
 
-// A word as an index, and back.
+// A word as an index.
 pub fn wide(x: u32) -> usize
     ensures { λ r. ⌜ r ≡ x ⌝ }
 {
     x as usize
 }
 
-// 65,536 in the place of anything above it.
+// An index as a word; 65,536 in the place of any above it.
 pub fn narrow(x: usize) -> u32
     ensures { λ r. ⌜ r ≡ min x 65536 ⌝ }
 {
