@@ -4,6 +4,8 @@
 // is altered, the number that document 01 gives it, the number that check gave, P and Q, and three words of the work buffer, which held 7 before:
 // the first, the 16,384th and the one after it.
 use editing::check_lent;
+use lists::put_word;
+use lists::word_at;
 use records::Head;
 use verify::Verdict;
 
@@ -38,17 +40,6 @@ fn sound() -> Altered {
 fn field(label: &[u8], value: u32) {
     io::write_all(1, label);
     io::print_decimal(1, value as u64);
-}
-
-fn word_at(words: &[u32], i: usize) -> u32 {
-    if i < words.len() { words[i] } else { 0 }
-}
-
-// Puts a word, where there is a place for it.
-fn put_word(words: &mut [u32], i: usize, x: u32) {
-    if i < words.len() {
-        words[i] = x;
-    }
 }
 
 // The records of the cycle.

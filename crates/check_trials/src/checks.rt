@@ -105,7 +105,7 @@ fn sheet(kind: Kind, n: u32, group: u32) -> Sheet {
 }
 
 // A change at every place of small sheets of each kind.
-pub fn small_sheets(change: Change, seen: Tally) -> Tally {
+pub(crate) fn small_sheets(change: Change, seen: Tally) -> Tally {
     let path = try_places(sheet(Kind::Band(1), 7, 7), change, 64, 1, seen);
     let star = try_places(sheet(Kind::Star, 8, 8), change, 64, 1, path);
     let cycle = try_places(sheet(Kind::Cycle, 9, 9), change, 64, 1, star);
@@ -116,7 +116,7 @@ pub fn small_sheets(change: Change, seen: Tally) -> Tally {
 }
 
 // A change at some places of large ones.
-pub fn large_sheets(change: Change, seen: Tally) -> Tally {
+pub(crate) fn large_sheets(change: Change, seen: Tally) -> Tally {
     let cycle = try_places(sheet(Kind::Cycle, 512, 512), change, 512, 50, seen);
     let cliques = try_places(sheet(Kind::Cliques(16), 512, 512), change, 4096, 350, cycle);
     try_places(sheet(Kind::Hung(85), 512, 85), change, 4096, 190, cliques)
@@ -184,7 +184,7 @@ fn try_list(mask: u32, seen: Tally) -> Tally {
 }
 
 // Every sheet of every list of 4 modules and up to 4 pairs.
-pub fn every_sheet() -> Tally {
+pub(crate) fn every_sheet() -> Tally {
     let mut now = Tally::new();
     let mut mask = 0;
     while mask < 64 {

@@ -3,7 +3,7 @@ use crate::sheets::put_byte;
 use crate::sheets::put_share;
 
 // The first m shares: the digits in base 6.
-pub fn spell_shares(code: u32, m: usize, shares: &mut [u16]) {
+pub(crate) fn spell_shares(code: u32, m: usize, shares: &mut [u16]) {
     let mut rest = code;
     let mut j = 0;
     while j < m {
@@ -18,7 +18,7 @@ fn digit(x: u32) -> u8 {
 }
 
 // Four bytes: the digits in base 3.
-pub fn spell_bytes(code: u32, bytes: &mut [u8]) {
+pub(crate) fn spell_bytes(code: u32, bytes: &mut [u8]) {
     put_byte(bytes, 0, digit(code));
     put_byte(bytes, 1, digit(code / 3));
     put_byte(bytes, 2, digit(code / 9));

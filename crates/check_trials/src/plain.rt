@@ -5,7 +5,7 @@ use std::num::wrapping_add_u32;
 use std::num::wrapping_sub_u32;
 
 // A member byte, and 0 past the end.
-pub fn byte_at(bytes: &[u8], i: usize) -> u8 {
+pub(crate) fn byte_at(bytes: &[u8], i: usize) -> u8 {
     if i < bytes.len() { bytes[i] } else { 0 }
 }
 
@@ -14,7 +14,7 @@ fn wide_share(x: u16) -> u32 {
 }
 
 // A share, and 0 past the end.
-pub fn share_at(shares: &[u16], j: usize) -> u32 {
+pub(crate) fn share_at(shares: &[u16], j: usize) -> u32 {
     if j < shares.len() {
         wide_share(shares[j])
     } else {
@@ -28,7 +28,7 @@ fn one(byte: u8) -> u32 {
 }
 
 // The number of members; 0 where one of the first n bytes is above 1, as where none is 1.
-pub fn size(n: usize, members: &[u8]) -> u32 {
+pub(crate) fn size(n: usize, members: &[u8]) -> u32 {
     let mut count = 0;
     let mut i = 0;
     while i < n {
@@ -51,7 +51,7 @@ fn both(a: usize, b: usize, members: &[u8]) -> u32 {
 }
 
 // The inside count.
-pub fn inside(pairs: &[u32], members: &[u8]) -> u32 {
+pub(crate) fn inside(pairs: &[u32], members: &[u8]) -> u32 {
     let m = pairs.len() / 2;
     let mut count = 0;
     let mut j = 0;
@@ -113,7 +113,7 @@ fn overloaded(n: u32, p: u32, q: u32, pairs: &[u32], shares: &[u16]) -> bool {
 }
 
 // The number that check gives: 7, 8, 9, or 0.
-pub fn check_number(n: u32, pairs: &[u32], members: &[u8], shares: &[u16]) -> u32 {
+pub(crate) fn check_number(n: u32, pairs: &[u32], members: &[u8], shares: &[u16]) -> u32 {
     let q = size(wide(n), members);
     if q == 0 {
         return 7;
@@ -134,7 +134,7 @@ fn minus(x: u32, y: u32) -> i64 {
 }
 
 // The surplus: modules of the second group times inside count of the first, minus inside count of the second times modules of the first.
-pub fn surplus(n: usize, pairs: &[u32], first: &[u8], second: &[u8]) -> i64 {
+pub(crate) fn surplus(n: usize, pairs: &[u32], first: &[u8], second: &[u8]) -> i64 {
     let gain = lists::times(size(n, second), inside(pairs, first));
     let loss = lists::times(size(n, first), inside(pairs, second));
     minus(gain, loss)

@@ -27,7 +27,7 @@ pub enum Change {
     Emptied,
 }
 
-pub fn put_byte(bytes: &mut [u8], i: usize, x: u8) {
+pub(crate) fn put_byte(bytes: &mut [u8], i: usize, x: u8) {
     if i < bytes.len() {
         bytes[i] = x;
     }
@@ -37,7 +37,7 @@ fn narrow_share(x: u32) -> u16 {
     if x < 65536 { x as u16 } else { 65535 }
 }
 
-pub fn put_share(shares: &mut [u16], j: usize, x: u32) {
+pub(crate) fn put_share(shares: &mut [u16], j: usize, x: u32) {
     if j < shares.len() {
         shares[j] = narrow_share(x);
     }
@@ -82,7 +82,7 @@ fn fair_share(kind: Kind, q: u32, a: u32, b: u32) -> u32 {
 }
 
 // The first `group` bytes become 1.
-pub fn mark(group: usize, members: &mut [u8]) {
+pub(crate) fn mark(group: usize, members: &mut [u8]) {
     let mut i = 0;
     while i < group {
         put_byte(members, i, 1);
@@ -91,7 +91,7 @@ pub fn mark(group: usize, members: &mut [u8]) {
 }
 
 // A fair share for each pair.
-pub fn share_out(kind: Kind, q: u32, pairs: &[u32], shares: &mut [u16]) {
+pub(crate) fn share_out(kind: Kind, q: u32, pairs: &[u32], shares: &mut [u16]) {
     let m = pairs.len() / 2;
     let mut j = 0;
     while j < m {
@@ -105,7 +105,7 @@ pub fn share_out(kind: Kind, q: u32, pairs: &[u32], shares: &mut [u16]) {
 }
 
 // How many places a change has in a list of n modules and m pairs: a unit moves to the next pair.
-pub fn places(change: Change, n: usize, m: usize) -> usize {
+pub(crate) fn places(change: Change, n: usize, m: usize) -> usize {
     match change {
         Change::Nothing => 1,
         Change::Moved => if m == 0 { 0 } else { m - 1 },
@@ -167,7 +167,13 @@ fn change_byte(i: usize, old: u8, new: u8, members: &mut [u8]) -> bool {
 }
 
 // Makes a change at a place; whether there is anything to change.
-pub fn alter(change: Change, at: usize, q: u32, members: &mut [u8], shares: &mut [u16]) -> bool {
+pub(crate) fn alter(
+    change: Change,
+    at: usize,
+    q: u32,
+    members: &mut [u8],
+    shares: &mut [u16],
+) -> bool {
     match change {
         Change::Nothing => true,
         Change::Raised => raise(at, shares),

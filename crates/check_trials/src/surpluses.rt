@@ -92,7 +92,7 @@ fn try_list(mask: u32, seen: Tally) -> Tally {
 }
 
 // Every two sets of bytes of 0 to 2 of every list of 4 modules.
-pub fn every_set() -> Tally {
+pub(crate) fn every_set() -> Tally {
     let mut now = Tally::new();
     let mut mask = 0;
     while mask < 64 {
@@ -126,7 +126,7 @@ fn around(kind: Kind, l: usize, seen: Tally) -> Tally {
 }
 
 // Groups of nearly equal ratios, and of ratios far apart.
-pub fn large_groups() -> Tally {
+pub(crate) fn large_groups() -> Tally {
     let cliques = around(Kind::Cliques(16), 256, Tally::new());
     let band = around(Kind::Band(8), 257, cliques);
     let cycle = around(Kind::Cycle, 512, band);

@@ -10,7 +10,7 @@ fn one_more(x: u32) -> u32 {
 }
 
 impl Tally {
-    pub fn new() -> Tally {
+    pub(crate) fn new() -> Tally {
         Tally {
             answers: [0; 4],
             unheld: 0,
@@ -19,7 +19,7 @@ impl Tally {
     }
 
     // Both gave this answer.
-    pub fn same(self, answer: usize) -> Tally {
+    pub(crate) fn same(self, answer: usize) -> Tally {
         let mut answers = self.answers;
         if answer < 4 {
             answers[answer] = one_more(answers[answer]);
@@ -31,18 +31,25 @@ impl Tally {
         }
     }
 
-    pub fn differs(mut self) -> Tally {
+    pub(crate) fn differs(mut self) -> Tally {
         self.differ = one_more(self.differ);
         self
     }
 
-    pub fn not_held(mut self) -> Tally {
+    pub(crate) fn not_held(mut self) -> Tally {
         self.unheld = one_more(self.unheld);
         self
     }
 
     // A line: its name, and the count of each answer after the answer's own.
-    pub fn print(self, name: &[u8], first: &[u8], second: &[u8], third: &[u8], fourth: &[u8]) {
+    pub(crate) fn print(
+        self,
+        name: &[u8],
+        first: &[u8],
+        second: &[u8],
+        third: &[u8],
+        fourth: &[u8],
+    ) {
         let answers = self.answers;
         io::write_all(1, name);
         field(first, answers[0]);

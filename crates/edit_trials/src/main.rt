@@ -7,10 +7,12 @@ mod model;
 mod words;
 
 use kandurzo::Changed;
+use lists::bump;
+use lists::next;
+use lists::same_words;
+use lists::wide;
+use lists::word_at;
 use records::Head;
-use words::bump;
-use words::wide;
-use words::word_at;
 
 // Where a run stands: the head, the model's count of pairs, and the random state.
 struct Run {
@@ -41,13 +43,6 @@ struct Plan {
     adds: u32,
     mixed: u32,
     altered: Altered,
-}
-
-// The next random state, never 0 after one that is not (xorshift of Marsaglia, 32 bits).
-fn next(state: u32) -> u32 {
-    let x = state ^ (state << 13);
-    let y = x ^ (x >> 17);
-    y ^ (y << 5)
 }
 
 // A number below k, by chance; 0 where k is 0.
@@ -205,7 +200,7 @@ fn look(
     let altered = plan.altered;
     alter_records(altered, expected);
     note(held == count, tally);
-    note(words::same(list, expected), tally);
+    note(same_words(list.len(), list, expected), tally);
     bump(tally, 2);
 }
 
@@ -323,7 +318,7 @@ fn refused(adds: bool, head: Head, list: &mut [u32], before: &[u32], tally: &mut
         list,
     );
     note(answers(answer, 13, head.n, wide(head.m)), tally);
-    note(words::same(list, before), tally);
+    note(same_words(list.len(), list, before), tally);
     bump(tally, 1);
     bump(tally, 2);
     bump(tally, 13);

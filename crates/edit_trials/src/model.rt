@@ -1,6 +1,6 @@
 // The plain model of a list: a table of 512 by 512 modules, 1 where the pair is in the list, in both orders.
 use super::words::put_record;
-use super::words::wide;
+use lists::wide;
 
 // Entry a,b of the table.
 fn held(table: &[u8], a: u32, b: u32) -> bool {
@@ -27,7 +27,7 @@ fn put_entry(table: &mut [u8], a: u32, b: u32, x: u8) {
 }
 
 // Puts a pair in (1) or takes it out (0).
-pub fn put_pair(table: &mut [u8], a: u32, b: u32, x: u8) {
+pub(crate) fn put_pair(table: &mut [u8], a: u32, b: u32, x: u8) {
     put_entry(table, a, b, x);
     put_entry(table, b, a, x);
 }
@@ -44,7 +44,7 @@ fn pair_number(n: u32, a: u32, b: u32) -> u32 {
 }
 
 // What add answers on a list of n modules and `count` pairs that has room for `len`.
-pub fn add_number(table: &[u8], n: u32, count: usize, len: usize, a: u32, b: u32) -> u32 {
+pub(crate) fn add_number(table: &[u8], n: u32, count: usize, len: usize, a: u32, b: u32) -> u32 {
     let number = pair_number(n, a, b);
     if number != 0 {
         return number;
@@ -59,7 +59,7 @@ pub fn add_number(table: &[u8], n: u32, count: usize, len: usize, a: u32, b: u32
 }
 
 // What remove answers.
-pub fn remove_number(table: &[u8], n: u32, a: u32, b: u32) -> u32 {
+pub(crate) fn remove_number(table: &[u8], n: u32, a: u32, b: u32) -> u32 {
     let number = pair_number(n, a, b);
     if number != 0 {
         return number;
@@ -88,7 +88,7 @@ fn put_row(table: &[u8], n: u32, a: u32, j: usize, words: &mut [u32]) -> usize {
 }
 
 // Writes the table's pairs in rising order; how many there are. The words after them stay.
-pub fn put_list(table: &[u8], n: u32, words: &mut [u32]) -> usize {
+pub(crate) fn put_list(table: &[u8], n: u32, words: &mut [u32]) -> usize {
     let mut j = 0;
     let mut a = 0;
     while a < n {

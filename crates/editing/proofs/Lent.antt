@@ -4,15 +4,21 @@
 --   enough-in, enough-out               what the two copies ask is met
 --   Outcome, add-outcome, remove-outcome   the one answer and the one list that a call's contract allows
 --   through                             the contract of a call on words
+--   too-wide, holds-of                  whether the words are those of `len` records, by what `thin` answers
+--   on-full, on-short, on-none          the contract of a call on words of any number, by what they hold
 -- Assumes nothing.
 use mathlib.Core.Path.{_≡_, refl, sym, ap, _∙_, subst}
 use Prim.Native.Nat.{ℕ, _+_, _-_, _*_, _<_, _≤_, _^_}
 use native.Mathlib.Omega.{arith}
+use mathlib.Core.Bool.{Bool, true, false, not}
 use mathlib.Core.List.{List}
+use mathlib.Core.Logic.{_↔_}
 use lib.ListN.{length, getD}
 use lib.Dec.{lit<}
 use denote.Builtin.{u32}
 use denote.Slice.{Room}
+use borrow.Author.Tests.{not-false}
+use Rattle.theory.proofs.Tests.{no}
 use Rattle.records.specs.declared.Pair.{Pair}
 use Rattle.records.specs.declared.Head.{Head}
 use Rattle.records.specs.Records.{blank, laid-out, put-back, narrow}
@@ -22,7 +28,7 @@ use Rattle.records.proofs.Copies.{length-put-back, length-laid-out}
 use Rattle.records.proofs.Pair as P
 use Rattle.kandurzo.specs.declared.Changed.{Changed}
 use Rattle.kandurzo.specs.Listing.{if-taken, head-of, add-number, added, Add-says, remove-number, removed, Remove-says}
-use Rattle.editing.specs.Lent.{Thin, Holds, lent, Through}
+use Rattle.editing.specs.Lent.{Thin, Holds, lent, Through, unlent, On-words}
 
 abbrev pub start-list : ℕ → List Pair
 start-list len = copies len blank
@@ -84,3 +90,26 @@ module _ (len : ℕ) (few : len ≤ 4096) (ws : List ℕ) (holds : Holds len ws)
   module _ (Says : Call) (h : Head) (a b : ℕ) (o : Outcome Says h lent-list a b) where
     pub through : Through Says len h ws a b (o .answer) (laid-out (o .left) ws len)
     through = record { left = o .left; says = subst (λ (l : List Pair). Says h l a b (o .answer) (o .left)) lent-as (o .says); laid = refl }
+
+-- words by the answer t of `thin`: not those of `len` records where it is no, those of `len` where it is yes and there are so many
+pub too-wide : {len : ℕ} {ws : List ℕ} (t : Bool) → ((t ≡ true) ↔ Thin ws) → not t ≡ true → Holds len ws → ⊥
+too-wide true says e holds = no e
+too-wide false says e holds = no (says .1 (holds .thin))
+
+pub holds-of : {len : ℕ} {ws : List ℕ} (t : Bool) → ((t ≡ true) ↔ Thin ws) → not t ≡ false → length ws ≡ 2 * len → Holds len ws
+holds-of t says e long = record { long = long; thin = says .0 (not-false t e) }
+
+-- words are not those of two numbers of records
+not-both : {A : Type 0} (ws : List ℕ) → Holds 4096 ws → Holds 100 ws → A
+not-both ws full short = absurd (omega (arith, full .long, short .long))
+
+module _ {Says : Call} {h : Head} {ws : List ℕ} {a b : ℕ} {r : Changed} {after : List ℕ} where
+  pub on-full : Holds 4096 ws → Through Says 4096 h ws a b r after → On-words Says h ws a b r after
+  on-full has said = record { full = λ e. said; short = λ e. not-both ws has e; refused = λ no-full no-short. absurd (no-full has) }
+
+  pub on-short : Holds 100 ws → Through Says 100 h ws a b r after → On-words Says h ws a b r after
+  on-short has said = record { full = λ e. not-both ws e has; short = λ e. said; refused = λ no-full no-short. absurd (no-short has) }
+
+  pub on-none : (Holds 4096 ws → ⊥) → (Holds 100 ws → ⊥) → r ≡ unlent h → after ≡ ws → On-words Says h ws a b r after
+  on-none no-full no-short answer same =
+      record { full = λ e. absurd (no-full e); short = λ e. absurd (no-short e); refused = λ f s. (answer, same) }

@@ -3,6 +3,8 @@
 --   Holds      the words are those of so many records
 --   lent       the list that is lent
 --   Through    what a call says of the list that was lent, with the words after it
+--   unlent, unlent-verdict  the answers where no list is lent
+--   On-words, Check-words   what a call on words of any number says: of their list where they are one that is lent, else 99
 -- Assumes nothing: these are definitions.
 use mathlib.Core.Path.{_≡_}
 use mathlib.Core.List.{List}
@@ -11,7 +13,9 @@ use lib.ListN.{length, getD, replicate}
 use Rattle.records.specs.declared.Pair.{Pair}
 use Rattle.records.specs.declared.Head.{Head}
 use Rattle.records.specs.Records.{blank, laid-out, put-back}
+use Rattle.verify.specs.declared.Verdict.{Verdict}
 use Rattle.kandurzo.specs.declared.Changed.{Changed}
+use Rattle.kandurzo.specs.Judging.{Check-call}
 
 -- each word is one of 16 bits
 unfoldable pub Thin : List ℕ → Type 0
@@ -31,3 +35,21 @@ pub record Through (Says : Head → List Pair → ℕ → ℕ → Changed → Li
   pub left : List Pair
   pub says : Says h (lent len words) a b r left
   pub laid : after ≡ laid-out left words len
+
+-- the answers where the words are no list that is lent: 99, a number that no call gives, and the head as it was
+abbrev pub unlent : Head → Changed
+unlent h = record { number = 99; head = h }
+
+abbrev pub unlent-verdict : Verdict
+unlent-verdict = record { number = 99; p = 0; q = 0 }
+
+-- words of 4,096 records and of 100 are lent; any others are refused, and head and words stay
+pub record On-words (Says : Head → List Pair → ℕ → ℕ → Changed → List Pair → Type 0) (h : Head) (words : List ℕ) (a b : ℕ) (r : Changed) (after : List ℕ) : Type 0 where
+  pub full : Holds 4096 words → Through Says 4096 h words a b r after
+  pub short : Holds 100 words → Through Says 100 h words a b r after
+  pub refused : (Holds 4096 words → ⊥) → (Holds 100 words → ⊥) → (r ≡ unlent h) × (after ≡ words)
+
+-- words of 4,096 records are lent; any others are refused, and the work buffer stays
+pub record Check-words (h : Head) (words members shares work : List ℕ) (v : Verdict) (after : List ℕ) : Type 0 where
+  pub full : Holds 4096 words → Check-call h (lent 4096 words) members shares work v after
+  pub refused : (Holds 4096 words → ⊥) → (v ≡ unlent-verdict) × (after ≡ work)

@@ -2,9 +2,10 @@
 // the list is lent to the call, and what the call leaves goes back to the words. Lists of 4,096 records and of 100.
 ghost use mathlib.Core.Path.{_≡_};
 ghost use mathlib.Core.Bool.{true};
+ghost use mathlib.Core.Logic.{_↔_};
 ghost use Rattle.kandurzo.specs.Listing.{Add-says, Remove-says};
 ghost use Rattle.kandurzo.specs.Judging.{Check-call};
-ghost use Rattle.editing.specs.Lent.{Thin, Holds, lent, Through};
+ghost use Rattle.editing.specs.Lent.{Thin, Holds, lent, Through, unlent, On-words, Check-words};
 use kandurzo::Changed;
 use kandurzo::add;
 use kandurzo::check;
@@ -82,7 +83,7 @@ pub fn check_4096(
 
 // Whether every word is one of 16 bits.
 fn thin(words: &[u32]) -> bool
-    ensures { λ r. ⌜ (r ≡ true → Thin (now (words .entry))) ⌝ }
+    ensures { λ r. ⌜ ((r ≡ true) ↔ Thin (now (words .entry))) ⌝ }
 {
     let mut i = 0;
     while i < words.len() {
@@ -95,12 +96,16 @@ fn thin(words: &[u32]) -> bool
 }
 
 // The answer where the words are no list that can be lent: a number that no call gives.
-fn unlent(head: Head) -> Changed {
+fn unlent(head: Head) -> Changed
+    ensures { λ r. ⌜ r ≡ unlent head ⌝ }
+{
     Changed { number: 99, head }
 }
 
 // add on a list of as many records as the words hold.
-pub fn add_words(head: Head, words: &mut [u32], a: u32, b: u32) -> Changed {
+pub fn add_words(head: Head, words: &mut [u32], a: u32, b: u32) -> Changed
+    ensures { λ r. ⌜ On-words Add-says head (now (words .entry)) a b r (now (words .exit)) ⌝ }
+{
     if !thin(words) {
         return unlent(head);
     }
@@ -114,7 +119,9 @@ pub fn add_words(head: Head, words: &mut [u32], a: u32, b: u32) -> Changed {
 }
 
 // remove on a list of as many records as the words hold.
-pub fn remove_words(head: Head, words: &mut [u32], a: u32, b: u32) -> Changed {
+pub fn remove_words(head: Head, words: &mut [u32], a: u32, b: u32) -> Changed
+    ensures { λ r. ⌜ On-words Remove-says head (now (words .entry)) a b r (now (words .exit)) ⌝ }
+{
     if !thin(words) {
         return unlent(head);
     }
@@ -134,7 +141,9 @@ pub fn check_lent(
     members: &[u8],
     shares: &[u16],
     work: &mut [u32],
-) -> Verdict {
+) -> Verdict
+    ensures { λ r. ⌜ Check-words head (now (words .entry)) (now (members .entry)) (now (shares .entry)) (now (work .entry)) r (now (work .exit)) ⌝ }
+{
     if !thin(words) {
         return Verdict {
             number: 99,

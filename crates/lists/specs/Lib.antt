@@ -1,2 +1,3 @@
--- What the contract of is_held cites.
+-- What the contracts cite.
 pub mod Held
+pub mod Words

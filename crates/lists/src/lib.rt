@@ -4,10 +4,13 @@
 // it writes rise strictly, and each counts once. It costs a step a pair walked. `is_held` tests whether words hold a list (document 01's
 // rules), so that a program can call what asks for one. Nothing else here has a condition: an index past the end reads 0 and writes nothing.
 ghost use mathlib.Core.Path.{_≡_};
-ghost use Prim.Native.Nat.{_<_};
-ghost use lib.ListN.{getD};
+ghost use mathlib.Core.Bool.{true};
+ghost use mathlib.Core.Logic.{_↔_};
+ghost use Prim.Native.Nat.{_+_, _*_, _%_, _^_, _≤_, _<_, min};
+ghost use lib.ListN.{getD, set};
 ghost use Rattle.lists.specs.Held.{held-in, sizes-fit, pair-fits, good-at};
 ghost use Rattle.lists.specs.Held.{follows as Held·follows};
+ghost use Rattle.lists.specs.Words.{next-state, Same-words};
 
 // The kinds of lists.
 pub enum Kind {
@@ -37,25 +40,32 @@ pub struct Walk {
 }
 
 // The next random state, never 0 after one that is not (xorshift of Marsaglia, 32 bits).
-pub fn next(state: u32) -> u32 {
+pub fn next(state: u32) -> u32
+    ensures { λ r. ⌜ r ≡ next-state state ⌝ }
+{
     let x = state ^ (state << 13);
     let y = x ^ (x >> 17);
     y ^ (y << 5)
 }
 
-// A word as an index, and back.
+// A word as an index.
 pub fn wide(x: u32) -> usize
     ensures { λ r. ⌜ r ≡ x ⌝ }
 {
     x as usize
 }
 
-pub fn narrow(x: usize) -> u32 {
+// An index as a word; 65,536 in the place of any above it.
+pub fn narrow(x: usize) -> u32
+    ensures { λ r. ⌜ r ≡ min x 65536 ⌝ }
+{
     if x < 65536 { x as u32 } else { 65536 }
 }
 
 // k times x, by adding.
-pub fn times(k: u32, x: u32) -> u32 {
+pub fn times(k: u32, x: u32) -> u32
+    ensures { λ r. ⌜ r ≡ (k * x) % 2 ^ 32 ⌝ }
+{
     let mut sum = 0;
     let mut i = 0;
     while i < k {
@@ -73,14 +83,26 @@ pub fn word_at(words: &[u32], i: usize) -> u32
 }
 
 // Writes entry i where there is one.
-pub fn put_word(words: &mut [u32], i: usize, x: u32) {
+pub fn put_word(words: &mut [u32], i: usize, x: u32)
+    ensures { λ r. ⌜ now (words .exit) ≡ set (now (words .entry)) i x ⌝ }
+{
     if i < words.len() {
         words[i] = x;
     }
 }
 
+// Adds 1 to entry i.
+pub fn bump(words: &mut [u32], i: usize)
+    ensures { λ r. ⌜ now (words .exit) ≡ set (now (words .entry)) i ((getD (now (words .entry)) i 0 + 1) % 2 ^ 32) ⌝ }
+{
+    let more = std::num::wrapping_add_u32(word_at(words, i), 1);
+    put_word(words, i, more);
+}
+
 // Whether the first n entries are the same.
-pub fn same_words(n: usize, xs: &[u32], ys: &[u32]) -> bool {
+pub fn same_words(n: usize, xs: &[u32], ys: &[u32]) -> bool
+    ensures { λ r. ⌜ ((r ≡ true) ↔ Same-words n (now (xs .entry)) (now (ys .entry))) ⌝ }
+{
     let mut i = 0;
     while i < n {
         if word_at(xs, i) != word_at(ys, i) {
@@ -141,6 +163,7 @@ fn step(
     weights: &mut [u32],
 ) -> Walk
     requires { ⌜ (a < b) × (b < n) ⌝ }
+    ensures { λ r. ⌜ (walk .m ≤ 4096 → r .m ≤ 4096) ⌝ }
 {
     let m = walk.m;
     let passed = walk.passed;
@@ -171,6 +194,7 @@ fn step(
 // The pairs of module a with the modules above it.
 fn row(kind: Kind, n: u32, a: u32, walk: Walk, ends: &mut [u32], weights: &mut [u32]) -> Walk
     requires { ⌜ a < n ⌝ }
+    ensures { λ r. ⌜ (walk .m ≤ 4096 → r .m ≤ 4096) ⌝ }
 {
     let mut now = walk;
     let mut b = a + 1;
@@ -182,7 +206,9 @@ fn row(kind: Kind, n: u32, a: u32, walk: Walk, ends: &mut [u32], weights: &mut [
 }
 
 // Writes a list of n modules: how many pairs it has, and the random state after it.
-pub fn fill(kind: Kind, n: u32, state: u32, ends: &mut [u32], weights: &mut [u32]) -> Walk {
+pub fn fill(kind: Kind, n: u32, state: u32, ends: &mut [u32], weights: &mut [u32]) -> Walk
+    ensures { λ r. ⌜ r .m ≤ 4096 ⌝ }
+{
     let mut walk = Walk {
         m: 0,
         passed: 0,

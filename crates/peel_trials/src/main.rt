@@ -59,12 +59,6 @@ fn seen(tally: Tally, m: usize, state: u32, outcome: Outcome) -> Tally {
     now
 }
 
-// Adds 1 to the first entry.
-fn bump(words: &mut [u32]) {
-    let more = one_more(lists::word_at(words, 0));
-    lists::put_word(words, 0, more);
-}
-
 // Alters an entry of peel's answer, or the place where the remainder begins.
 fn alter(
     altered: Altered,
@@ -75,9 +69,9 @@ fn alter(
 ) -> u32 {
     match altered {
         Altered::Nothing => {}
-        Altered::Order => bump(order),
-        Altered::Cores => bump(cores),
-        Altered::Place => bump(place),
+        Altered::Order => lists::bump(order, 0),
+        Altered::Cores => lists::bump(cores, 0),
+        Altered::Place => lists::bump(place, 0),
         Altered::Remainder => return one_more(at),
     }
     at

@@ -1,5 +1,6 @@
 // Leaving order, core numbers and the densest remainder, as document 01 defines them and as plainly as can be: everything is counted anew
 // whenever it is looked at. `pairs` holds the pairs of the list and nothing more, two words each.
+use lists::bump;
 use lists::narrow;
 use lists::put_word;
 use lists::wide;
@@ -16,12 +17,6 @@ fn set_all(words: &mut [u32], x: u32) {
     }
 }
 
-// Adds 1 to entry v.
-fn count_one(words: &mut [u32], v: usize) {
-    let more = wrapping_add_u32(word_at(words, v), 1);
-    put_word(words, v, more);
-}
-
 // A pair of modules that are both present counts for each of them.
 fn count_pair(a: usize, b: usize, present: &[u32], degrees: &mut [u32]) {
     if word_at(present, a) == 0 {
@@ -30,8 +25,8 @@ fn count_pair(a: usize, b: usize, present: &[u32], degrees: &mut [u32]) {
     if word_at(present, b) == 0 {
         return;
     }
-    count_one(degrees, a);
-    count_one(degrees, b);
+    bump(degrees, a);
+    bump(degrees, b);
 }
 
 // How many pairs join each module present to modules present.
@@ -88,7 +83,7 @@ fn take_turns(
 }
 
 // The leaving order.
-pub fn leaving(n: usize, pairs: &[u32], order: &mut [u32]) {
+pub(crate) fn leaving(n: usize, pairs: &[u32], order: &mut [u32]) {
     let mut present = [1u32; 512];
     let mut degrees = [0u32; 512];
     take_turns(n, pairs, &mut present, &mut degrees, order);
@@ -160,14 +155,14 @@ fn try_orders(n: u32, pairs: &[u32], present: &mut [u32], degrees: &mut [u32], c
 }
 
 // The core numbers: for each module the highest order whose core holds it.
-pub fn core_numbers(n: u32, pairs: &[u32], cores: &mut [u32]) {
+pub(crate) fn core_numbers(n: u32, pairs: &[u32], cores: &mut [u32]) {
     let mut present = [1u32; 512];
     let mut degrees = [0u32; 512];
     try_orders(n, pairs, &mut present, &mut degrees, cores);
 }
 
 // Whether each module of the order is at its place.
-pub fn places_right(n: usize, order: &[u32], place: &[u32]) -> bool {
+pub(crate) fn places_right(n: usize, order: &[u32], place: &[u32]) -> bool {
     let mut i = 0;
     while i < n {
         if wide(word_at(place, wide(word_at(order, i)))) != i {
@@ -209,7 +204,7 @@ fn thinner(n: u32, p: u32, i: u32, r: u32, j: u32) -> bool {
 }
 
 // How many have left when the densest remainder is left, of equals the largest: all remainders are tried.
-pub fn densest(n: u32, pairs: &[u32], place: &[u32]) -> u32 {
+fn densest(n: u32, pairs: &[u32], place: &[u32]) -> u32 {
     let mut best = 0;
     let mut p = inside_from(0, pairs, place);
     let mut i = 1;
@@ -225,7 +220,14 @@ pub fn densest(n: u32, pairs: &[u32], place: &[u32]) -> u32 {
 }
 
 // Whether a remainder is the one when `at` have left, with its inside count and its size.
-pub fn remainder_right(n: u32, pairs: &[u32], place: &[u32], p: u32, q: u32, at: u32) -> bool {
+pub(crate) fn remainder_right(
+    n: u32,
+    pairs: &[u32],
+    place: &[u32],
+    p: u32,
+    q: u32,
+    at: u32,
+) -> bool {
     if at != densest(n, pairs, place) {
         return false;
     }

@@ -14,7 +14,7 @@ pub struct Best {
 }
 
 // Writes the set of a number: module v is a member where bit v is 1.
-pub fn spell(n: usize, number: u32, set: &mut [u32]) {
+pub(crate) fn spell(n: usize, number: u32, set: &mut [u32]) {
     let mut rest = number;
     let mut v = 0;
     while v < n {
@@ -25,7 +25,7 @@ pub fn spell(n: usize, number: u32, set: &mut [u32]) {
 }
 
 // How many of the first n modules are members.
-pub fn size(n: usize, set: &[u32]) -> u32 {
+fn size(n: usize, set: &[u32]) -> u32 {
     let mut count = 0;
     let mut v = 0;
     while v < n {
@@ -95,7 +95,7 @@ fn try_sets(n: usize, count: u32, pairs: &[u32]) -> Best {
 }
 
 // The densest set of n modules, at most 12, of equals the largest.
-pub fn densest(n: u32, pairs: &[u32]) -> Best {
+pub(crate) fn densest(n: u32, pairs: &[u32]) -> Best {
     if n < 13 {
         try_sets(wide(n), 1 << n, pairs)
     } else {
@@ -108,7 +108,7 @@ pub fn densest(n: u32, pairs: &[u32]) -> Best {
 }
 
 // p over q, rounded up.
-pub fn rounded_up(p: u32, q: u32) -> u32 {
+pub(crate) fn rounded_up(p: u32, q: u32) -> u32 {
     if q == 0 {
         0
     } else {
@@ -176,7 +176,7 @@ fn shrink(n: usize, k: u32, pairs: &[u32], set: &mut [u32]) {
 }
 
 // The size of the core of order k.
-pub fn core_size(n: usize, k: u32, pairs: &[u32]) -> u32 {
+pub(crate) fn core_size(n: usize, k: u32, pairs: &[u32]) -> u32 {
     let mut set = [1u32; 512];
     shrink(n, k, pairs, &mut set);
     size(n, &set)

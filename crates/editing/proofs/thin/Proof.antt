@@ -1,5 +1,5 @@
 -- `thin` meets its contract. The loop keeps: all words passed are of 16 bits. Assumes nothing.
-use mathlib.Core.Path.{_≡_}
+use mathlib.Core.Path.{_≡_, refl}
 use Prim.Native.Nat.{ℕ, _≤_, _<_, _-_}
 use lib.ListN.{length, getD}
 use native.Mathlib.Omega.{arith}
@@ -26,7 +26,8 @@ shared-slice-read-if1 : tie.Need-shared-slice-read-if1 Inv-loop μ-loop
 shared-slice-read-if1 c = search needs
 
 returns : tie.Need-returns Inv-loop μ-loop
-returns c = λ e. no e
+unfolding Thin
+returns c = (λ e. no e, λ t. absurd (omega (arith, t _ (c .before .before .loop-test .taken), c .if1 .taken)))
 
 add-i : tie.Need-add-i Inv-loop μ-loop
 add-i c = search needs
@@ -41,7 +42,7 @@ loop-again c =
 
 returns-2 : tie.Need-returns-2 Inv-loop μ-loop
 unfolding Thin
-returns-2 c = λ e i l. c .before .loop .inv .1 i (omega (arith, l, c .loop-test .left))
+returns-2 c = (λ e i l. c .before .loop .inv .1 i (omega (arith, l, c .loop-test .left)), λ t. refl)
 
 pub thin-spec : {M : Type 1} → statement M
 thin-spec =

@@ -2,12 +2,13 @@
 use mathlib.Core.Path.{_≡_}
 use Prim.Native.Nat.{_≤_, _-_}
 use lib.ListN.{length}
+use native.Mathlib.Omega.{arith}
 use borrow.Author.Needs.{needs}
 use Rattle.lists.proofs.fill.Statement.{statement}
 use Rattle.lists.proofs.fill.Tie as tie
 
 abbrev Inv-loop : tie.InvT-loop
-Inv-loop kind n state ends₀ weights₀ walk₀ a₀ ends weights walk a = (a ≤ n) × (length ends ≡ length ends₀) × (length weights ≡ length weights₀)
+Inv-loop kind n state ends₀ weights₀ walk₀ a₀ ends weights walk a = (a ≤ n) × (length ends ≡ length ends₀) × (length weights ≡ length weights₀) × (walk .m ≤ 4096)
 
 abbrev μ-loop : tie.MeasureT-loop
 μ-loop kind n state ends₀ weights₀ walk₀ a₀ ends weights walk a = n - a
@@ -25,7 +26,9 @@ loop-less : tie.Need-loop-less Inv-loop μ-loop
 loop-less c = search needs
 
 loop-again : tie.Need-loop-again Inv-loop μ-loop
-loop-again c = search needs
+loop-again c =
+    let l = c .before .before .before .before in
+    (omega arith, search needs, search needs, l .row .ensures (l .before .before .before .before .loop .inv .3))
 
 same-length : tie.Need-same-length Inv-loop μ-loop
 same-length c = search needs

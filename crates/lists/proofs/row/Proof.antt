@@ -2,12 +2,13 @@
 use mathlib.Core.Path.{_≡_}
 use Prim.Native.Nat.{_≤_, _<_, _-_}
 use lib.ListN.{length}
+use native.Mathlib.Omega.{arith}
 use borrow.Author.Needs.{needs}
 use Rattle.lists.proofs.row.Statement.{statement}
 use Rattle.lists.proofs.row.Tie as tie
 
 abbrev Inv-loop : tie.InvT-loop
-Inv-loop kind n a ends₀ weights₀ now₀ b₀ ends weights now b = (b ≤ n) × (a < b) × (length ends ≡ length ends₀) × (length weights ≡ length weights₀)
+Inv-loop kind n a ends₀ weights₀ now₀ b₀ ends weights now b = (b ≤ n) × (a < b) × (length ends ≡ length ends₀) × (length weights ≡ length weights₀) × (now₀ .m ≤ 4096 → now .m ≤ 4096)
 
 abbrev μ-loop : tie.MeasureT-loop
 μ-loop kind n a ends₀ weights₀ now₀ b₀ ends weights now b = n - b
@@ -28,7 +29,9 @@ loop-less : tie.Need-loop-less Inv-loop μ-loop
 loop-less c = search needs
 
 loop-again : tie.Need-loop-again Inv-loop μ-loop
-loop-again c = search needs
+loop-again c =
+    let l = c .before .before .before .before in
+    (omega arith, omega arith, search needs, search needs, λ few. l .step .ensures (l .before .before .before .before .loop .inv .4 few))
 
 same-length : tie.Need-same-length Inv-loop μ-loop
 same-length c = search needs

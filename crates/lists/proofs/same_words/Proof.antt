@@ -1,17 +1,24 @@
 -- `lists::same_words` meets its contract. Assumes nothing.
-use Prim.Native.Nat.{_≤_, _-_}
+use mathlib.Core.Path.{_≡_, refl, sym, _∙_}
+use Prim.Native.Nat.{ℕ, _≤_, _<_, _-_}
+use lib.ListN.{getD}
+use native.Mathlib.Omega.{arith}
+use borrow.Author.Count.{below-none, below-more}
 use borrow.Author.Needs.{needs}
+use Rattle.theory.proofs.Tests.{no}
+use Rattle.lists.specs.Words.{Same-words}
 use Rattle.lists.proofs.same_words.Statement.{statement}
 use Rattle.lists.proofs.same_words.Tie as tie
 
 abbrev Inv-loop : tie.InvT-loop
-Inv-loop n xs ys i₀ i = i ≤ n
+Inv-loop n xs ys i₀ i = (i ≤ n) × Same-words i xs ys
 
 abbrev μ-loop : tie.MeasureT-loop
 μ-loop n xs ys i₀ i = n - i
 
 loop-holds : tie.Need-loop-holds Inv-loop μ-loop
-loop-holds c = search needs
+unfolding Same-words
+loop-holds c = (omega arith, below-none _)
 
 word-at-requires : tie.Need-word-at-requires Inv-loop μ-loop
 word-at-requires c κs = search needs
@@ -20,7 +27,10 @@ word-at-requires-2 : tie.Need-word-at-requires-2 Inv-loop μ-loop
 word-at-requires-2 c κs = search needs
 
 returns : tie.Need-returns Inv-loop μ-loop
-returns c = search needs
+unfolding Same-words
+returns c =
+    let l = c .before .before in
+    (λ e. no e, λ all. absurd (c .if1 .taken (l .word-at .ensures ∙ all _ (l .before .loop-test .taken) ∙ sym (c .before .word-at2 .ensures))))
 
 add-i : tie.Need-add-i Inv-loop μ-loop
 add-i c = search needs
@@ -29,10 +39,14 @@ loop-less : tie.Need-loop-less Inv-loop μ-loop
 loop-less c = search needs
 
 loop-again : tie.Need-loop-again Inv-loop μ-loop
-loop-again c = search needs
+unfolding Same-words
+loop-again c =
+    let l = c .before .before in
+    (omega arith, below-more _ _ (l .before .before .loop .inv .1) (sym (l .word-at .ensures) ∙ c .if1 .left ∙ c .before .word-at2 .ensures))
 
 returns-2 : tie.Need-returns-2 Inv-loop μ-loop
-returns-2 c = search needs
+unfolding Same-words
+returns-2 c = (λ e i l. c .before .loop .inv .1 i (omega (arith, l, c .loop-test .left)), λ all. refl)
 
 pub same-words-spec : {M : Type 1} → statement M
 same-words-spec =

@@ -1,0 +1,12 @@
+-- `lists::next` meets its contract. Assumes nothing.
+use mathlib.Core.Path.{refl}
+use Rattle.lists.specs.Words.{mix-up, mix-down, next-state}
+use Rattle.lists.proofs.next.Statement.{statement}
+use Rattle.lists.proofs.next.Tie as tie
+
+returns : tie.Need-returns
+unfolding next-state mix-up mix-down
+returns c = refl
+
+pub next-spec : {M : Type 1} → statement M
+next-spec = tie.close (tie.spec returns)
