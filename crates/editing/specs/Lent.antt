@@ -3,6 +3,7 @@
 --   Holds      the words are those of so many records
 --   lent       the list that is lent
 --   Through    what a call says of the list that was lent, with the words after it
+--   seven-nine, Read-through   what read says of a list of one record throughout, with the words after it
 -- Assumes nothing: these are definitions.
 use mathlib.Core.Path.{_≡_}
 use mathlib.Core.List.{List}
@@ -12,6 +13,7 @@ use Rattle.records.specs.declared.Pair.{Pair}
 use Rattle.records.specs.declared.Head.{Head}
 use Rattle.records.specs.Records.{blank, laid-out, put-back}
 use Rattle.kandurzo.specs.declared.Changed.{Changed}
+use Rattle.kandurzo.specs.Reading.{Read-call}
 
 -- each word is one of 16 bits
 unfoldable pub Thin : List ℕ → Type 0
@@ -30,4 +32,14 @@ lent len ws = put-back (replicate len blank) ws len
 pub record Through (Says : Head → List Pair → ℕ → ℕ → Changed → List Pair → Type 0) (len : ℕ) (h : Head) (words : List ℕ) (a b : ℕ) (r : Changed) (after : List ℕ) : Type 0 where
   pub left : List Pair
   pub says : Says h (lent len words) a b r left
+  pub laid : after ≡ laid-out left words len
+
+-- what the records of a list are before read: a record that shows whether it was written
+abbrev pub seven-nine : Pair
+seven-nine = record { a = 7; b = 9 }
+
+-- read says what it says of `len` such records, and the words are then those of the list that it leaves
+pub record Read-through (len : ℕ) (before : Pair) (bytes words work : List ℕ) (r : Changed) (after work′ : List ℕ) : Type 0 where
+  pub left : List Pair
+  pub says : Read-call bytes (replicate len before) work r left work′
   pub laid : after ≡ laid-out left words len
