@@ -2,23 +2,27 @@
 //
 // The run folder holds lists of cases, a case a line, and the pair files that they name. A line has what is tried, a space, and the answer due:
 //
-//   files    FILE                   the pair file is read and its list solved
-//   large    N M LINES AGAIN MORE   so is a file made here: `modules=N`, `pairs=M`, LINES pair lines, the first AGAIN of them again, MORE line ends
-//   starts   N                      start
-//   sheets   A B                    check, on three modules with the pairs 0,1 and 1,2, all three members, and the shares A and B
+//   files    FILE                        the pair file is read and its list solved
+//   large    N M LINES AGAIN MORE        so is a file made here: `modules=N`, `pairs=M`, LINES pair lines, AGAIN of the first again, MORE line ends
+//   reads    WORK N M LINES AGAIN MORE   such a file is read into a list of 100 records, with a work buffer of WORK words
+//   starts   N                           start
+//   sheets   A B                         check, on three modules with the pairs 0,1 and 1,2, all three members, and the shares A and B
 //
 // Folders of files: `first`, `second`, `pair` and `end` break a rule on the first line, the second, a pair line, after the last; in `order` several
 // conditions hold; `taken` files break none.
 //
 // An answer is the refusal number, or 0 and the values. Of a list solved these are P/Q, then K,S with the size S of the core of order K, then the
 // member bytes as runs: 1x4 0x1 is 1, 1, 1, 1, 0. Member bytes are 2 before the call, and those that stay so are left out. Of start they are
-// the head's N,M; of check P/Q.
+// the head's N,M; of check P/Q. Of read they are the head's N,M and, after a refusal too, the first three records, how many of the 100 are as before (7,9),
+// and how many words of the work buffer are 0 and how many as before (7).
 //
 // A line is printed for each list of cases, and one for each case that did not come out as due.
 ghost use Prim.Native.Nat.{_≤_};
 ghost use lib.ListN.{length};
 use answer::solve_file;
 use editing::check_lent;
+use editing::read_100;
+use kandurzo::Changed;
 use kandurzo::start;
 use libc::STDOUT_FILENO;
 use records::Head;
@@ -26,6 +30,7 @@ use records::Head;
 enum Kind {
     Files,
     Large,
+    Reads,
     Starts,
     Sheets,
 }
@@ -246,23 +251,30 @@ fn put_ends(file: &mut [u8], at: usize, count: u32) -> usize {
     end
 }
 
-// A file made here.
-fn try_large(line: &[u8], text: &mut [u8]) -> Given {
-    let mut file = [0u8; 80000];
-    let n = number_at(line, 0);
+// Makes the file that the line's numbers from `from` on describe.
+fn put_file(file: &mut [u8], line: &[u8], from: usize) -> Given {
+    let n = number_at(line, from);
     let m = number_at(line, n.next);
     let lines = number_at(line, m.next);
     let again = number_at(line, lines.next);
     let more = number_at(line, again.next);
-    let first = put_field(&mut file, 0, b"modules=", n.value);
-    let second = put_field(&mut file, first, b"\npairs=", m.value);
-    let head = put_text(&mut file, second, b"\n");
-    let pairs = put_pairs(&mut file, head, lines.value);
-    let twice = put_pairs(&mut file, pairs, again.value);
-    let end = put_ends(&mut file, twice, more.value);
+    let first = put_field(file, 0, b"modules=", n.value);
+    let second = put_field(file, first, b"\npairs=", m.value);
+    let head = put_text(file, second, b"\n");
+    let pairs = put_pairs(file, head, lines.value);
+    let twice = put_pairs(file, pairs, again.value);
     Given {
         due: more.next,
-        end: put_first(text, &file, end),
+        end: put_ends(file, twice, more.value),
+    }
+}
+
+fn try_large(line: &[u8], text: &mut [u8]) -> Given {
+    let mut file = [0u8; 80000];
+    let made = put_file(&mut file, line, 0);
+    Given {
+        due: made.due,
+        end: put_first(text, &file, made.end),
     }
 }
 
@@ -274,14 +286,86 @@ fn put_first(text: &mut [u8], bytes: &[u8], n: usize) -> usize {
     put_solved(text, &bytes[0..n])
 }
 
+fn count(words: &[u32], value: u32) -> u32 {
+    let mut found = 0;
+    let mut i = 0;
+    while i < words.len() {
+        found = counted(found, words[i], value);
+        i += 1;
+    }
+    found
+}
+
+fn counted(found: u32, word: u32, value: u32) -> u32 {
+    if word == value {
+        one_more(found)
+    } else {
+        found
+    }
+}
+
+fn word_at(words: &[u32], i: usize) -> u32 {
+    if i < words.len() { words[i] } else { 0 }
+}
+
+fn put_record(text: &mut [u8], at: usize, words: &[u32], i: usize) -> usize {
+    put_two(text, at, word_at(words, i), b",", word_at(words, after(i)))
+}
+
+fn put_list(text: &mut [u8], at: usize, words: &[u32]) -> usize {
+    let first = put_record(text, at, words, 0);
+    let second = put_record(text, first, words, 2);
+    let third = put_record(text, second, words, 4);
+    put_field(text, third, b" ", count(words, 7))
+}
+
+fn put_work(text: &mut [u8], at: usize, work: &[u32]) -> usize {
+    let cleared = put_field(text, at, b" ", count(work, 0));
+    put_field(text, cleared, b",", count(work, 7))
+}
+
+fn put_changed(text: &mut [u8], answer: Changed) -> usize {
+    let head = answer.head;
+    let status = put_field(text, 0, b"", answer.number);
+    put_two(text, status, head.n, b",", head.m)
+}
+
+// What read makes of the bytes, of the list and of the work buffer.
+fn put_read(text: &mut [u8], bytes: &[u8], work: &mut [u32]) -> usize {
+    let mut words = [0u32; 200];
+    let answer = read_100(bytes, &mut words, work);
+    let head = put_changed(text, answer);
+    let list = put_list(text, head, &words);
+    put_work(text, list, work)
+}
+
+// The same of the first n bytes, with the first k words to work in.
+fn put_read_first(text: &mut [u8], bytes: &[u8], n: usize, work: &mut [u32], k: usize) -> usize {
+    if bytes.len() < n {
+        return 0;
+    }
+    if work.len() < k {
+        return 0;
+    }
+    put_read(text, &bytes[0..n], &mut work[0..k])
+}
+
+fn try_read(line: &[u8], text: &mut [u8]) -> Given {
+    let mut file = [0u8; 80000];
+    let mut work = [7u32; 16400];
+    let k = number_at(line, 0);
+    let made = put_file(&mut file, line, k.next);
+    Given {
+        due: made.due,
+        end: put_read_first(text, &file, made.end, &mut work, k.value as usize),
+    }
+}
+
 fn try_start(line: &[u8], text: &mut [u8]) -> Given {
     let n = number_at(line, 0);
-    let started = start(n.value);
-    let head = started.head;
-    let status = put_field(text, 0, b"", started.number);
     Given {
         due: n.next,
-        end: put_two(text, status, head.n, b",", head.m),
+        end: put_changed(text, start(n.value)),
     }
 }
 
@@ -311,6 +395,7 @@ fn try_case(kind: Kind, line: &[u8], text: &mut [u8]) -> Given {
     match kind {
         Kind::Files => try_file(line, text),
         Kind::Large => try_large(line, text),
+        Kind::Reads => try_read(line, text),
         Kind::Starts => try_start(line, text),
         Kind::Sheets => try_sheet(line, text),
     }
@@ -378,6 +463,7 @@ fn try_list(kind: Kind, name: &[u8]) {
 fn main() {
     try_list(Kind::Files, b"files");
     try_list(Kind::Large, b"large");
+    try_list(Kind::Reads, b"reads");
     try_list(Kind::Starts, b"starts");
     try_list(Kind::Sheets, b"sheets");
 }
