@@ -8,13 +8,16 @@
 //   starts   N                           start
 //   sheets   A B                         check, on three modules with the pairs 0,1 and 1,2, all three members, and the shares A and B
 //
-// Folders of files: `first`, `second`, `pair` and `end` break a rule on the first line, the second, a pair line, after the last; in `order` several
-// conditions hold; `taken` files break none.
+// Files of the folders `first`, `second`, `pair` and `end` break a rule on the first line, on the second, on a pair line, after the last; of those in
+// `order` several conditions hold; those in `taken` are accepted, the starred lists of document 01 among them.
 //
-// An answer is the refusal number, or 0 and the values. Of a list solved these are P/Q, then K,S with the size S of the core of order K, then the
-// member bytes as runs: 1x4 0x1 is 1, 1, 1, 1, 0. Member bytes are 2 before the call, and those that stay so are left out. Of start they are
-// the head's N,M; of check P/Q. Of read they are the head's N,M and, after a refusal too, the first three records, how many of the 100 are as before (7,9),
-// and how many words of the work buffer are 0 and how many as before (7).
+// An answer is the refusal number, or 0 and the values:
+//   files, large   P/Q; K and the size of the core of order K; the member bytes as runs, where 1x4 0x1 is 1, 1, 1, 1, 0. All 512 member bytes are 2
+//                  before the call; those that stay 2 are left out
+//   reads          the head's N,M; then, after a refusal too, the first three records, how many of the 100 are 7,9 as before, how many words of the
+//                  work buffer are 0 and how many 7 as before
+//   starts         the head's N,M
+//   sheets         P/Q
 //
 // A line is printed for each list of cases, and one for each case that did not come out as due.
 ghost use Prim.Native.Nat.{_≤_};
@@ -88,7 +91,7 @@ fn put_text(text: &mut [u8], at: usize, bytes: &[u8]) -> usize {
     end
 }
 
-// Puts a label and a number.
+// A label and a number.
 fn put_field(text: &mut [u8], at: usize, label: &[u8], value: u32) -> usize {
     let mut digits = [0u8; 20];
     let end = put_text(text, at, label);
@@ -107,7 +110,7 @@ fn put_two(text: &mut [u8], at: usize, first: u32, between: &[u8], second: u32) 
     put_field(text, end, between, second)
 }
 
-// Puts the bytes as runs, those of 2 left out.
+// The bytes as runs, those of 2 left out.
 fn put_runs(text: &mut [u8], at: usize, bytes: &[u8]) -> usize {
     let mut run = Run { end: at, count: 0 };
     let mut v = 0;
@@ -286,6 +289,7 @@ fn put_first(text: &mut [u8], bytes: &[u8], n: usize) -> usize {
     put_solved(text, &bytes[0..n])
 }
 
+// How many of the words are the value.
 fn count(words: &[u32], value: u32) -> u32 {
     let mut found = 0;
     let mut i = 0;
@@ -312,6 +316,7 @@ fn put_record(text: &mut [u8], at: usize, words: &[u32], i: usize) -> usize {
     put_two(text, at, word_at(words, i), b",", word_at(words, after(i)))
 }
 
+// The list after read: three records, and how many are as before.
 fn put_list(text: &mut [u8], at: usize, words: &[u32]) -> usize {
     let first = put_record(text, at, words, 0);
     let second = put_record(text, first, words, 2);
@@ -319,11 +324,13 @@ fn put_list(text: &mut [u8], at: usize, words: &[u32]) -> usize {
     put_field(text, third, b" ", count(words, 7))
 }
 
+// The work buffer after read.
 fn put_work(text: &mut [u8], at: usize, work: &[u32]) -> usize {
     let cleared = put_field(text, at, b" ", count(work, 0));
     put_field(text, cleared, b",", count(work, 7))
 }
 
+// What start and read answer.
 fn put_changed(text: &mut [u8], answer: Changed) -> usize {
     let head = answer.head;
     let status = put_field(text, 0, b"", answer.number);

@@ -1,4 +1,4 @@
--- `cases::number_at` is safe and ends. The loop keeps nothing. Assumes nothing.
+-- `cases::number_at` is safe and ends. The number stays small. Assumes nothing.
 use Prim.Native.Nat.{_≤_, _-_}
 use lib.ListN.{length}
 use borrow.Author.Needs.{needs}
@@ -6,7 +6,7 @@ use Rattle.cases.proofs.number_at.Statement.{statement}
 use Rattle.cases.proofs.number_at.Tie as tie
 
 abbrev Inv-loop : tie.InvT-loop
-Inv-loop line from value₀ i₀ value i = value ≤ value
+Inv-loop line from value₀ i₀ value i = value ≤ 100005
 
 abbrev μ-loop : tie.MeasureT-loop
 μ-loop line from value₀ i₀ value i = length line - i
