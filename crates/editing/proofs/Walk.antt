@@ -1,6 +1,6 @@
 -- A call on records kept in words, once for every length of the list and for add and remove: the functions of this crate differ in nothing else.
 --   made           their MIR: the list's length, the operand that says it, and the function that is called
---   Sized          the operand is that number
+--   Sized          the operand is that number; list-slice, room-of, small: a list of that length is lent
 --   call-clauses   what the called function says; clauses: what the function says
 --   meets          it meets its contract
 -- Positions: the words' row at 0, what closes it at 1, local j at 2 + j; once the list is made its row is at 0, the words' at 1, and local j at
@@ -129,11 +129,19 @@ abbrev pub Sized : {M : Type 1} {𝓤 : URA M} {H : Heap 𝓤} {A : Atoms 𝓤} 
 Sized {𝓤 = 𝓤} {H = H} W size len = (K : Type 0) (Γ : List (Item 𝓤)) (E : Env 𝓤 H) → K → Opd K W Γ E size (vint w64 len)
 
 -- a length of up to 4,096 is a number of 64 bits, and so many records have room
-small : (len : ℕ) → len ≤ 4096 → len < 2 ^ 64
+pub small : (len : ℕ) → len ≤ 4096 → len < 2 ^ 64
 small len few = lt-of-le-of-lt few (lit< tt)
 
-room-of : (len : ℕ) → len ≤ 4096 → (l : List Pair) → length l ≡ len → Room P.the-row (length l)
+pub room-of : (len : ℕ) → len ≤ 4096 → (l : List Pair) → length l ≡ len → Room P.the-row (length l)
 room-of len few l e = subst (Room P.the-row) (sym e) (small len few, lt-of-le-of-lt (mul-le-mul-right 4 few) (lit< tt))
+
+-- `&list`, as a slice, of a list whose length the operand is
+module _ {M : Type 1} {𝓤 : URA M} {H : Heap 𝓤} {A : Atoms 𝓤} (W : Given 𝓤 H A) (size : Operand) (len : ℕ) (is-size : Sized W size len) where
+  pub list-slice : {K : Type 0} → K → (np : ℕ) {Γ : List (Item 𝓤)} {E : Env 𝓤 H} {p : ℕ} {q : Share} {b o : ℕ} (k : ℕ)
+      → nth 𝓤 H A np Γ ≡ ‵ (fat q (spotOf 𝓤 H E p .0) (spotOf 𝓤 H E p .1) (spotOf 𝓤 H E p .2) (vptr b o)) → k ≡ len
+      → Rv K W Γ E (aggregate (the p ∷ size ∷ [])) (sliceVal (b, o) k)
+  list-slice {K} t np {Γ} {E} {p} {q} {b} {o} k e is =
+      subst (λ (j : ℕ). Rv K W Γ E (aggregate (the p ∷ size ∷ [])) (sliceVal (b, o) j)) (sym is) (agg t (and-then t (var t np e) (and-then t (is-size K Γ E t) (no-more t))))
 
 module _ (Says : Call) {M : Type 1} (𝓤 : URA M) where
   abbrev pub call-clauses : Clauses 𝓤 callee.ended
@@ -156,13 +164,6 @@ module _ (len : ℕ) (few : len ≤ 4096) (size : Operand) (called : Name) (Says
     (known : Triple 𝓤 (𝓣 .C called) (tripleOf 𝓤 H A callee.signature (closing 𝓤 H A callee.ended (call-clauses Says 𝓤)))) where
   fm : FmC 𝓤 H (W .laws) (𝓣 .C)
   fm = fmOf 𝓤 H (W .laws) 𝓣
-
-  -- `&list`, as a slice
-  list-slice : {K : Type 0} → K → (np : ℕ) {Γ : List (Item 𝓤)} {E : Env 𝓤 H} {p : ℕ} {q : Share} {b o : ℕ} (k : ℕ)
-      → nth 𝓤 H A np Γ ≡ ‵ (fat q (spotOf 𝓤 H E p .0) (spotOf 𝓤 H E p .1) (spotOf 𝓤 H E p .2) (vptr b o)) → k ≡ len
-      → Rv K W Γ E (aggregate (the p ∷ size ∷ [])) (sliceVal (b, o) k)
-  list-slice {K} t np {Γ} {E} {p} {q} {b} {o} k e is =
-      subst (λ (j : ℕ). Rv K W Γ E (aggregate (the p ∷ size ∷ [])) (sliceVal (b, o) j)) (sym is) (agg t (and-then t (var t np e) (and-then t (is-size K Γ E t) (no-more t))))
 
   abbrev plain-changed : Plain W D.the-row
   plain-changed = plain-record W D.the-type D′.the-laws D′.the-plain D′.the-copy
@@ -208,7 +209,7 @@ module _ (len : ℕ) (few : len ≤ 4096) (size : Operand) (called : Name) (Says
         opens-array ! (2 + 5) P.the-row (plain-pair W) len blank blank-fits tt (block (env (locals len) bs) 5) refl $
         -- copy_in(&mut list, words, len)
         sets ! (3 + 9) empty (addr ! (from ! (stop !))) (tt, tt) $
-        sets ! (3 + 10) empty (list-slice ! (3 + 9) (length zs) refl (length-start-list len)) (fit-slice (room-of len few zs (length-start-list len) .0)) $
+        sets ! (3 + 10) empty (list-slice W size len is-size ! (3 + 9) (length zs) refl (length-start-list len)) (fit-slice (room-of len few zs (length-start-list len) .0)) $
         sets ! (3 + 11) empty (ptr-of ! (3 + 2) refl refl) (tt, tt) $
         sets ! (3 + 12) empty (slice-again ! (3 + 11) (3 + 2) refl refl refl) (fit-slice (room .0)) $
         copies-in mem run ! fm known-in (block (env (locals len) bs) 5) 0 zs fullShare b o ws len (room-of len few zs (length-start-list len)) room
@@ -217,7 +218,7 @@ module _ (len : ℕ) (few : len ≤ 4096) (size : Operand) (called : Name) (Says
         lands-in ! (3 + 8) empty (tt, tt) $
         -- let answer = add(head, &mut list, a, b), or remove
         sets ! (3 + 13) empty (addr ! (from ! (stop !))) (tt, tt) $
-        sets ! (3 + 14) empty (list-slice ! (3 + 13) (length ps) refl length-ps) (fit-slice (room-of len few ps length-ps .0)) $
+        sets ! (3 + 14) empty (list-slice W size len is-size ! (3 + 13) (length ps) refl length-ps) (fit-slice (room-of len few ps length-ps .0)) $
         calls-outright ! fm (args (block (env (locals len) bs) 5)) D.the-row plain-changed (emp 𝓤) (λ r ls. Says h ps m n r (ls .1 .0)) refl
         (id⊢ 𝓤 _) (λ ks. known (bound (args (block (env (locals len) bs) 5)) ks, tt)) (outcome .answer) (tt, (outcome .left, (tt, (tt, tt))))
         (λ r ls e. (outcome .only r (ls .1 .0) e .0, λ i. (tt, (outcome .only r (ls .1 .0) e .1 i, (tt, (tt, tt))))))
@@ -226,7 +227,7 @@ module _ (len : ℕ) (few : len ≤ 4096) (size : Operand) (called : Name) (Says
         lands-in ! (3 + 6) empty (typed-as plain-changed (outcome .answer) r-fits) $
         -- copy_out(&list, words, len)
         sets ! (3 + 15) empty (addr ! (from ! (stop !))) (tt, tt) $
-        sets ! (3 + 16) empty (list-slice ! (3 + 15) (length (outcome .left)) refl (sized .0 ∙ length-ps))
+        sets ! (3 + 16) empty (list-slice W size len is-size ! (3 + 15) (length (outcome .left)) refl (sized .0 ∙ length-ps))
         (fit-slice (room-of len few (outcome .left) (sized .0 ∙ length-ps) .0)) $
         sets ! (3 + 17) empty (ptr-of ! (3 + 2) refl refl) (tt, tt) $
         sets ! (3 + 18) empty (slice-again ! (3 + 17) (3 + 2) refl refl refl) (fit-slice (room .0)) $

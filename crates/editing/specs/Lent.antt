@@ -5,6 +5,7 @@
 --   Through    what a call says of the list that was lent, with the words after it
 --   unlent, unlent-verdict  the answers where no list is lent
 --   On-words, Check-words   what a call on words of any number says: of their list where they are one that is lent, else 99
+--   seven-nine, Read-through   what read says of a list of one record throughout, with the words after it
 -- Assumes nothing: these are definitions.
 use mathlib.Core.Path.{_≡_}
 use mathlib.Core.List.{List}
@@ -16,6 +17,7 @@ use Rattle.records.specs.Records.{blank, laid-out, put-back}
 use Rattle.verify.specs.declared.Verdict.{Verdict}
 use Rattle.kandurzo.specs.declared.Changed.{Changed}
 use Rattle.kandurzo.specs.Judging.{Check-call}
+use Rattle.kandurzo.specs.Reading.{Read-call}
 
 -- each word is one of 16 bits
 unfoldable pub Thin : List ℕ → Type 0
@@ -53,3 +55,13 @@ pub record On-words (Says : Head → List Pair → ℕ → ℕ → Changed → L
 pub record Check-words (h : Head) (words members shares work : List ℕ) (v : Verdict) (after : List ℕ) : Type 0 where
   pub full : Holds 4096 words → Check-call h (lent 4096 words) members shares work v after
   pub refused : (Holds 4096 words → ⊥) → (v ≡ unlent-verdict) × (after ≡ work)
+
+-- what the records of a list are before read: a record that shows whether it was written
+abbrev pub seven-nine : Pair
+seven-nine = record { a = 7; b = 9 }
+
+-- read says what it says of `len` such records, and the words are then those of the list that it leaves
+pub record Read-through (len : ℕ) (before : Pair) (bytes words work : List ℕ) (r : Changed) (after work′ : List ℕ) : Type 0 where
+  pub left : List Pair
+  pub says : Read-call bytes (replicate len before) work r left work′
+  pub laid : after ≡ laid-out left words len

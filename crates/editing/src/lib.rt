@@ -1,14 +1,18 @@
 // The calls add and remove, for callers that keep the records in words, two a record: the words are put together to a list of that length,
-// the list is lent to the call, and what the call leaves goes back to the words. Lists of 4,096 records and of 100.
+// the list is lent to the call, and what the call leaves goes back to the words. Lists of 4,096 records and of 100. Check likewise, and read into
+// a list of 100.
 ghost use mathlib.Core.Path.{_≡_};
 ghost use mathlib.Core.Bool.{true};
 ghost use mathlib.Core.Logic.{_↔_};
+ghost use Prim.Native.Nat.{_≤_};
+ghost use lib.ListN.{length};
 ghost use Rattle.kandurzo.specs.Listing.{Add-says, Remove-says};
 ghost use Rattle.kandurzo.specs.Judging.{Check-call};
-ghost use Rattle.editing.specs.Lent.{Thin, Holds, lent, Through, unlent, On-words, Check-words};
+ghost use Rattle.editing.specs.Lent.{Thin, Holds, lent, Through, unlent, On-words, Check-words, Read-through, seven-nine};
 use kandurzo::Changed;
 use kandurzo::add;
 use kandurzo::check;
+use kandurzo::read;
 use kandurzo::remove;
 use records::Head;
 use records::Pair;
@@ -79,6 +83,17 @@ pub fn check_4096(
     let mut list = [Pair { a: 0, b: 0 }; 4096];
     copy_in(&mut list, words, 4096);
     check(head, &list, members, shares, work)
+}
+
+// read into a list of 100 records, each 7,9 before the call; the words are then the list's.
+pub fn read_100(bytes: &[u8], words: &mut [u32], work: &mut [u32]) -> Changed
+    requires { ⌜ 200 ≤ length (now words) ⌝ }
+    ensures { λ r. ⌜ Read-through 100 seven-nine (now (bytes .entry)) (now (words .entry)) (now (work .entry)) r (now (words .exit)) (now (work .exit)) ⌝ }
+{
+    let mut list = [Pair { a: 7, b: 9 }; 100];
+    let answer = read(bytes, &mut list, work);
+    copy_out(&list, words, 100);
+    answer
 }
 
 // Whether every word is one of 16 bits.
