@@ -55,17 +55,23 @@ slice-aggregate-solve c = search needs
 slice-aggregate-solve-2 : tie.Need-slice-aggregate-solve-2
 slice-aggregate-solve-2 c = search needs
 
+slice-aggregate-solve-3 : tie.Need-slice-aggregate-solve-3
+slice-aggregate-solve-3 c = search needs
+
 solve-requires : tie.Need-solve-requires
 solve-requires c κs =
-    let e = c .before .before .before in
+    let e = c .before .before .before .before in
     let h = held e in
-    (record { listed = h .listed; ends-long = h .ends-long; weights-long = h .weights-long }, (h .few, few e))
+    (record { listed = h .listed; ends-long = h .ends-long; weights-long = h .weights-long }, (h .few, h .few, few e))
 
 slice-aggregate-alter : tie.Need-slice-aggregate-alter
 slice-aggregate-alter c = search needs
 
 slice-aggregate-alter-2 : tie.Need-slice-aggregate-alter-2
 slice-aggregate-alter-2 c = search needs
+
+slice-aggregate-alter-3 : tie.Need-slice-aggregate-alter-3
+slice-aggregate-alter-3 c = search needs
 
 alter-requires : tie.Need-alter-requires
 alter-requires c κs = search needs
@@ -87,8 +93,8 @@ slice-aggregate-check-words-2 c = search needs
 
 check-words-requires : tie.Need-check-words-requires
 check-words-requires c κs =
-    let altered = c .before .before .before .before .before .before .before in
-    let e = altered .before .before .before .before .before .before .before .before .before .before in
+    let altered = c .before .before .before .before .before .before .before .before .before in
+    let e = altered .before .before .before .before .before .before .before .before .before .before .before .before in
     let h = held e in (
       record { held = h .listed; ends-enough = h .ends-long; weights-enough = h .weights-long },
       (omega (arith, h .few, slice-aggregate-check-words (c .before)), omega (arith, few e, slice-aggregate-check-words-2 c)),
@@ -96,6 +102,9 @@ check-words-requires c κs =
 
 slice-aggregate-agrees : tie.Need-slice-aggregate-agrees
 slice-aggregate-agrees c = search needs
+
+slice-aggregate-agrees-2 : tie.Need-slice-aggregate-agrees-2
+slice-aggregate-agrees-2 c = search needs
 
 agrees-requires : tie.Need-agrees-requires
 agrees-requires c κs = search needs
@@ -117,9 +126,11 @@ compare-spec =
     slice-aggregate-pairs
     slice-aggregate-solve
     slice-aggregate-solve-2
+    slice-aggregate-solve-3
     solve-requires
     slice-aggregate-alter
     slice-aggregate-alter-2
+    slice-aggregate-alter-3
     alter-requires
     slice-aggregate-copy-shares
     slice-aggregate-copy-shares-2
@@ -128,6 +139,7 @@ compare-spec =
     slice-aggregate-check-words-2
     check-words-requires
     slice-aggregate-agrees
+    slice-aggregate-agrees-2
     agrees-requires
     returns-2
     returns-3)
