@@ -1,8 +1,7 @@
 -- Solve, from the words to the call, and what follows of its answers.
 --   solve-enough         where no buffer is short
---   unsplit-never        the condition of 15 never holds
+--   unsplit-never        the condition of 15 never holds: so 15 never comes
 --   solve-call           the call's promise
---   fifteen-never        15 never comes
 --   records-in-order     two records' floats compare as their ratios do
 --   narrow-ones          numbers of a list of ones fit 16 bits
 -- Assumes nothing.
@@ -76,9 +75,11 @@ module _ (h : Head) (ps : List Pair) (members cores shares work : List ℕ) wher
             let z : gate ≡ 0 = eqb-true _ 0 e in
             record {
               number = record {
-                first = λ n. absurd (n z);
-                unsplit = λ _ u. absurd (unsplit-never (held-list h ps) (held-is-list h ps (gate-open h ps short z .0)) u);
-                taken = λ _ _. on .number ∙ z;
+                outright = on .number;
+                fifteen = λ _. (
+                  λ x. absurd (omega (arith, x, on .number, z)),
+                  λ u. absurd (unsplit-never (held-list h ps) (held-is-list h ps (gate-open h ps short z .0)) u),
+                );
               };
               handed = λ _. rw (work-in-list h ps short work long z) at (on .handed z);
               refused = λ n. absurd (n (on .number ∙ z));
@@ -89,29 +90,13 @@ module _ (h : Head) (ps : List Pair) (members cores shares work : List ℕ) wher
             let n : gate ≡ 0 → ⊥ = eqb-false _ 0 e in
             let no = on .refused n in
             record {
-              number = record { first = λ _. on .number; unsplit = λ z _. absurd (n z); taken = λ z _. absurd (n z) };
+              number = record { outright = on .number; fifteen = λ z. absurd (n z) };
               handed = λ z. absurd (n (sym (on .number) ∙ z));
               refused = λ _. (no .0 ∙ ap declined (sym (on .number)), no .1, no .2, no .3);
               left = on .left ∙ rw e (work-in-shut h ps short work long n) ∙ sym (work-same (r .number) work (rw (on .number) (gate-one-of h ps short n)));
             }
 
 -- ---- what follows of the answers
-
--- the gate's number, 0 included, is the call's
-pub fifteen-never : (h : Head) (ps : List Pair) (members cores shares work : List ℕ) {r : Solved} {members′ cores′ shares′ work′ : List ℕ} →
-    Solve-call h ps members cores shares work r members′ cores′ shares′ work′ →
-    r .number ≡ gate-number h ps (solve-short h (length members) (length cores) (length shares) (length work))
-fifteen-never h ps members cores shares work {r} call = go (eqb k 0) refl
-  where
-    k : ℕ
-    k = gate-number h ps (solve-short h (length members) (length cores) (length shares) (length work))
-
-    go : (t : Bool) → eqb k 0 ≡ t → r .number ≡ k
-    go true e =
-        let z : k ≡ 0 = eqb-true _ 0 e in
-        call .number .taken z (unsplit-never (held-list h ps)
-        (held-is-list h ps (gate-open h ps (solve-short h (length members) (length cores) (length shares) (length work)) z .0))) ∙ sym z
-    go false e = call .number .first (eqb-false _ 0 e)
 
 -- of one list or of two: the floats that two taken calls return are in the order of their ratios
 pub records-in-order : (g h : Pairs) {ms cs xs ms′ cs′ xs′ ns ds ys ns′ ds′ ys′ : List ℕ} {r s : Solved} → is-list g ≡ true → is-list h ≡ true →

@@ -12,6 +12,7 @@
 use mathlib.Core.Path.{_≡_}
 use mathlib.Core.Bool.{Bool, true, _||_}
 use mathlib.Core.List.{List}
+use mathlib.Core.Logic.{_↔_}
 use Prim.Native.Nat.{ℕ, _*_, _≤_, _<_}
 use lib.Dec.{ltb, leb, eqb}
 use lib.ListN.{length, getD, take, drop}
@@ -45,11 +46,11 @@ pub record Unsplit (g : Pairs) : Type 0 where
   pub densest : Densest g group
   pub no-split : No-split g group
 
--- 13 and 12 stand first; then 15 exactly where its condition holds
+-- 13, 12, 15: the number is the gate's, since the condition of 15 never holds
 pub record Solve-number (gate : ℕ) (g : Pairs) (number : ℕ) : Type 0 where
-  pub first : (gate ≡ 0 → ⊥) → number ≡ gate
-  pub unsplit : gate ≡ 0 → Unsplit g → number ≡ 15
-  pub taken : gate ≡ 0 → (Unsplit g → ⊥) → number ≡ 0
+  pub outright : number ≡ gate
+  -- 15 exactly where its condition holds
+  pub fifteen : gate ≡ 0 → (number ≡ 15) ↔ Unsplit g
 
 -- beside a refusal the other fields are 0, the ratio +0.0
 unfoldable pub declined : (number : ℕ) → Solved
