@@ -3,7 +3,7 @@
 --   unsplit-never        the condition of 15 never holds: so 15 never comes
 --   solve-call           the call's promise
 --   records-in-order     two records' floats compare as their ratios do
---   narrow-ones          numbers of a list of ones fit 16 bits
+--   ones-fit             numbers of a list of ones fit 16 bits
 -- Assumes nothing.
 use mathlib.Core.Path.{_≡_, refl, sym, ap, _∙_}
 use mathlib.Core.Bool.{Bool, true, false}
@@ -94,11 +94,12 @@ module _ (h : Head) (ps : List Pair) (members cores shares work : List ℕ) wher
 
 -- ---- what follows of the answers
 
--- a taken call's list, its group and its float
+-- a call that refuses nothing has a list as it is held
 module _ (h : Head) (ps : List Pair) (ms cs xs ws : List ℕ) {r : Solved} {ms′ cs′ xs′ ws′ : List ℕ} (call : Solve-call h ps ms cs xs ws r ms′ cs′ xs′ ws′) (z : r .number ≡ 0) where
   taken-list : is-list (held-list h ps) ≡ true
   taken-list = held-is-list h ps (gate-open h ps (short h ps ms cs xs ws) (sym (call .number .outright) ∙ z) .0)
 
+-- the floats that two such calls return are in the order of their ratios
 pub records-in-order : Records-in-order
 unfolding Records-in-order Ratios-in-order
 records-in-order h i ps qs ms cs xs ws ms′ cs′ xs′ ws′ ns ds ys vs ns′ ds′ ys′ vs′ r s first second z y =
@@ -130,9 +131,9 @@ one-at-most zero j = omega arith
 one-at-most (suc m) zero = omega arith
 one-at-most (suc m) (suc j) = one-at-most m j
 
-pub narrow-ones : (h : Head) (work : List ℕ) → h .m ≤ 4096 → Fits-16-bits (word-list h work)
+pub ones-fit : (h : Head) (work : List ℕ) → h .m ≤ 4096 → Fits-16-bits (word-list h work)
 unfolding word-list ones-in pairs-in
-narrow-ones h work few = record {
+ones-fit h work few = record {
   cores = λ v. core-numbers-few h work v few;
   shares = λ q xs j low good. shares-small (h .m) (word-pair work (replicate (h .m) 1)) q xs j low (λ i. unfold word-pair in one-at-most (h .m) i) good;
 }

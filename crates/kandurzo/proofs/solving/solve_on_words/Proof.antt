@@ -8,7 +8,7 @@ use Rattle.kandurzo.specs.declared.Solved.{Solved}
 use Rattle.kandurzo.specs.Buffers.{filled}
 use Rattle.kandurzo.specs.Solving.{declined}
 use Rattle.kandurzo.proofs.Parts.{few, room, length-weighed, parts-list, parts-held, weighed-cleared, shut-left}
-use Rattle.kandurzo.proofs.Solves.{narrow-ones}
+use Rattle.kandurzo.proofs.Solves.{ones-fit}
 use Rattle.kandurzo.proofs.solving.solve_on_words.Statement.{statement}
 use Rattle.kandurzo.proofs.solving.solve_on_words.Tie as tie
 
@@ -48,7 +48,7 @@ solve-in-requires c κs =
         low,
         (
           omega (arith, ap length w, length-weighed (a .head) (a .gate) (now (a .work)) (h .0) z, h .0 .long z),
-          (h .1 z, (h .2 z, (h .3 z, rw (w, parts-list (a .head) (a .gate) (now (a .work)) (h .0) z) (narrow-ones (a .head) (now (a .work)) low)))),
+          (h .1 z, (h .2 z, (h .3 z, rw (w, parts-list (a .head) (a .gate) (now (a .work)) (h .0) z) (ones-fit (a .head) (now (a .work)) low)))),
         ),
       ),
     )
