@@ -24,10 +24,9 @@ use Rattle.kandurzo.specs.Buffers.{work-words}
 use Rattle.kandurzo.specs.Gate.{gate-causes, gate-number}
 use Rattle.kandurzo.specs.Listing.{head-of}
 use Rattle.kandurzo.specs.Reading.{read-outcome, read-head, records-front, Read-call}
-use Rattle.kandurzo.specs.Solving.{solve-short, Unsplit, declined, Handed, Solve-call}
+use Rattle.kandurzo.specs.Solving.{solve-short, declined, Handed, Solve-call}
 use Rattle.kandurzo.proofs.Gates.{gate-open}
 use Rattle.kandurzo.proofs.Readings.{read-held, read-agrees}
-use Rattle.kandurzo.proofs.Solves.{unsplit-never}
 use Rattle.kandurzo.proofs.Taken.{held-is-list}
 use Rattle.answer.specs.declared.Answer.{Answer}
 use Rattle.answer.specs.Answers.{refusal-of, Answered, Answers}
@@ -101,7 +100,7 @@ module _ (bytes members : List ℕ) (ps : List Pair) (work cores shares : List �
         )
 
     solved : found .number ≡ 0
-    solved = finds .number .taken (gate-none h ps′ short agreed enough) (λ u. unsplit-never g good (subst Unsplit held-as u))
+    solved = finds .number .outright ∙ gate-none h ps′ short agreed enough
 
     handed : Handed g members cores shares found members′ cores′ shares′
     handed = subst (λ (u : Pairs). Handed u members cores shares found members′ cores′ shares′) held-as (finds .handed solved)
@@ -128,7 +127,7 @@ module _ (bytes members : List ℕ) (ps : List Pair) (work cores shares : List �
         omega (arith, l .some, n-none)
 
     declines : (found ≡ declined (found .number)) × (members′ ≡ members)
-    declines = let d = finds .refused (λ z. shut (sym (finds .number .first shut) ∙ z)) in (d .0, d .1)
+    declines = let d = finds .refused (λ z. shut (sym (finds .number .outright) ∙ z)) in (d .0, d .1)
 
     refuses : (answer-of file found ≡ refusal-of k) × (members′ ≡ members)
     unfolding reading-of refusal-of declined

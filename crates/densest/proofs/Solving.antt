@@ -26,7 +26,8 @@ use Rattle.theory.proofs.Tables.{length-table, table-at}
 use Rattle.theory.proofs.Lists.{listed}
 use Rattle.theory.proofs.Groups.{found-alone}
 use Rattle.slots.specs.Slots.{mate, Room}
-use Rattle.peel.specs.Peel.{Held, Peelable, Peels}
+use Rattle.theory.specs.Words.{Held-words as Held}
+use Rattle.peel.specs.Peel.{Peelable, Peels}
 use Rattle.peel.specs.Promise.{Peel-promised}
 use Rattle.peel.specs.declared.Remainder.{Remainder}
 use Rattle.peel.proofs.Leavers.{remainder-group}

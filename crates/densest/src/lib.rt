@@ -17,7 +17,7 @@ ghost use Rattle.theory.specs.Cores.{core-numbers};
 ghost use Rattle.theory.specs.Splits.{rounded-up};
 ghost use Rattle.theory.specs.Words.{list-in};
 ghost use Rattle.slots.specs.Slots.{Ends, Room};
-ghost use Rattle.peel.specs.Peel.{Held};
+ghost use Rattle.theory.specs.Words.{Held-words as Held};
 ghost use Rattle.densest.specs.Search.{Candidate, Cored, Linked, Round, Searched, sheet-share};
 ghost use Rattle.densest.specs.Solve.{Solved, Solves};
 

@@ -4,35 +4,30 @@
 --   peel-enough, peel-call                the call's promise
 -- Assumes nothing.
 use mathlib.Core.Path.{_≡_, refl, sym, ap, _∙_}
-use mathlib.Core.Bool.{Bool, true, false, _||_, cond}
-use mathlib.Core.List.{List, [], _∷_, _++_}
+use mathlib.Core.Bool.{Bool, true, false}
+use mathlib.Core.List.{List, _++_}
 use Prim.Native.Nat.{ℕ, zero, suc, _+_, _≤_, _<_}
 use native.Mathlib.Omega.{arith}
 use lib.Dec.{eqb}
 use lib.ListN.{length, getD, take, drop, replicate, length-append, List·getD-append}
 use lib.Seq.{take-at}
-use borrow.Author.Tests.{ltb-false, eqb-true, eqb-false, eq-eqb, ne-eqb}
+use borrow.Author.Tests.{ltb-false, eqb-true}
 use Rattle.theory.specs.Lists as Lists
-use Rattle.theory.specs.Lists.{Pairs, pair, is-list}
-use Rattle.theory.specs.Leaving.{leaving}
-use Rattle.theory.specs.Cores.{core-number, core-numbers}
+use Rattle.theory.specs.Cores.{core-number}
 use Rattle.theory.specs.Words.{word-pair, pairs-in}
 use Rattle.theory.specs.Basics.{table}
 use Rattle.theory.proofs.Bounds.{total, core-number-le}
-use Rattle.theory.proofs.Tables.{length-table}
+use Rattle.theory.specs.Refusals.{if-taken}
 use Rattle.pairs.specs.Located.{ones-in}
 use Rattle.pairs.proofs.Weights.{ones-at}
 use Rattle.records.specs.declared.Pair.{Pair}
 use Rattle.records.specs.declared.Head.{Head}
-use Rattle.records.specs.Records.{held-list}
-use Rattle.kandurzo.specs.Listing.{if-taken}
 use Rattle.kandurzo.specs.Edits.{word-list}
-use Rattle.kandurzo.specs.Buffers.{in-front, work-words, work-left}
+use Rattle.kandurzo.specs.Buffers.{in-front, work-words}
 use Rattle.kandurzo.specs.Gate.{gate-number}
-use Rattle.kandurzo.specs.Judged.{work-after}
 use Rattle.kandurzo.specs.Peeling.{peel-short, peel-number, Peel-call, Peel-on}
-use Rattle.kandurzo.proofs.Gates.{gate-open, gate-one-of, work-in, work-in-list, work-in-shut, work-in-zeroed}
-use Rattle.kandurzo.proofs.Judgements.{or-none, work-zeros, work-same}
+use Rattle.kandurzo.proofs.Gates.{work-in, work-in-list, work-in-left}
+use Rattle.kandurzo.proofs.Judgements.{or-none}
 
 -- ---- narrowing
 
@@ -80,7 +75,7 @@ module _ (h : Head) (ps : List Pair) (order cores work : List ℕ) where
 
   pub peel-call : {order′ cores′ work′ : List ℕ} → Peel-on h (gate-number h ps short) order cores (work-in h ps short work) order′ cores′ work′ →
       Peel-call h ps order cores work (gate-number h ps short) order′ cores′ work′
-  unfolding peel-number work-after if-taken
+  unfolding peel-number if-taken
   peel-call {order′} {cores′} {work′} on = go (eqb (gate-number h ps short) 0) refl
     where
       go : (t : Bool) → eqb (gate-number h ps short) 0 ≡ t → Peel-call h ps order cores work (gate-number h ps short) order′ cores′ work′
@@ -91,15 +86,12 @@ module _ (h : Head) (ps : List Pair) (order cores work : List ℕ) where
             number = refl;
             order-is = rw same at (on .order-is);
             cores-are = rw same at (on .cores-are);
-            left = on .left ∙ rw e (work-in-zeroed h ps short work (λ f. peel-enough f .2))
-                ∙ sym (work-zeros (gate-number h ps short) work (λ x. omega arith) (λ x. omega arith));
+            left = on .left ∙ work-in-left h ps short work (λ f. peel-enough f .2);
           }
       go false e =
-          let n : gate-number h ps short ≡ 0 → ⊥ = eqb-false _ 0 e in
           record {
             number = refl;
             order-is = on .order-is ∙ rw e;
             cores-are = on .cores-are ∙ rw e;
-            left = on .left ∙ rw e (work-in-shut h ps short work (λ f. peel-enough f .2) n)
-                ∙ sym (work-same (gate-number h ps short) work (gate-one-of h ps short n));
+            left = on .left ∙ work-in-left h ps short work (λ f. peel-enough f .2);
           }

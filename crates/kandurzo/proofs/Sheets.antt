@@ -21,7 +21,7 @@ use Rattle.densest.specs.declared.Solution.{Solution}
 use Rattle.densest.specs.Solve.{Solves}
 use Rattle.kandurzo.specs.declared.Solved.{Solved}
 use Rattle.kandurzo.specs.Buffers.{in-front}
-use Rattle.kandurzo.specs.Solving.{Narrow, Handed}
+use Rattle.kandurzo.specs.Solving.{Fits-16-bits, Handed}
 
 module _ (g : Pairs) (held : is-list g ≡ true) (m : ℕ) (few : length (g .pairs) ≡ m) (members sheet members′ sheet′ : List ℕ) (r : Solution)
     (s : Solves g members sheet members′ sheet′ r) where
@@ -32,7 +32,7 @@ module _ (g : Pairs) (held : is-list g ≡ true) (m : ℕ) (few : length (g .pai
   pub some-modules : 1 ≤ r .q
   some-modules = split-good .0
 
-  pub sheet-small : Narrow g → (i : ℕ) → i < m → getD sheet′ i 0 < 65536
+  pub sheet-small : Fits-16-bits g → (i : ℕ) → i < m → getD sheet′ i 0 < 65536
   sheet-small thin i l =
       let o = s .solved .optimal in
       let low : r .q ≤ 512 = omega (arith, o .modules, size-bound g _ held (o .is-a-group)) in

@@ -1,4 +1,4 @@
-// Add and remove on words: the refusals in their order, then the change. No search here: pairs looks a pair up.
+// Add and remove on words: the refusals in their order, then the change. The crate `pairs` does the looking up and the shifting.
 ghost use mathlib.Core.Path.{_≡_};
 ghost use Rattle.kandurzo.specs.Edits.{records-out, Ready, add-edit, add-words, remove-edit, remove-words};
 ghost use Prim.Native.Nat.{min, max};

@@ -1,4 +1,4 @@
-// Check and surplus on words: the gate (13, 12), then the list in the work buffer's words, then zeros.
+// Check and surplus on words: the gate (13, 12), then the list in words; check then clears them.
 ghost use mathlib.Core.Path.{_≡_};
 ghost use mathlib.Core.Bool.{true};
 ghost use Prim.Native.Nat.{_+_, _*_, _≤_};
@@ -6,9 +6,8 @@ ghost use lib.ListN.{length, take};
 ghost use Rattle.theory.specs.Lists.{is-list};
 ghost use Rattle.theory.specs.Words.{list-in};
 ghost use Rattle.verify.specs.Answers.{Check-says, Surplus-says};
-ghost use Rattle.kandurzo.specs.Gate.{gate-of, On-words};
-ghost use Rattle.kandurzo.specs.Judging.{check-short, surplus-short};
-ghost use Rattle.kandurzo.specs.Judged.{ends-part, weights-part, check-verdict, surplus-difference, work-after};
+ghost use Rattle.kandurzo.specs.Gate.{gate-of, ends-part, weights-part, On-words};
+ghost use Rattle.kandurzo.specs.Judging.{check-short, surplus-short, Check-on, Surplus-on};
 use crate::Gate;
 use crate::buffers::fill;
 use records::Head;
@@ -92,8 +91,9 @@ pub fn check_on_words(
     shares: &[u16],
     work: &mut [u32],
 ) -> Verdict
-    requires { ⌜ On-words head gate (now work) × (gate ≡ 0 → head .n ≤ length (now members)) × (gate ≡ 0 → head .m ≤ length (now shares)) ⌝ }
-    ensures { λ r. ⌜ (r ≡ check-verdict head gate (now (members .entry)) (now (shares .entry)) (now (work .entry))) × (now (work .exit) ≡ work-after gate (now (work .entry))) ⌝ }
+    requires { ⌜ On-words head gate (now work) × (gate ≡ 0 → head .n ≤ length (now members))
+        × (gate ≡ 0 → head .m ≤ length (now shares)) ⌝ }
+    ensures { λ r. ⌜ Check-on head gate (now (members .entry)) (now (shares .entry)) (now (work .entry)) r (now (work .exit)) ⌝ }
 {
     if gate != 0 {
         return Verdict {
@@ -125,7 +125,7 @@ fn surplus_in(n: usize, m: usize, words: &[u32], first: &[u8], second: &[u8]) ->
     surplus_words(n, m, &words[0..ends], &words[8192..weights], first, second)
 }
 
-// The words are the caller's own, of 16,384.
+// The words are the call's own, 16,384 of them: nobody reads them afterwards.
 pub fn surplus_on_words(
     head: Head,
     gate: u32,
@@ -133,8 +133,9 @@ pub fn surplus_on_words(
     first: &[u8],
     second: &[u8],
 ) -> Difference
-    requires { ⌜ On-words head gate (now words) × (gate ≡ 0 → head .n ≤ length (now first)) × (gate ≡ 0 → head .n ≤ length (now second)) ⌝ }
-    ensures { λ r. ⌜ (r ≡ surplus-difference head gate (now (first .entry)) (now (second .entry)) (now (words .entry))) × (now (words .exit) ≡ work-after gate (now (words .entry))) ⌝ }
+    requires { ⌜ On-words head gate (now words) × (gate ≡ 0 → head .n ≤ length (now first))
+        × (gate ≡ 0 → head .n ≤ length (now second)) ⌝ }
+    ensures { λ r. ⌜ Surplus-on head gate (now (first .entry)) (now (second .entry)) (now (words .entry)) r ⌝ }
 {
     if gate != 0 {
         return Difference {
@@ -145,7 +146,5 @@ pub fn surplus_on_words(
     let n = head.n as usize;
     let m = head.m as usize;
     fill(words, 8192, 8192 + m, 1);
-    let difference = surplus_in(n, m, words, first, second);
-    fill(words, 0, 16384, 0);
-    difference
+    surplus_in(n, m, words, first, second)
 }

@@ -7,9 +7,8 @@ ghost use Rattle.theory.specs.Lists.{is-list};
 ghost use Rattle.theory.specs.Ratio.{float-ratio};
 ghost use Rattle.theory.specs.Words.{list-in};
 ghost use Rattle.densest.specs.Solve.{Solves};
-ghost use Rattle.kandurzo.specs.Gate.{gate-of, On-words};
-ghost use Rattle.kandurzo.specs.Judged.{ends-part, weights-part};
-ghost use Rattle.kandurzo.specs.Solving.{solve-short, declined, Narrow, Handed, Solve-on};
+ghost use Rattle.kandurzo.specs.Gate.{gate-of, ends-part, weights-part, On-words};
+ghost use Rattle.kandurzo.specs.Solving.{solve-short, declined, Fits-16-bits, Handed, Solve-on};
 use crate::Gate;
 use crate::Solved;
 use crate::buffers::fill;
@@ -82,8 +81,9 @@ fn sheet_in(n: usize, m: usize, work: &[u32], members: &mut [u8], shares: &mut [
     requires { ⌜ 16384 ≤ length (now work) ⌝ }
     requires { ⌜ n ≤ length (now members) ⌝ }
     requires { ⌜ m ≤ length (now shares) ⌝ }
-    requires { ⌜ Narrow (list-in n m (ends-part m (now work)) (weights-part m (now work))) ⌝ }
-    ensures { λ r. ⌜ Solves (list-in n m (ends-part m (now (work .entry))) (weights-part m (now (work .entry)))) (now (members .entry)) (now (shares .entry)) (now (members .exit)) (now (shares .exit)) r ⌝ }
+    requires { ⌜ Fits-16-bits (list-in n m (ends-part m (now work)) (weights-part m (now work))) ⌝ }
+    ensures { λ r. ⌜ Solves (list-in n m (ends-part m (now (work .entry))) (weights-part m (now (work .entry))))
+        (now (members .entry)) (now (shares .entry)) (now (members .exit)) (now (shares .exit)) r ⌝ }
 {
     let mut sheet = [0u32; 4096];
     let ends = 2 * m;
@@ -115,8 +115,10 @@ fn solve_in(
     requires { ⌜ n ≤ length (now members) ⌝ }
     requires { ⌜ n ≤ length (now cores) ⌝ }
     requires { ⌜ m ≤ length (now shares) ⌝ }
-    requires { ⌜ Narrow (list-in n m (ends-part m (now work)) (weights-part m (now work))) ⌝ }
-    ensures { λ r. ⌜ (r .number ≡ 0) × Handed (list-in n m (ends-part m (now (work .entry))) (weights-part m (now (work .entry)))) (now (members .entry)) (now (cores .entry)) (now (shares .entry)) r (now (members .exit)) (now (cores .exit)) (now (shares .exit)) ⌝ }
+    requires { ⌜ Fits-16-bits (list-in n m (ends-part m (now work)) (weights-part m (now work))) ⌝ }
+    ensures { λ r. ⌜ (r .number ≡ 0) × Handed (list-in n m (ends-part m (now (work .entry))) (weights-part m (now (work .entry))))
+        (now (members .entry)) (now (cores .entry)) (now (shares .entry)) r
+        (now (members .exit)) (now (cores .exit)) (now (shares .exit)) ⌝ }
 {
     let mut order = [0u16; 512];
     peel_in(n, m, work, &mut order, cores);
@@ -141,8 +143,10 @@ pub fn solve_on_words(
     shares: &mut [u16],
     work: &mut [u32],
 ) -> Solved
-    requires { ⌜ On-words head gate (now work) × (gate ≡ 0 → head .n ≤ length (now members)) × (gate ≡ 0 → head .n ≤ length (now cores)) × (gate ≡ 0 → head .m ≤ length (now shares)) ⌝ }
-    ensures { λ r. ⌜ Solve-on head gate (now (members .entry)) (now (cores .entry)) (now (shares .entry)) (now (work .entry)) r (now (members .exit)) (now (cores .exit)) (now (shares .exit)) (now (work .exit)) ⌝ }
+    requires { ⌜ On-words head gate (now work) × (gate ≡ 0 → head .n ≤ length (now members))
+        × (gate ≡ 0 → head .n ≤ length (now cores)) × (gate ≡ 0 → head .m ≤ length (now shares)) ⌝ }
+    ensures { λ r. ⌜ Solve-on head gate (now (members .entry)) (now (cores .entry)) (now (shares .entry)) (now (work .entry)) r
+        (now (members .exit)) (now (cores .exit)) (now (shares .exit)) (now (work .exit)) ⌝ }
 {
     if gate != 0 {
         return refused(gate);

@@ -32,7 +32,7 @@ held c =
 few : (c : tie.Else1) → c .before .before .before .before .before .args .m ≤ 4096
 few c =
     let a = c .before .before .before .before .before .args in
-    pairs-few (c .before .before .wide .result) (a .m) (a .ends .now) (a .weights .now) (held c .listed)
+    pairs-few (c .before .before .wide .result) (a .m) (a .ends .now) (a .weights .now) (held c .words .listed)
 
 wide-requires : tie.Need-wide-requires
 wide-requires c κs = search needs
@@ -47,7 +47,7 @@ mul-words : tie.Need-mul-words
 mul-words c = let h = held c in omega arith
 
 slice-aggregate-pairs : tie.Need-slice-aggregate-pairs
-slice-aggregate-pairs c = sym (length-take-le _ _ (held (c .before) .ends-long))
+slice-aggregate-pairs c = sym (length-take-le _ _ (held (c .before) .words .ends-long))
 
 slice-aggregate-solve : tie.Need-slice-aggregate-solve
 slice-aggregate-solve c = search needs
@@ -62,7 +62,7 @@ solve-requires : tie.Need-solve-requires
 solve-requires c κs =
     let e = c .before .before .before .before in
     let h = held e in
-    (record { listed = h .listed; ends-long = h .ends-long; weights-long = h .weights-long }, (h .few, h .few, few e))
+    (h .words, (h .few, h .few, few e))
 
 slice-aggregate-alter : tie.Need-slice-aggregate-alter
 slice-aggregate-alter c = search needs
@@ -96,7 +96,7 @@ check-words-requires c κs =
     let altered = c .before .before .before .before .before .before .before .before .before in
     let e = altered .before .before .before .before .before .before .before .before .before .before .before .before in
     let h = held e in (
-      record { held = h .listed; ends-enough = h .ends-long; weights-enough = h .weights-long },
+      h .words,
       (omega (arith, h .few, slice-aggregate-check-words (c .before)), omega (arith, few e, slice-aggregate-check-words-2 c)),
     )
 

@@ -15,7 +15,7 @@ use Rattle.theory.proofs.Tables.{length-table, table-at}
 use Rattle.theory.proofs.Lists.{listed}
 use Rattle.theory.proofs.Leaving.{leaving-steps}
 use Rattle.theory.proofs.Bounds.{leaving-below}
-use Rattle.kandurzo.specs.Judged.{ends-part, weights-part}
+use Rattle.kandurzo.specs.Gate.{ends-part, weights-part}
 use Rattle.kandurzo.proofs.Peels.{narrowed, narrow-long, narrow-fits}
 use Rattle.kandurzo.proofs.peeling.peel_in.Statement.{statement}
 use Rattle.kandurzo.proofs.peeling.peel_in.Tie as tie

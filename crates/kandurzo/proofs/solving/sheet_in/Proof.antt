@@ -1,7 +1,7 @@
 -- `sheet_in` meets its contract: solve on the parts, narrowed. Assumes nothing.
-use mathlib.Core.Path.{_≡_, _∙_, subst, sym}
-use mathlib.Core.List.{List, _++_}
-use Prim.Native.Nat.{ℕ, _+_, _*_, _-_, _≤_}
+use mathlib.Core.Path.{_≡_}
+use mathlib.Core.List.{List}
+use Prim.Native.Nat.{ℕ, _+_, _*_, _-_}
 use native.Mathlib.Omega.{arith}
 use borrow.Author.Needs.{needs}
 use lib.ListN.{length, take, drop, length-drop}
@@ -10,8 +10,7 @@ use denote.Ref.{now}
 use Rattle.theory.specs.Lists.{Pairs}
 use Rattle.theory.specs.Words.{list-in, pairs-in}
 use Rattle.theory.proofs.Tables.{length-table}
-use Rattle.densest.specs.Solve.{Solves}
-use Rattle.kandurzo.specs.Judged.{ends-part, weights-part}
+use Rattle.kandurzo.specs.Gate.{ends-part, weights-part}
 use Rattle.kandurzo.proofs.Sheets.{sheet-small, sheet-solves}
 use Rattle.kandurzo.proofs.solving.sheet_in.Statement.{statement}
 use Rattle.kandurzo.proofs.solving.sheet_in.Tie as tie

@@ -1,13 +1,12 @@
 -- `solve_in` meets its contract: peel for the core numbers, then group and load sheet. Assumes nothing.
-use mathlib.Core.Path.{_≡_, refl, ap, _∙_}
-use Prim.Native.Nat.{ℕ, _≤_}
-use native.Mathlib.Omega.{arith}
+use mathlib.Core.Path.{refl}
+use Prim.Native.Nat.{_≤_}
 use borrow.Author.Needs.{needs}
 use denote.Ref.{now}
 use Rattle.theory.specs.Lists.{Pairs}
 use Rattle.theory.specs.Words.{list-in}
 use Rattle.theory.proofs.Lists.{listed}
-use Rattle.kandurzo.specs.Judged.{ends-part, weights-part}
+use Rattle.kandurzo.specs.Gate.{ends-part, weights-part}
 use Rattle.kandurzo.proofs.Sheets.{some-modules, handed}
 use Rattle.kandurzo.proofs.solving.solve_in.Statement.{statement}
 use Rattle.kandurzo.proofs.solving.solve_in.Tie as tie
