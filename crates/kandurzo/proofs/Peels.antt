@@ -1,5 +1,6 @@
 -- Peel on words: 32-bit numbers in front of local arrays, narrowed to the lent buffers; and the call's promise.
 --   narrowed, narrow-long, narrow-fits    n entries in front of an array, narrowed, stand in front of the buffer
+--   cores-long, cores-fit, cores-narrowed, cores-in-front    the same for core numbers
 --   core-numbers-few                      on a list of ones a core number fits 16 bits
 --   peel-enough, peel-call                the call's promise
 -- Assumes nothing.
@@ -13,9 +14,10 @@ use lib.ListN.{length, getD, take, drop, replicate, length-append, List·getD-ap
 use lib.Seq.{take-at}
 use borrow.Author.Tests.{ltb-false, eqb-true}
 use Rattle.theory.specs.Lists as Lists
-use Rattle.theory.specs.Cores.{core-number}
+use Rattle.theory.specs.Cores.{core-number, core-numbers}
 use Rattle.theory.specs.Words.{word-pair, pairs-in}
 use Rattle.theory.specs.Basics.{table}
+use Rattle.theory.proofs.Tables.{length-table, table-at}
 use Rattle.theory.proofs.Bounds.{total, core-number-le}
 use Rattle.theory.specs.Refusals.{if-taken}
 use Rattle.pairs.specs.Located.{ones-in}
@@ -44,6 +46,28 @@ module _ (n : ℕ) (xs rest new : List ℕ) (long : length xs ≡ n) (is : new �
   pub narrow-fits : (b : ℕ) → ((i : ℕ) → i < n → getD xs i 0 < b) → (i : ℕ) → i < n → getD new i 0 < b
   narrow-fits b h i l =
       omega (arith, ap (λ (ys : List ℕ). getD ys i 0) is, List·getD-append xs rest 0 i (omega (arith, long)), h i l)
+
+-- ---- core numbers, narrowed
+
+numbers-length : (g : Lists.Pairs) → length (core-numbers g) ≡ g .n
+unfolding core-numbers
+numbers-length g = length-table (g .n) _
+
+pub cores-in-front : (g : Lists.Pairs) (to : List ℕ) → core-numbers g ++ drop (g .n) to ≡ in-front (core-numbers g) to
+unfolding in-front
+cores-in-front g to = ap (λ (i : ℕ). core-numbers g ++ drop i to) (sym (numbers-length g))
+
+module _ (g : Lists.Pairs) (old new : List ℕ) (is : new ≡ core-numbers g ++ drop (g .n) old) where
+  pub cores-long : g .n ≤ length new
+  cores-long = narrow-long (g .n) (core-numbers g) _ new (numbers-length g) is
+
+  pub cores-fit : ((v : ℕ) → core-number g v < 65536) → (i : ℕ) → i < g .n → getD new i 0 < 65536
+  cores-fit few =
+      narrow-fits (g .n) (core-numbers g) _ new (numbers-length g) is 65536
+      (λ i b. unfold core-numbers in rw (table-at (g .n) (core-number g) i 0 b) (few i))
+
+  pub cores-narrowed : (to : List ℕ) → take (g .n) new ++ drop (g .n) to ≡ core-numbers g ++ drop (g .n) to
+  cores-narrowed to = narrowed (g .n) (core-numbers g) _ new (numbers-length g) is to ∙ sym (cores-in-front g to)
 
 -- ---- core numbers of a list of ones
 

@@ -37,7 +37,7 @@ pub fn peel_gate(head: Head, agreed: bool, order: usize, cores: usize, work: usi
 }
 
 // Peel of the list in the words' parts; its 32-bit numbers are narrowed to the buffers' 16.
-pub fn peel_in(n: usize, m: usize, work: &[u32], order: &mut [u16], cores: &mut [u16])
+fn peel_in(n: usize, m: usize, work: &[u32], order: &mut [u16], cores: &mut [u16])
     requires { ⌜ is-list (list-in n m (ends-part m (now work)) (weights-part m (now work))) ≡ true ⌝ }
     requires { ⌜ m ≤ 4096 ⌝ }
     requires { ⌜ 16384 ≤ length (now work) ⌝ }

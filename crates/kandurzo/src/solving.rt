@@ -14,7 +14,6 @@ use crate::Solved;
 use crate::buffers::fill;
 use crate::buffers::narrow;
 use crate::judging::gate;
-use crate::peeling::peel_in;
 use densest::Solution;
 use densest::solve;
 use records::Head;
@@ -74,17 +73,26 @@ fn refused(number: u32) -> Solved
     }
 }
 
-// The group and the load sheet of the list in the words' parts; shares are narrowed to the buffer's 16 bits.
-fn sheet_in(n: usize, m: usize, work: &[u32], members: &mut [u8], shares: &mut [u16]) -> Solution
+// Group, core numbers and load sheet of the list in the words' parts; core numbers and shares are narrowed to the buffers' 16 bits.
+fn sheet_in(
+    n: usize,
+    m: usize,
+    work: &[u32],
+    members: &mut [u8],
+    cores: &mut [u16],
+    shares: &mut [u16],
+) -> Solution
     requires { ⌜ is-list (list-in n m (ends-part m (now work)) (weights-part m (now work))) ≡ true ⌝ }
     requires { ⌜ m ≤ 4096 ⌝ }
     requires { ⌜ 16384 ≤ length (now work) ⌝ }
     requires { ⌜ n ≤ length (now members) ⌝ }
+    requires { ⌜ n ≤ length (now cores) ⌝ }
     requires { ⌜ m ≤ length (now shares) ⌝ }
     requires { ⌜ Fits-16-bits (list-in n m (ends-part m (now work)) (weights-part m (now work))) ⌝ }
-    ensures { λ r. ⌜ Solves (list-in n m (ends-part m (now (work .entry))) (weights-part m (now (work .entry))))
-        (now (members .entry)) (now (shares .entry)) (now (members .exit)) (now (shares .exit)) r ⌝ }
+    ensures { λ r. ⌜ Solves (list-in n m (ends-part m (now (work .entry))) (weights-part m (now (work .entry)))) (now (members .entry))
+        (now (cores .entry)) (now (shares .entry)) (now (members .exit)) (now (cores .exit)) (now (shares .exit)) r ⌝ }
 {
+    let mut numbers = [0u32; 512];
     let mut sheet = [0u32; 4096];
     let ends = 2 * m;
     let weights = 8192 + m;
@@ -94,8 +102,10 @@ fn sheet_in(n: usize, m: usize, work: &[u32], members: &mut [u8], shares: &mut [
         &work[0..ends],
         &work[8192..weights],
         members,
+        &mut numbers,
         &mut sheet,
     );
+    narrow(&numbers, n, cores);
     narrow(&sheet, m, shares);
     found
 }
@@ -120,9 +130,7 @@ fn solve_in(
         (now (members .entry)) (now (cores .entry)) (now (shares .entry)) r
         (now (members .exit)) (now (cores .exit)) (now (shares .exit)) ⌝ }
 {
-    let mut order = [0u16; 512];
-    peel_in(n, m, work, &mut order, cores);
-    let found = sheet_in(n, m, work, members, shares);
+    let found = sheet_in(n, m, work, members, cores, shares);
     let ratio = ratio(found.p, found.q);
     Solved {
         number: 0,
