@@ -17,7 +17,7 @@ use verify::check_words;
 use verify::surplus_words;
 
 // 13, 12, or 0; and how many records go out to the work buffer.
-pub fn gate(head: Head, agreed: bool, short: bool) -> Gate
+pub(crate) fn gate(head: Head, agreed: bool, short: bool) -> Gate
     ensures { λ r. ⌜ r ≡ gate-of head agreed short ⌝ }
 {
     if !agreed {
@@ -56,13 +56,13 @@ fn surplus_short(head: Head, first: usize, second: usize) -> bool
     second < n
 }
 
-pub fn check_gate(head: Head, agreed: bool, members: usize, shares: usize, work: usize) -> Gate
+pub(crate) fn check_gate(head: Head, agreed: bool, members: usize, shares: usize, work: usize) -> Gate
     ensures { λ r. ⌜ r ≡ gate-of head agreed (check-short head members shares work) ⌝ }
 {
     gate(head, agreed, check_short(head, members, shares, work))
 }
 
-pub fn surplus_gate(head: Head, agreed: bool, first: usize, second: usize) -> Gate
+pub(crate) fn surplus_gate(head: Head, agreed: bool, first: usize, second: usize) -> Gate
     ensures { λ r. ⌜ r ≡ gate-of head agreed (surplus-short head first second) ⌝ }
 {
     gate(head, agreed, surplus_short(head, first, second))
@@ -84,7 +84,7 @@ fn check_in(n: usize, m: usize, work: &[u32], members: &[u8], shares: &[u16]) ->
 }
 
 // Behind the gate the list's weights are set to 1, and the work buffer is cleared in the end.
-pub fn check_on_words(
+pub(crate) fn check_on_words(
     head: Head,
     gate: u32,
     members: &[u8],
@@ -126,7 +126,7 @@ fn surplus_in(n: usize, m: usize, words: &[u32], first: &[u8], second: &[u8]) ->
 }
 
 // The words are the call's own, 16,384 of them: nobody reads them afterwards.
-pub fn surplus_on_words(
+pub(crate) fn surplus_on_words(
     head: Head,
     gate: u32,
     words: &mut [u32],

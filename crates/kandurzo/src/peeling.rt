@@ -30,7 +30,7 @@ fn peel_short(head: Head, order: usize, cores: usize, work: usize) -> bool
     work < 16384
 }
 
-pub fn peel_gate(head: Head, agreed: bool, order: usize, cores: usize, work: usize) -> Gate
+pub(crate) fn peel_gate(head: Head, agreed: bool, order: usize, cores: usize, work: usize) -> Gate
     ensures { λ r. ⌜ r ≡ gate-of head agreed (peel-short head order cores work) ⌝ }
 {
     gate(head, agreed, peel_short(head, order, cores, work))
@@ -69,7 +69,7 @@ fn peel_in(n: usize, m: usize, work: &[u32], order: &mut [u16], cores: &mut [u16
 }
 
 // Behind the gate the list's weights are set to 1, and the work buffer is cleared in the end.
-pub fn peel_on_words(head: Head, gate: u32, order: &mut [u16], cores: &mut [u16], work: &mut [u32])
+pub(crate) fn peel_on_words(head: Head, gate: u32, order: &mut [u16], cores: &mut [u16], work: &mut [u32])
     requires { ⌜ On-words head gate (now work) × (gate ≡ 0 → head .n ≤ length (now order))
         × (gate ≡ 0 → head .n ≤ length (now cores)) ⌝ }
     ensures { λ _. ⌜ Peel-on head gate (now (order .entry)) (now (cores .entry)) (now (work .entry))

@@ -10,7 +10,7 @@ use pairfile::read_words;
 use records::Head;
 
 // The number, the new head, and how many records come into the list; none beside a refusal.
-pub fn read_on_words(bytes: &[u8], room: usize, work: &mut [u32]) -> Edit
+pub(crate) fn read_on_words(bytes: &[u8], room: usize, work: &mut [u32]) -> Edit
     ensures { λ r. ⌜ Read-on room (now (bytes .entry)) (now (work .entry)) (now (work .exit)) r ⌝ }
 {
     if work.len() < 16384 {
@@ -33,7 +33,7 @@ pub fn read_on_words(bytes: &[u8], room: usize, work: &mut [u32]) -> Edit
 }
 
 // Clears the work buffer's 16,384 words, unless 12 was given; 13 is never read's.
-pub fn clear_words(number: u32, work: &mut [u32])
+pub(crate) fn clear_words(number: u32, work: &mut [u32])
     requires { ⌜ (number < 13) × ((number ≡ 12 → ⊥) → 16384 ≤ length (now work)) ⌝ }
     ensures { λ _. ⌜ now (work .exit) ≡ work-left number (now (work .entry)) ⌝ }
 {

@@ -34,7 +34,7 @@ fn solve_short(head: Head, members: usize, cores: usize, shares: usize, work: us
     work < 16384
 }
 
-pub fn solve_gate(
+pub(crate) fn solve_gate(
     head: Head,
     agreed: bool,
     members: usize,
@@ -143,7 +143,7 @@ fn solve_in(
 }
 
 // Behind the gate the list's weights are set to 1, and the work buffer is cleared in the end.
-pub fn solve_on_words(
+pub(crate) fn solve_on_words(
     head: Head,
     gate: u32,
     members: &mut [u8],
