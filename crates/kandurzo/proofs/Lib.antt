@@ -2,7 +2,10 @@
 pub mod Orders
 pub mod Changes
 pub mod Taken
+pub mod Outcomes
 pub mod Calls
+pub mod Written
+pub mod Editing
 pub mod Filling
 pub mod Gates
 pub mod Parts
