@@ -48,8 +48,8 @@ use Rattle.records.proofs.Frame.{env, block, empty, holds as full, num, fit-sli
 use Rattle.records.proofs.Entry.{Par, plain, held, hold-mut, entry, passed, begins, ends}
 use Rattle.records.proofs.Signs.{Kinds, record-kind, mut-kind, word-kind, stays, meets-by}
 use Rattle.records.proofs.Arrays.{copies, length-copies, array-typed, opens-array, closes-array}
-use Rattle.records.proofs.Records.{plain-pair, plain-head, pair-row, word-row}
-use Rattle.records.proofs.Steps.{CopiesOut, CopiesIn, Agrees, Enough-back, copies-out, copies-in, asks-agree}
+use Rattle.records.proofs.Records.{plain-pair, plain-head, word-row}
+use Rattle.records.proofs.Steps.{CopiesOut, CopiesIn, Agrees, copies-out, copies-in, asks-agree}
 use Rattle.records.proofs.Copies.{length-put-back}
 use Rattle.records.proofs.Pair as P
 use Rattle.records.proofs.Head as N

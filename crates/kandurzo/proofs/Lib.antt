@@ -6,6 +6,7 @@ pub mod Outcomes
 pub mod Calls
 pub mod Written
 pub mod Editing
+pub mod InPlace
 pub mod Filling
 pub mod Gates
 pub mod Parts

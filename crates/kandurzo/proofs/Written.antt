@@ -5,7 +5,7 @@
 --   lent-again, lent-whole                   a slice reference, and an array as a slice, lent once more
 -- Assumes nothing: these are definitions.
 use Prim.Native.Nat.{ℕ, _+_}
-use mathlib.Core.List.{List, [], _∷_}
+use mathlib.Core.List.{[], _∷_}
 use mir.Syntax.{Ty, tyInt, tyRef, Lifetime, Mutability, erased, w32, Local, local, valueLocal, Place, place, field, deref, Opd as Operand, copy, addrOf, aggregate, Body, seq, assign}
 use denote.Memory.{lone, pointee}
 use denote.Slice.{sliceTy}

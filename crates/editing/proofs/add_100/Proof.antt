@@ -15,7 +15,7 @@ use Rattle.records.proofs.copy_out.Met as copy-out-thm
 use Rattle.kandurzo.proofs.kandurzo_add.Symbol as call-def
 use Rattle.kandurzo.proofs.kandurzo_add.Symbol.{name as #call}
 use Rattle.kandurzo.proofs.kandurzo_add.Met as call-thm
-use Rattle.editing.proofs.Lent.{add-outcome}
+use Rattle.kandurzo.proofs.Outcomes.{add-outcome}
 use Rattle.editing.proofs.Walk.{meets}
 use Rattle.editing.proofs.add_100.Key.{name as #this}
 use Rattle.editing.proofs.add_100 as f

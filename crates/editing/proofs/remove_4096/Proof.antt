@@ -15,7 +15,7 @@ use Rattle.records.proofs.copy_out.Met as copy-out-thm
 use Rattle.kandurzo.proofs.kandurzo_remove.Symbol as call-def
 use Rattle.kandurzo.proofs.kandurzo_remove.Symbol.{name as #call}
 use Rattle.kandurzo.proofs.kandurzo_remove.Met as call-thm
-use Rattle.editing.proofs.Lent.{remove-outcome}
+use Rattle.kandurzo.proofs.Outcomes.{remove-outcome}
 use Rattle.editing.proofs.Walk.{meets}
 use Rattle.editing.proofs.remove_4096.Key.{name as #this}
 use Rattle.editing.proofs.remove_4096 as f

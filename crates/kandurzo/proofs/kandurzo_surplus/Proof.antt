@@ -1,9 +1,9 @@
 -- `kandurzo_surplus` meets its contract: a walk of its MIR, straight on.
 -- Positions: the rows of the list and the two sets at 0 to 2, what closes them at 3, local j at 4 + j; one further on while the words are a row too. Assumes nothing.
-use mathlib.Core.Path.{_≡_, refl, sym, ap, _∙_, subst}
-use Prim.Native.Nat.{ℕ, _+_, _*_, _<_, _≤_, _^_}
+use mathlib.Core.Path.{_≡_, refl, sym, _∙_, subst}
+use Prim.Native.Nat.{ℕ, _+_, _<_, _≤_, _^_}
 use native.Mathlib.Omega.{arith}
-use mathlib.Core.Bool.{Bool, true, false, not}
+use mathlib.Core.Bool.{Bool, false, not}
 use mathlib.Core.List.{List, [], _∷_}
 use lib.ListN.{length}
 use lib.Dec.{eqb, lit<}
@@ -36,11 +36,11 @@ use Rattle.records.specs.declared.Head.{Head}
 use Rattle.records.proofs.Plain.{Plain, Fits, typed-as, plain-record, plain-byte, plain-word, plain-count, plain-truth}
 use Rattle.records.proofs.Rows.{Row, lend-mut, lend-shr}
 use Rattle.records.proofs.Calls.{Arg, plain as by-value, loan, bound, calls-outright, calls-rows}
-use Rattle.records.proofs.Frame.{env, block, empty, holds as full, num, fit-slice, var, part-of, array-slice, sets, lands-in, leaves}
+use Rattle.records.proofs.Frame.{env, block, empty, num, fit-slice, var, part-of, array-slice, sets, lands-in, leaves}
 use Rattle.records.proofs.Entry.{Par, plain, held, hold-shr, entry, passed, begins, ends}
 use Rattle.records.proofs.Signs.{Kinds, record-kind, shr-kind, stays, meets-by}
 use Rattle.records.proofs.Arrays.{copies, length-copies, array-typed, opens-array, closes-array}
-use Rattle.records.proofs.Records.{plain-pair, plain-head, pair-row, word-row}
+use Rattle.records.proofs.Records.{plain-pair, plain-head, word-row}
 use Rattle.records.proofs.Steps.{CopiesOut, Agrees, Enough, copies-out, asks-agree}
 use Rattle.records.proofs.Copies.{length-laid-out}
 use Rattle.records.proofs.Pair as P
@@ -55,8 +55,8 @@ use Rattle.records.proofs.copy_out.Met as copy-out-thm
 use Rattle.kandurzo.proofs.Gate as G
 use Rattle.kandurzo.proofs.Gate.Laws as G′
 use Rattle.kandurzo.specs.declared.Gate.{Gate}
-use Rattle.kandurzo.specs.Gate.{gate-number, records-through, gate-of, On-words}
-use Rattle.kandurzo.proofs.Gates.{gate-open, work-in, through-count, through-room, length-work-in, work-in-words}
+use Rattle.kandurzo.specs.Gate.{gate-number, gate-of, On-words}
+use Rattle.kandurzo.proofs.Gates.{gate-open, work-in, through-count, through-room, work-in-words}
 use Rattle.verify.specs.declared.Difference.{Difference}
 use Rattle.verify.proofs.Difference as D
 use Rattle.verify.proofs.Difference.Laws as D′
