@@ -30,7 +30,7 @@ use Rattle.kandurzo.specs.declared.Edit.{Edit}
 use Rattle.kandurzo.specs.Listing.{head-of, as-record, as-records, is-full, add-number, added, Add-says, remove-number, removed, Remove-says}
 use Rattle.kandurzo.specs.Edits.{word-list, records-out, Ready, edit-of, add-on-number, add-edit, add-words, remove-on-number, remove-edit, remove-words}
 use Rattle.kandurzo.proofs.Orders.{add-13, remove-13}
-use Rattle.kandurzo.proofs.Outcomes.{Call}
+use Rattle.kandurzo.proofs.Outcomes.{Call, answer}
 use Rattle.kandurzo.proofs.Changes.{Edited, add-edited, remove-edited}
 use Rattle.kandurzo.proofs.Taken.{held-few, held-is-list, length-held}
 
@@ -132,9 +132,7 @@ made x zs h ps a b = x h (agrees h ps) (length ps) (out zs h ps) a b
 pub record Change (Says : Call) (edit : OnWords Edit) (words : OnWords (List ℕ)) (zs : List ℕ) (h : Head) (ps : List Pair) (a b : ℕ) : Type 0 where
   pub long : length (made words zs h ps a b) ≡ 8192
   pub back : Enough-back ps (made words zs h ps a b) (made edit zs h ps a b .count)
-  pub says :
-      let e = made edit zs h ps a b in
-      Says h ps a b (record { number = e .number; head = e .head }) (put-back ps (made words zs h ps a b) (e .count))
+  pub says : Says h ps a b (answer (made edit zs h ps a b)) (put-back ps (made words zs h ps a b) (made edit zs h ps a b .count))
 
 -- what comes back is said of the held pairs: where head and list disagree, nothing does
 module _ (zs : List ℕ) (long : length zs ≡ 8192) (h : Head) (ps : List Pair) (a b : ℕ) where

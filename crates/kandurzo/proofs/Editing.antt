@@ -4,7 +4,7 @@
 --   meets            the call meets its contract
 -- Positions: the list's row at 0, what closes it at 1, local j at 2 + j; once the words are made their row is at 1, and local j at 3 + j.
 -- Assumes `Given`, and that the table of calls has the five functions at their contracts.
-use mathlib.Core.Path.{_≡_, refl, sym, subst}
+use mathlib.Core.Path.{_≡_, refl}
 use Prim.Native.Nat.{ℕ, _+_, _<_, _^_}
 use mathlib.Core.Bool.{Bool, not}
 use mathlib.Core.List.{List, [], _∷_}
@@ -29,7 +29,6 @@ use denote.Builtin.{bool, u32, usize}
 use denote.Memory.{lone}
 use denote.Ref.{now}
 use denote.Slice.{Room}
-use denote.Struct.Laws as Struct
 use denote.Triple.Clauses.{Clauses, closing}
 use denote.Triple.Entry.{onEntry}
 use denote.Triple.Spec.{Meets, tripleOf}
@@ -38,17 +37,16 @@ use denote.Triple.Walked.{walkOf, ends-at}
 use Rattle.records.specs.Records.{agrees, put-back}
 use Rattle.records.specs.declared.Pair.{Pair}
 use Rattle.records.specs.declared.Head.{Head}
-use Rattle.kandurzo.specs.declared.Changed.{Changed}
 use Rattle.kandurzo.specs.declared.Edit.{Edit}
 use Rattle.kandurzo.specs.Edits.{records-out, Ready}
-use Rattle.records.proofs.Plain.{Plain, Fits, typed-as, plain-record, plain-word, plain-count, plain-truth}
+use Rattle.records.proofs.Plain.{Fits, typed-as, plain-word, plain-count, plain-truth}
 use Rattle.records.proofs.Rows.{lend-mut}
 use Rattle.records.proofs.Calls.{Arg, plain as by-value, loan, bound, calls-outright}
 use Rattle.records.proofs.Frame.{env, block, empty, holds as full, num, fit-slice, var, part-of, ptr-of, slice-again, array-slice, sets, lands-in, leaves}
 use Rattle.records.proofs.Entry.{Par, plain, held, hold-mut, entry, passed, begins, ends}
 use Rattle.records.proofs.Signs.{Kinds, record-kind, mut-kind, word-kind, stays, meets-by}
 use Rattle.records.proofs.Arrays.{copies, length-copies, array-typed, opens-array, closes-array}
-use Rattle.records.proofs.Records.{plain-pair, plain-head, word-row}
+use Rattle.records.proofs.Records.{plain-pair, plain-head, word-row, room-as}
 use Rattle.records.proofs.Steps.{CopiesOut, CopiesIn, Agrees, copies-out, copies-in, asks-agree}
 use Rattle.records.proofs.Copies.{length-put-back}
 use Rattle.records.proofs.Pair as P
@@ -58,11 +56,10 @@ use Rattle.records.proofs.agree.Symbol.{name as #records·agree}
 use Rattle.records.proofs.copy_out.Symbol.{name as #records·copy-out}
 use Rattle.records.proofs.copy_in.Symbol.{name as #records·copy-in}
 use Rattle.kandurzo.proofs.Changed as D
-use Rattle.kandurzo.proofs.Changed.Laws as D′
 use Rattle.kandurzo.proofs.Edit as G
-use Rattle.kandurzo.proofs.Edit.Laws as G′
 use Rattle.kandurzo.proofs.Written.{a-pair, a-head, a-word, a-pair-there, value, lends, lends-all, at, the, part, lent-again, lent-whole}
-use Rattle.kandurzo.proofs.Outcomes.{Call, call-clauses}
+use Rattle.kandurzo.proofs.Outcomes.{Call, answer, call-clauses}
+use Rattle.kandurzo.proofs.Types.{plain-changed, plain-edit, edit-parts, answer-fits}
 use Rattle.kandurzo.proofs.Calls.{OnWords, out, out-enough, out-ready, Change}
 use Rattle.kandurzo.proofs.edits.records_out as ready
 use Rattle.kandurzo.proofs.edits.records_out.Symbol.{name as #records-out}
@@ -107,8 +104,8 @@ change-clauses edit words 𝓤 κs (h, (t, (len, (ws, (a, (b, _)))))) = record {
   ensures = λ g r e. fact 𝓤 ((r ≡ edit h t len (now ws) a b) × (now (e .1 .1 .1 .0) ≡ words h t len (now ws) a b));
 }
 
-room-8192 : (l : List ℕ) → length l ≡ 8192 → Room u32 (length l)
-room-8192 l e = subst (Room u32) (sym e) (lit< tt, lit< tt)
+room-8192 : {k : ℕ} → k ≡ 8192 → Room u32 k
+room-8192 e = room-as u32 e (lit< tt, lit< tt)
 
 abbrev zs : List ℕ
 zs = copies 8192 0
@@ -124,12 +121,6 @@ module _ (called : Name) {Says : Call} {edit : OnWords Edit} {words : OnWords (L
     (known : Triple 𝓤 (𝓣 .C called) (tripleOf 𝓤 H A change.signature (closing 𝓤 H A change.ended (change-clauses edit words 𝓤)))) where
   fm : FmC 𝓤 H (W .laws) (𝓣 .C)
   fm = fmOf 𝓤 H (W .laws) 𝓣
-
-  abbrev plain-changed : Plain W D.the-row
-  plain-changed = plain-record W D.the-type D′.the-laws D′.the-plain D′.the-copy
-
-  abbrev plain-edit : Plain W G.the-row
-  plain-edit = plain-record W G.the-type G′.the-laws G′.the-plain G′.the-copy
 
   module _ (κ : Lft) (q : Share) (h : Head) (b o : ℕ) (γ : GName) (ps : List Pair) (m n : ℕ) (is-head : Fits N.the-row (plain-head W) h)
       (room : Room P.the-row (length ps)) (m-fits : m < 2 ^ 32) (n-fits : n < 2 ^ 32) where
@@ -165,25 +156,15 @@ module _ (called : Name) {Says : Call} {edit : OnWords Edit} {words : OnWords (L
     abbrev ys : List Pair
     ys = put-back ps vs (c .count)
 
-    abbrev answer : Changed
-    answer = record { number = c .number; head = c .head }
-
     length-ys : length ys ≡ length ps
     length-ys = length-put-back ps vs (c .count) (done .back .0)
-
-    -- the parts of what the change says fit
-    parts : Fits G.the-row plain-edit c → (c .number < 2 ^ 32) × (Fits N.the-row (plain-head W) (c .head)) × (c .count < 2 ^ 64)
-    parts fits = let all = Struct.owed G.the-type G′.the-laws c _ fits in (all .0 .1, all .1 .0, all .1 .1 .0 .1)
-
-    r-fits : Fits G.the-row plain-edit c → Fits D.the-row plain-changed answer
-    r-fits fits = Struct.owes D.the-type D′.the-laws answer ((refl, parts fits .0), (parts fits .1, tt))
 
     abbrev ready-args : List (Arg W)
     ready-args = by-value N.the-row (plain-head W) h is-head ∷ by-value bool (plain-truth W) ok refl ∷ []
 
     abbrev change-args : ℕ → List (Arg W)
     change-args l = by-value N.the-row (plain-head W) h is-head ∷ by-value bool (plain-truth W) ok refl ∷ by-value usize (plain-count W) (length ps) (refl, room .0)
-        ∷ loan (lend-mut (word-row W fullShare l 0) us (room-8192 us (us-ready .long))) ∷ by-value u32 (plain-word W) m (refl, m-fits) ∷ by-value u32 (plain-word W) n (refl, n-fits) ∷ []
+        ∷ loan (lend-mut (word-row W fullShare l 0) us (room-8192 (us-ready .long))) ∷ by-value u32 (plain-word W) m (refl, m-fits) ∷ by-value u32 (plain-word W) n (refl, n-fits) ∷ []
 
     walk : ent 𝓤 (onEntry 𝓤 H A f.signature (κ, tt) (q, tt) (entry pars .3) (entry pars .4)) (WpFn 𝓤 H (𝓣 .C) (𝓣 .Λ) (made called) (passed pars) Post)
     walk = begins (𝓣 .C) (𝓣 .Λ) (made called) Post pars (λ bs. (typed-as (plain-head W) h is-head, (fit-slice (room .0), (num m-fits, (num n-fits, tt))))) (λ bs os.
@@ -198,29 +179,29 @@ module _ (called : Name) {Says : Call} {edit : OnWords Edit} {words : OnWords (L
         (and-then ! (var ! (3 + 1) refl) (and-then ! (var ! (3 + 5) refl) (no-more !))) (λ k-fits _. lands-in ! (3 + 7) empty (num (k-fits .1)) $
         -- copy_out(list, &mut words, out)
         sets ! (3 + 12) empty (ptr-of ! (3 + 2) refl refl) (tt, tt) $ sets ! (3 + 13) empty (slice-again ! (3 + 12) (3 + 2) refl refl refl) (fit-slice (room .0)) $
-        sets ! (3 + 14) empty (addr ! (from ! (stop !))) (tt, tt) $ sets ! (3 + 15) empty (array-slice ! (3 + 14) (length zs) refl (lit< tt) length-zs) (fit-slice (room-8192 zs length-zs .0)) $
-        copies-out mem run ! fm known-out fullShare b o ps (block (env locals bs) 6) 0 zs k room (room-8192 zs length-zs) (k-fits .1) (out-enough zs length-zs h ps)
+        sets ! (3 + 14) empty (addr ! (from ! (stop !))) (tt, tt) $ sets ! (3 + 15) empty (array-slice ! (3 + 14) (length zs) refl (lit< tt) length-zs) (fit-slice (room-8192 length-zs .0)) $
+        copies-out mem run ! fm known-out fullShare b o ps (block (env locals bs) 6) 0 zs k room (room-8192 length-zs) (k-fits .1) (out-enough zs length-zs h ps)
         (and-then ! (var ! (3 + 13) refl) (and-then ! (var ! (3 + 15) refl) (and-then ! (var ! (3 + 7) refl) (no-more !)))) $ lands-in ! (3 + 11) empty (tt, tt) $
         -- let edit = add_on_words(head, agreed, list.len(), &mut words, a, b), or remove_on_words
         sets ! (3 + 16) empty (of-opd ! (part-of ! (3 + 2) 1 refl refl refl)) (num (room .0)) $
-        sets ! (3 + 17) empty (addr ! (from ! (stop !))) (tt, tt) $ sets ! (3 + 18) empty (array-slice ! (3 + 17) (length us) refl (lit< tt) (us-ready .long)) (fit-slice (room-8192 us (us-ready .long) .0)) $
+        sets ! (3 + 17) empty (addr ! (from ! (stop !))) (tt, tt) $ sets ! (3 + 18) empty (array-slice ! (3 + 17) (length us) refl (lit< tt) (us-ready .long)) (fit-slice (room-8192 (us-ready .long) .0)) $
         move ! (1 ∷ []) $
-        calls-outright ! fm (change-args (block (env locals bs) 6)) G.the-row plain-edit (fact 𝓤 (Ready h ok (length ps) us)) (λ r ws. (r ≡ c) × (ws .1 .1 .1 .0 ≡ vs)) refl (factI 𝓤 _ (emp 𝓤) us-ready)
+        calls-outright ! fm (change-args (block (env locals bs) 6)) G.the-row (plain-edit W) (fact 𝓤 (Ready h ok (length ps) us)) (λ r ws. (r ≡ c) × (ws .1 .1 .1 .0 ≡ vs)) refl (factI 𝓤 _ (emp 𝓤) us-ready)
         (λ ks. known (bound (change-args (block (env locals bs) 6)) ks, tt)) c (tt, (tt, (tt, (vs, (tt, (tt, tt)))))) (λ r ws e. (e .0, λ i. (tt, (tt, (tt, (e .1 i, (tt, (tt, tt))))))))
         (and-then ! (var ! (3 + 1) refl) (and-then ! (var ! (3 + 5) refl) (and-then ! (var ! (3 + 16) refl) (and-then ! (var ! (3 + 18) refl) (and-then ! (var ! (3 + 3) refl) (and-then ! (var ! (3 + 4) refl) (no-more !))))))) (λ c-fits _.
-        lands-in ! (3 + 8) empty (typed-as plain-edit c c-fits) $ move ! (1 ∷ []) $
+        lands-in ! (3 + 8) empty (typed-as (plain-edit W) c c-fits) $ move ! (1 ∷ []) $
         -- copy_in(list, &words, edit.count)
         sets ! (3 + 19) empty (ptr-of ! (3 + 2) refl refl) (tt, tt) $ sets ! (3 + 20) empty (slice-again ! (3 + 19) (3 + 2) refl refl refl) (fit-slice (room .0)) $
-        sets ! (3 + 21) empty (addr ! (from ! (stop !))) (tt, tt) $ sets ! (3 + 22) empty (array-slice ! (3 + 21) (length vs) refl (lit< tt) (done .long)) (fit-slice (room-8192 vs (done .long) .0)) $
-        copies-in mem run ! fm known-in b o ps fullShare (block (env locals bs) 6) 0 vs (c .count) room (room-8192 vs (done .long)) (parts c-fits .2) (done .back)
+        sets ! (3 + 21) empty (addr ! (from ! (stop !))) (tt, tt) $ sets ! (3 + 22) empty (array-slice ! (3 + 21) (length vs) refl (lit< tt) (done .long)) (fit-slice (room-8192 (done .long) .0)) $
+        copies-in mem run ! fm known-in b o ps fullShare (block (env locals bs) 6) 0 vs (c .count) room (room-8192 (done .long)) (edit-parts W c c-fits .2) (done .back)
         (and-then ! (var ! (3 + 20) refl) (and-then ! (var ! (3 + 22) refl) (and-then ! (part-of ! (3 + 8) 2 refl refl refl) (no-more !)))) $ lands-in ! (3 + 11) full (tt, tt) $
         -- Changed { .. }
-        sets ! (3 + 0) empty (agg ! (and-then ! (part-of ! (3 + 8) 0 refl refl refl) (and-then ! (part-of ! (3 + 8) 1 refl refl refl) (no-more !)))) (typed-as plain-changed answer (r-fits c-fits)) $
+        sets ! (3 + 0) empty (agg ! (and-then ! (part-of ! (3 + 8) 0 refl refl refl) (and-then ! (part-of ! (3 + 8) 1 refl refl refl) (no-more !)))) (typed-as (plain-changed W) (answer c) (answer-fits W c c-fits)) $
         move ! (1 ∷ []) $ closes-array ! (2 + 6) u32 (plain-word W) 8192 (block (env locals bs) 6) vs (done .long) $
         leaves ! 2 (λ j. not (eqb j 6)) _ refl (look ! (2 + 0) refl) $
-        by ! (ends pars (tt, tt) (tt, (ys, (tt, (tt, tt)))) (tt, (length-ys, (tt, (tt, tt)))) D.the-row plain-changed answer (r-fits c-fits)
-        (fact 𝓤 (Says h ps m n answer ys)) (factI 𝓤 _ _ (done .says))
-        (ends-at 𝓤 H A f.ended (stays f.ended kinds) (call-clauses Says 𝓤) W (entry pars, tt) (plain-changed .val answer) answer (tt, (ys, (tt, (tt, tt)))) (tt, (length-ys, (tt, (tt, tt)))))))))
+        by ! (ends pars (tt, tt) (tt, (ys, (tt, (tt, tt)))) (tt, (length-ys, (tt, (tt, tt)))) D.the-row (plain-changed W) (answer c) (answer-fits W c c-fits)
+        (fact 𝓤 (Says h ps m n (answer c) ys)) (factI 𝓤 _ _ (done .says))
+        (ends-at 𝓤 H A f.ended (stays f.ended kinds) (call-clauses Says 𝓤) W (entry pars, tt) (plain-changed W .val (answer c)) (answer c) (tt, (ys, (tt, (tt, tt)))) (tt, (length-ys, (tt, (tt, tt)))))))))
 
   pub meets : Meets 𝓤 H A f.signature (WpFn 𝓤 H (𝓣 .C) (𝓣 .Λ) (made called)) (closing 𝓤 H A f.ended (call-clauses Says 𝓤))
   meets = meets-by f.ended kinds 𝓤 H A W (call-clauses Says 𝓤) 𝓣 (made called) (λ κs qs bounds a g are. via 𝓤 _ (fst∗ 𝓤 _ (emp 𝓤))

@@ -25,7 +25,6 @@ use denote.Builtin.{u32}
 use denote.Memory.{lone}
 use denote.Ref.{now}
 use denote.Slice.{Room}
-use denote.Struct.Laws as Struct
 use denote.Triple.Clauses.{Clauses, closing}
 use denote.Triple.Entry.{onEntry}
 use denote.Triple.Spec.{Meets, tripleOf}
@@ -35,7 +34,7 @@ use Rattle.records.specs.declared.Pair.{Pair}
 use Rattle.records.specs.declared.Head.{Head}
 use Rattle.kandurzo.specs.declared.Changed.{Changed}
 use Rattle.kandurzo.specs.Listing.{changed-to}
-use Rattle.records.proofs.Plain.{Plain, Fits, typed-as, plain-record, plain-word}
+use Rattle.records.proofs.Plain.{Fits, typed-as, plain-word}
 use Rattle.records.proofs.Rows.{lend-mut}
 use Rattle.records.proofs.Calls.{Arg, plain as by-value, loan, bound, calls-outright}
 use Rattle.records.proofs.Frame.{empty, num, fit-slice, var, part-of, ptr-of, slice-again, sets, lands-in, leaves}
@@ -45,8 +44,8 @@ use Rattle.records.proofs.Records.{plain-pair, plain-head, pair-row}
 use Rattle.records.proofs.Pair as P
 use Rattle.records.proofs.Head as N
 use Rattle.kandurzo.proofs.Changed as D
-use Rattle.kandurzo.proofs.Changed.Laws as D′
 use Rattle.kandurzo.proofs.Written.{a-pair, a-head, a-word, a-pair-there, a-head-there, value, lends, lends-all, at, the, part, lent-again}
+use Rattle.kandurzo.proofs.Types.{plain-changed, changed-parts}
 use Rattle.kandurzo.proofs.Outcomes.{Call, Outcome, call-clauses}
 use Rattle.kandurzo.proofs.kandurzo_add as callee
 use Rattle.kandurzo.proofs.kandurzo_add_to as f
@@ -86,9 +85,6 @@ module _ (called : Name) {Says : Call} (decides : (h : Head) (ps : List Pair) (a
   fm : FmC 𝓤 H (W .laws) (𝓣 .C)
   fm = fmOf 𝓤 H (W .laws) 𝓣
 
-  abbrev plain-changed : Plain W D.the-row
-  plain-changed = plain-record W D.the-type D′.the-laws D′.the-plain D′.the-copy
-
   module _ (κ κ′ : Lft) (q q′ : Share) (b o : ℕ) (γ : GName) (h : Head) (b′ o′ : ℕ) (γ′ : GName) (ps : List Pair) (m n : ℕ)
       (room : Room P.the-row (length ps)) (m-fits : m < 2 ^ 32) (n-fits : n < 2 ^ 32) where
     abbrev pars : List (Par W)
@@ -111,12 +107,6 @@ module _ (called : Name) {Says : Call} (decides : (h : Head) (ps : List Pair) (a
     unfolding changed-to
     says = outcome .says
 
-    head-fits : Fits D.the-row plain-changed r₀ → Fits N.the-row (plain-head W) (r₀ .head)
-    head-fits fits = Struct.owed D.the-type D′.the-laws r₀ _ fits .1 .0
-
-    number-fits : Fits D.the-row plain-changed r₀ → r₀ .number < 2 ^ 32
-    number-fits fits = Struct.owed D.the-type D′.the-laws r₀ _ fits .0 .1
-
     abbrev args : Fits N.the-row (plain-head W) h → List (Arg W)
     args is-head = by-value N.the-row (plain-head W) h is-head ∷ loan (lend-mut (pair-row W fullShare b′ o′) ps room)
         ∷ by-value u32 (plain-word W) m (refl, m-fits) ∷ by-value u32 (plain-word W) n (refl, n-fits) ∷ []
@@ -126,15 +116,15 @@ module _ (called : Name) {Says : Call} (decides : (h : Head) (ps : List Pair) (a
         -- let answer = add(*head, list, a, b), or remove
         sets ! (3 + 6) empty (of-opd ! (load ! (from ! (hop ! (look ! (3 + 1) refl) (stop !))) (look-raw ! 0 refl))) (typed-as (plain-head W) h (os .0)) $
         sets ! (3 + 7) empty (ptr-of ! (3 + 2) refl refl) (tt, tt) $ sets ! (3 + 8) empty (slice-again ! (3 + 7) (3 + 2) refl refl refl) (fit-slice (room .0)) $ move ! (1 ∷ []) $
-        calls-outright ! fm (args (os .0)) D.the-row plain-changed (emp 𝓤) (λ r ws. Says h ps m n r (ws .1 .0)) refl (id⊢ 𝓤 _) (λ ks. known (bound (args (os .0)) ks, tt)) r₀ (tt, (ys, (tt, (tt, tt))))
+        calls-outright ! fm (args (os .0)) D.the-row (plain-changed W) (emp 𝓤) (λ r ws. Says h ps m n r (ws .1 .0)) refl (id⊢ 𝓤 _) (λ ks. known (bound (args (os .0)) ks, tt)) r₀ (tt, (ys, (tt, (tt, tt))))
         (λ r ws e. (outcome .only r (ws .1 .0) e .0, λ i. (tt, (outcome .only r (ws .1 .0) e .1 i, (tt, (tt, tt))))))
         (and-then ! (var ! (3 + 6) refl) (and-then ! (var ! (3 + 8) refl) (and-then ! (var ! (3 + 3) refl) (and-then ! (var ! (3 + 4) refl) (no-more !))))) (λ r-fits sized.
-        lands-in ! (3 + 5) empty (typed-as plain-changed r₀ r-fits) $ move ! (1 ∷ []) $
+        lands-in ! (3 + 5) empty (typed-as (plain-changed W) r₀ r-fits) $ move ! (1 ∷ []) $
         -- *head = answer.head
-        assigns ! (of-opd ! (part-of ! (3 + 5) 1 refl refl refl)) (from ! (hop ! (look ! (3 + 1) refl) (stop !))) (store-raw ! 0 refl (typed-as (plain-head W) (r₀ .head) (head-fits r-fits))) $
-        sets ! (3 + 0) empty (of-opd ! (part-of ! (3 + 5) 0 refl refl refl)) (num (number-fits r-fits)) $
+        assigns ! (of-opd ! (part-of ! (3 + 5) 1 refl refl refl)) (from ! (hop ! (look ! (3 + 1) refl) (stop !))) (store-raw ! 0 refl (typed-as (plain-head W) (r₀ .head) (changed-parts W r₀ r-fits .1))) $
+        sets ! (3 + 0) empty (of-opd ! (part-of ! (3 + 5) 0 refl refl refl)) (num (changed-parts W r₀ r-fits .0)) $
         leaves ! 3 (λ j. true) _ refl (look ! (3 + 0) refl) $
-        by ! (ends pars os (r₀ .head, (ys, (tt, (tt, tt)))) (head-fits r-fits, (sized .0, (tt, (tt, tt)))) u32 (plain-word W) (r₀ .number) (refl, number-fits r-fits)
+        by ! (ends pars os (r₀ .head, (ys, (tt, (tt, tt)))) (changed-parts W r₀ r-fits .1, (sized .0, (tt, (tt, tt)))) u32 (plain-word W) (r₀ .number) (refl, changed-parts W r₀ r-fits .0)
         (fact 𝓤 (Says h ps m n (changed-to (r₀ .number) (r₀ .head)) ys)) (factI 𝓤 _ _ says)
         (ends-at 𝓤 H A f.ended (stays f.ended kinds) (clauses Says 𝓤) W (entry pars, tt) _ (r₀ .number) (r₀ .head, (ys, (tt, (tt, tt)))) (tt, (sized .0, (tt, (tt, tt))))))))
 

@@ -5,6 +5,7 @@ pub mod Taken
 pub mod Outcomes
 pub mod Calls
 pub mod Written
+pub mod Types
 pub mod Editing
 pub mod InPlace
 pub mod Filling

@@ -1,6 +1,7 @@
 -- Add and remove by their contracts alone.
 --   Call                                   what a call's contract speaks of
 --   Outcome, add-outcome, remove-outcome   the one answer and the one list that a call's contract allows
+--   answer                                 the answer of an edit
 --   call-clauses                           the contract's clauses, once for add and remove
 -- Assumes nothing.
 use mathlib.Core.Path.{_≡_, refl}
@@ -15,6 +16,7 @@ use Rattle.theory.specs.Refusals.{if-taken}
 use Rattle.records.specs.declared.Pair.{Pair}
 use Rattle.records.specs.declared.Head.{Head}
 use Rattle.kandurzo.specs.declared.Changed.{Changed}
+use Rattle.kandurzo.specs.declared.Edit.{Edit}
 use Rattle.kandurzo.specs.Listing.{head-of, add-number, added, Add-says, remove-number, removed, Remove-says}
 use Rattle.kandurzo.proofs.kandurzo_add as add
 
@@ -44,6 +46,10 @@ remove-outcome h ps a b = record {
   says = record { number = refl; head = refl; list = refl };
   only = λ r qs e. (λ i. record { number = e .number i; head = e .head i }, e .list);
 }
+
+-- the answer of an edit: its number and its head
+abbrev pub answer : Edit → Changed
+answer e = record { number = e .number; head = e .head }
 
 abbrev pub call-clauses : (Says : Call) {M : Type 1} (𝓤 : URA M) → Clauses 𝓤 add.ended
 call-clauses Says 𝓤 κs a = record {

@@ -2,15 +2,7 @@
 use contract.Running.{givenOf, tables, tablesOf}
 use denote.Triple.Spec.{tripleOf}
 use denote.Triple.Table.{entered, cited}
-use Rattle.records.proofs.agree.Symbol as agree-def
-use Rattle.records.proofs.agree.Symbol.{name as #records·agree}
-use Rattle.records.proofs.agree.Met as agree-thm
-use Rattle.records.proofs.copy_out.Symbol as copy-out-def
-use Rattle.records.proofs.copy_out.Symbol.{name as #records·copy-out}
-use Rattle.records.proofs.copy_out.Met as copy-out-thm
-use Rattle.records.proofs.copy_in.Symbol as copy-in-def
-use Rattle.records.proofs.copy_in.Symbol.{name as #records·copy-in}
-use Rattle.records.proofs.copy_in.Met as copy-in-thm
+use Rattle.records.proofs.Cited.{cites-agree, cites-out, cites-in}
 use Rattle.kandurzo.proofs.edits.records_out.Symbol as ready-def
 use Rattle.kandurzo.proofs.edits.records_out.Symbol.{name as #records-out}
 use Rattle.kandurzo.proofs.edits.records_out.Met as ready-thm
@@ -30,8 +22,8 @@ kandurzo-add-spec 𝓤 H 𝓜 𝓖 𝓡 =
     entered 𝓤 H (tripleOf 𝓤 H (𝓖 .A) f.signature (f.spec 𝓤 H (𝓖 .A) (𝓜 .mem) (𝓡 .run)))
     (tables 𝓤 H 𝓜 𝓡 code.env .C) (tables 𝓤 H 𝓜 𝓡 code.env .Λ) #this code.function (code.unfolded 𝓤 H 𝓜 𝓡)
     (meets #change add-change 𝓤 H (𝓖 .A) (givenOf 𝓤 H 𝓜 𝓖) (𝓜 .mem) (𝓡 .run) (tablesOf 𝓤 H 𝓜 (tables 𝓤 H 𝓜 𝓡 code.env))
-    (cited 𝓤 H _ 𝓜 𝓡 code.env #records·agree agree-def.routine code.calls-records·agree (agree-thm.met 𝓤 H 𝓜 𝓖 𝓡))
+    (cites-agree 𝓤 H 𝓜 𝓖 𝓡 code.env code.calls-records·agree)
     (cited 𝓤 H _ 𝓜 𝓡 code.env #records-out ready-def.routine code.calls-kandurzo·edits·records-out (ready-thm.met 𝓤 H 𝓜 𝓖 𝓡))
-    (cited 𝓤 H _ 𝓜 𝓡 code.env #records·copy-out copy-out-def.routine code.calls-records·copy-out (copy-out-thm.met 𝓤 H 𝓜 𝓖 𝓡))
-    (cited 𝓤 H _ 𝓜 𝓡 code.env #records·copy-in copy-in-def.routine code.calls-records·copy-in (copy-in-thm.met 𝓤 H 𝓜 𝓖 𝓡))
+    (cites-out 𝓤 H 𝓜 𝓖 𝓡 code.env code.calls-records·copy-out)
+    (cites-in 𝓤 H 𝓜 𝓖 𝓡 code.env code.calls-records·copy-in)
     (cited 𝓤 H _ 𝓜 𝓡 code.env #change change-def.routine code.calls-kandurzo·edits·add-on-words (change-thm.met 𝓤 H 𝓜 𝓖 𝓡)))
