@@ -1,6 +1,7 @@
 -- From the records to the words and back: what add and remove do on words is what they do to the lent records.
 --   out                                what the words are after the records went out
 --   out-enough, out-ready              what the way out asks, and what add and remove on words ask
+--   Making, made-out                   what a change makes, and what it makes of the words after the records went out
 --   Change, add-change, remove-change  a change of the words makes the call's answer and its list
 -- Assumes nothing.
 use mathlib.Core.Path.{_≡_, refl, sym, ap, _∙_}
@@ -35,8 +36,8 @@ use Rattle.kandurzo.proofs.Changes.{Edited, add-edited, remove-edited}
 use Rattle.kandurzo.proofs.Taken.{held-few, held-is-list, length-held}
 
 -- what a change of the words makes: of the head, whether it agrees with the list, the list's length, the words, and the pair
-abbrev pub OnWords : Type 0 → Type 0
-OnWords X = Head → Bool → ℕ → List ℕ → ℕ → ℕ → X
+abbrev pub Making : Type 0 → Type 0
+Making X = Head → Bool → ℕ → List ℕ → ℕ → ℕ → X
 
 -- the words zs after the records went out to them
 abbrev pub out : List ℕ → Head → List Pair → List ℕ
@@ -125,14 +126,14 @@ freed [] rest = refl
 freed (q ∷ qs) rest = ap (λ (ps : List Pair). as-record q ∷ ps) (freed qs rest)
 
 -- what a change makes of the words zs, once the records went out to them
-abbrev pub made : {X : Type 0} → OnWords X → List ℕ → Head → List Pair → (a b : ℕ) → X
-made x zs h ps a b = x h (agrees h ps) (length ps) (out zs h ps) a b
+abbrev pub made-out : {X : Type 0} → Making X → List ℕ → Head → List Pair → (a b : ℕ) → X
+made-out x zs h ps a b = x h (agrees h ps) (length ps) (out zs h ps) a b
 
 -- the words after a change are as many, what comes back fits the list, and the call's contract holds
-pub record Change (Says : Call) (edit : OnWords Edit) (words : OnWords (List ℕ)) (zs : List ℕ) (h : Head) (ps : List Pair) (a b : ℕ) : Type 0 where
-  pub long : length (made words zs h ps a b) ≡ 8192
-  pub back : Enough-back ps (made words zs h ps a b) (made edit zs h ps a b .count)
-  pub says : Says h ps a b (answer (made edit zs h ps a b)) (put-back ps (made words zs h ps a b) (made edit zs h ps a b .count))
+pub record Change (Says : Call) (edit : Making Edit) (words : Making (List ℕ)) (zs : List ℕ) (h : Head) (ps : List Pair) (a b : ℕ) : Type 0 where
+  pub long : length (made-out words zs h ps a b) ≡ 8192
+  pub back : Enough-back ps (made-out words zs h ps a b) (made-out edit zs h ps a b .count)
+  pub says : Says h ps a b (answer (made-out edit zs h ps a b)) (put-back ps (made-out words zs h ps a b) (made-out edit zs h ps a b .count))
 
 -- what comes back is said of the held pairs: where head and list disagree, nothing does
 module _ (zs : List ℕ) (long : length zs ≡ 8192) (h : Head) (ps : List Pair) (a b : ℕ) where

@@ -60,7 +60,7 @@ use Rattle.kandurzo.proofs.Edit as G
 use Rattle.kandurzo.proofs.Written.{a-pair, a-head, a-word, a-pair-there, value, lends, lends-all, at, the, part, lent-again, lent-whole}
 use Rattle.kandurzo.proofs.Outcomes.{Call, answer, call-clauses}
 use Rattle.kandurzo.proofs.Types.{plain-changed, plain-edit, edit-parts, answer-fits}
-use Rattle.kandurzo.proofs.Calls.{OnWords, out, out-enough, out-ready, Change}
+use Rattle.kandurzo.proofs.Calls.{Making, out, out-enough, out-ready, Change}
 use Rattle.kandurzo.proofs.edits.records_out as ready
 use Rattle.kandurzo.proofs.edits.records_out.Symbol.{name as #records-out}
 use Rattle.kandurzo.proofs.edits.add_on_words as change
@@ -97,7 +97,7 @@ made called = record {
 }
 
 -- what the function on words says: ready words, and then the answer and the words of the change
-abbrev pub change-clauses : (edit : OnWords Edit) (words : OnWords (List ℕ)) {M : Type 1} (𝓤 : URA M) → Clauses 𝓤 change.ended
+abbrev pub change-clauses : (edit : Making Edit) (words : Making (List ℕ)) {M : Type 1} (𝓤 : URA M) → Clauses 𝓤 change.ended
 change-clauses edit words 𝓤 κs (h, (t, (len, (ws, (a, (b, _)))))) = record {
   ghost = Unit {0};
   requires = λ g. fact 𝓤 (Ready h t len (now ws));
@@ -113,7 +113,7 @@ zs = copies 8192 0
 length-zs : length zs ≡ 8192
 length-zs = length-copies 8192 0
 
-module _ (called : Name) {Says : Call} {edit : OnWords Edit} {words : OnWords (List ℕ)}
+module _ (called : Name) {Says : Call} {edit : Making Edit} {words : Making (List ℕ)}
     (changes : (ls : List ℕ) → length ls ≡ 8192 → (h : Head) (ps : List Pair) (a b : ℕ) → Change Says edit words ls h ps a b)
     {M : Type 1} (𝓤 : URA M) (H : Heap 𝓤) (A : Atoms 𝓤) (W : Given 𝓤 H A) (mem : Memory → SProp 𝓤) (run : Routine → Fun 𝓤) (𝓣 : Tables 𝓤 H)
     (known-agree : Agrees 𝓤 H A mem run (𝓣 .C)) (known-ready : Triple 𝓤 (𝓣 .C #records-out) (tripleOf 𝓤 H A ready.signature (ready.spec 𝓤 H A mem run)))

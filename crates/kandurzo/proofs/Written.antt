@@ -1,5 +1,5 @@
 -- MIR in few words, for the functions that a walk speaks of without their generated code: locals, operands, and the steps that lend a slice.
---   a-pair, a-head, a-word, there            types, and a record's type behind a reference
+--   a-pair, a-head, a-word                   types; a-pair-there, a-head-there: behind a reference
 --   value, lends, lends-all                  locals: a value, a reference, a slice reference
 --   at, the, part                            a local as a place, its copy, and the copy of one of its fields
 --   lent-again, lent-whole                   a slice reference, and an array as a slice, lent once more
