@@ -2,7 +2,7 @@
 -- Positions: the rows of the bytes and the member bytes at 0 and 1, what closes them at 2, local j at 3 + j; while the four arrays are rows too,
 -- local j at 7 + j. Assumes nothing.
 use mathlib.Core.Path.{_≡_, refl, sym, _∙_, subst}
-use Prim.Native.Nat.{ℕ, _+_, _≤_}
+use Prim.Native.Nat.{ℕ, _+_, _<_, _≤_, _^_}
 use mathlib.Core.Bool.{not, _&&_}
 use mathlib.Core.List.{List, [], _∷_}
 use lib.ListN.{length}
@@ -35,21 +35,22 @@ use denote.Triple.Walked.{needs, walkOf, ends-at}
 use Rattle.records.specs.Records.{blank}
 use Rattle.records.specs.declared.Pair.{Pair}
 use Rattle.records.proofs.Plain.{Plain, Fits, typed-as, plain-record, plain-byte, plain-half, plain-word}
-use Rattle.records.proofs.Rows.{lend-mut, lend-shr}
+use Rattle.records.proofs.Rows.{Row, lend-mut, lend-shr}
 use Rattle.records.proofs.Calls.{Arg, plain as by-value, loan, bound, calls-rows}
 use Rattle.records.proofs.Frame.{env, block, empty, fit-slice, var, part-of, ptr-of, slice-again, array-slice, sets, lands-in, leaves}
 use Rattle.records.proofs.Entry.{Par, held, hold-mut, hold-shr, entry, passed, begins, ends}
 use Rattle.records.proofs.Signs.{Kinds, mut-kind, shr-kind, stays, meets-by}
 use Rattle.records.proofs.Arrays.{copies, length-copies, array-typed, opens-array, closes-array}
-use Rattle.records.proofs.Records.{plain-pair, plain-head, pair-row, word-row, half-row, byte-row, blank-fits}
+use Rattle.records.proofs.Records.{plain-pair, plain-head, pair-row, word-row}
 use Rattle.records.proofs.Pair as P
+use Rattle.records.proofs.Pair.Laws as P′
 use Rattle.records.proofs.Head as N
 use Rattle.kandurzo.specs.declared.Changed.{Changed}
 use Rattle.kandurzo.specs.declared.Solved.{Solved}
 use Rattle.kandurzo.specs.Reading.{Read-call}
 use Rattle.kandurzo.specs.Solving.{Solve-call}
-use Rattle.kandurzo.proofs.Types.{plain-changed, plain-solved, changed-parts}
 use Rattle.kandurzo.proofs.Changed as C
+use Rattle.kandurzo.proofs.Changed.Laws as C′
 use Rattle.kandurzo.proofs.Solved as S
 use Rattle.kandurzo.proofs.Solved.Laws as S′
 use Rattle.kandurzo.proofs.kandurzo_read as read
@@ -122,16 +123,34 @@ module _ {M : Type 1} (𝓤 : URA M) (H : Heap 𝓤) (A : Atoms 𝓤) (W : Given
   fm : FmC 𝓤 H (W .laws) (𝓣 .C)
   fm = fmOf 𝓤 H (W .laws) 𝓣
 
+  abbrev plain-changed : Plain W C.the-row
+  plain-changed = plain-record W C.the-type C′.the-laws C′.the-plain C′.the-copy
+
+  abbrev plain-solved : Plain W S.the-row
+  plain-solved = plain-record W S.the-type S′.the-laws S′.the-plain S′.the-copy
+
   abbrev plain-answer : Plain W D.the-row
   plain-answer = plain-record W D.the-type D′.the-laws D′.the-plain D′.the-copy
 
-  -- the answer fits where the two records do
-  answer-fits : (c : Changed) (s : Solved) → Fits C.the-row (plain-changed W) c → Fits S.the-row (plain-solved W) s
+  abbrev byte-row : Share → (b o : ℕ) → Row W
+  byte-row q b o = record { type = u8; plain = plain-byte W; share = q; block = b; offset = o }
+
+  abbrev half-row : (b o : ℕ) → Row W
+  half-row b o = record { type = u16; plain = plain-half W; share = fullShare; block = b; offset = o }
+
+  blank-fits : Fits P.the-row (plain-pair W) blank
+  blank-fits = Struct.owes P.the-type P′.the-laws blank ((refl, lit< tt), ((refl, lit< tt), tt))
+
+  -- the parts of the two records fit, and so does the answer
+  file-parts : (c : Changed) → Fits C.the-row plain-changed c → (c .number < 2 ^ 32) × Fits N.the-row (plain-head W) (c .head)
+  file-parts c fits = let all = Struct.owed C.the-type C′.the-laws c _ fits in (all .0 .1, all .1 .0)
+
+  answer-fits : (c : Changed) (s : Solved) → Fits C.the-row plain-changed c → Fits S.the-row plain-solved s
       → Fits D.the-row plain-answer (answer-of c s)
   answer-fits c s c-fits s-fits =
       let all = Struct.owed S.the-type S′.the-laws s _ s-fits in
       Struct.owes D.the-type D′.the-laws (answer-of c s) (
-        (refl, changed-parts W c c-fits .0),
+        (refl, file-parts c c-fits .0),
         (
           (refl, all .1 .0 .1),
           (
@@ -159,16 +178,16 @@ module _ {M : Type 1} (𝓤 : URA M) (H : Heap 𝓤) (A : Atoms 𝓤) (W : Given
 
     -- what read is lent, and solve; the arrays' blocks come first
     abbrev read-args : (list work : ℕ) → Share → List (Arg W)
-    read-args list work s = loan (lend-shr (byte-row W s b₀ o₀) bytes room₀)
+    read-args list work s = loan (lend-shr (byte-row s b₀ o₀) bytes room₀)
         ∷ loan (lend-mut (pair-row W fullShare list 0) list₀ (list-room list₀ list-long))
         ∷ loan (lend-mut (word-row W fullShare work 0) work₀ (work-room work₀ work-long)) ∷ []
 
-    module _ (file : Changed) (file-fits : Fits C.the-row (plain-changed W) file) (ps : List Pair) (ws : List ℕ)
+    module _ (file : Changed) (file-fits : Fits C.the-row plain-changed file) (ps : List Pair) (ws : List ℕ)
         (list-kept : length ps ≡ 4096) (work-kept : length ws ≡ 16384) where
       abbrev solve-args : (list work cores shares : ℕ) → List (Arg W)
-      solve-args list work cores shares = by-value N.the-row (plain-head W) (file .head) (changed-parts W file file-fits .1)
-          ∷ loan (lend-shr (pair-row W fullShare list 0) ps (list-room ps list-kept)) ∷ loan (lend-mut (byte-row W fullShare b₁ o₁) ms room₁)
-          ∷ loan (lend-mut (half-row W fullShare cores 0) cores₀ cores-room) ∷ loan (lend-mut (half-row W fullShare shares 0) shares₀ shares-room)
+      solve-args list work cores shares = by-value N.the-row (plain-head W) (file .head) (file-parts file file-fits .1)
+          ∷ loan (lend-shr (pair-row W fullShare list 0) ps (list-room ps list-kept)) ∷ loan (lend-mut (byte-row fullShare b₁ o₁) ms room₁)
+          ∷ loan (lend-mut (half-row cores 0) cores₀ cores-room) ∷ loan (lend-mut (half-row shares 0) shares₀ shares-room)
           ∷ loan (lend-mut (word-row W fullShare work 0) ws (work-room ws work-kept)) ∷ []
 
     walk : ent 𝓤 (onEntry 𝓤 H A f.signature (κ₀, (κ₁, tt)) (q₀, (q₁, tt)) (entry pars .3) (entry pars .4))
@@ -179,15 +198,15 @@ module _ {M : Type 1} (𝓤 : URA M) (H : Heap 𝓤) (A : Atoms 𝓤) (W : Given
         let cores : ℕ = block (env (code.function .locals) bs) 5 in
         let shares : ℕ = block (env (code.function .locals) bs) 6 in
         -- the four arrays
-        sets ! (3 + 9) empty (agg ! (and-then ! (lit ! tt) (and-then ! (lit ! tt) (no-more !)))) (typed-as (plain-pair W) blank (blank-fits W)) $
-        sets ! (3 + 3) empty (rep ! 4096 (var ! (3 + 9) refl)) (array-typed W P.the-row (plain-pair W) 4096 blank (blank-fits W)) $
+        sets ! (3 + 9) empty (agg ! (and-then ! (lit ! tt) (and-then ! (lit ! tt) (no-more !)))) (typed-as (plain-pair W) blank blank-fits) $
+        sets ! (3 + 3) empty (rep ! 4096 (var ! (3 + 9) refl)) (array-typed W P.the-row (plain-pair W) 4096 blank blank-fits) $
         sets ! (3 + 4) empty (rep ! 16384 (lit ! tt)) (array-typed W u32 (plain-word W) 16384 0 (refl, lit< tt)) $
         sets ! (3 + 5) empty (rep ! 512 (lit ! tt)) (array-typed W u16 (plain-half W) 512 0 (refl, lit< tt)) $
         sets ! (3 + 6) empty (rep ! 4096 (lit ! tt)) (array-typed W u16 (plain-half W) 4096 0 (refl, lit< tt)) $
         opens-array ! (3 + 6) u16 (plain-half W) 4096 0 (refl, lit< tt) tt shares refl $
         opens-array ! (4 + 5) u16 (plain-half W) 512 0 (refl, lit< tt) tt cores refl $
         opens-array ! (5 + 4) u32 (plain-word W) 16384 0 (refl, lit< tt) tt work refl $
-        opens-array ! (6 + 3) P.the-row (plain-pair W) 4096 blank (blank-fits W) tt list refl $
+        opens-array ! (6 + 3) P.the-row (plain-pair W) 4096 blank blank-fits tt list refl $
         -- let file = read(bytes, &mut list, &mut work)
         sets ! (7 + 10) empty (addr ! (from ! (stop !))) (tt, tt) $
         sets ! (7 + 11) empty (array-slice ! (7 + 10) (length list₀) refl (lit< tt) list-long) (fit-slice (list-room list₀ list-long .0)) $
@@ -195,7 +214,7 @@ module _ {M : Type 1} (𝓤 : URA M) (H : Heap 𝓤) (A : Atoms 𝓤) (W : Given
         sets ! (7 + 13) empty (array-slice ! (7 + 12) (length work₀) refl (lit< tt) work-long) (fit-slice (work-room work₀ work-long .0)) $
         -- [list; work; cores; shares; bytes; members]
         move ! (4 ∷ 0 ∷ 1 ∷ []) $
-        calls-rows ! fm (read-args list work (os .0)) C.the-row (plain-changed W) (emp 𝓤)
+        calls-rows ! fm (read-args list work (os .0)) C.the-row plain-changed (emp 𝓤)
         (λ r zs. Read-call bytes list₀ work₀ r (zs .1 .0) (zs .1 .1 .0)) refl (id⊢ 𝓤 _) (λ ks. known-read (bound (read-args list work (os .0)) ks, tt))
         (and-then ! (var ! (7 + 1) refl) (and-then ! (var ! (7 + 11) refl) (and-then ! (var ! (7 + 13) refl) (no-more !))))
         (λ file zs file-fits sized says.
@@ -203,7 +222,7 @@ module _ {M : Type 1} (𝓤 : URA M) (H : Heap 𝓤) (A : Atoms 𝓤) (W : Given
         let ws : List ℕ = zs .1 .1 .0 in
         let list-kept : length ps ≡ 4096 = sized .1 .0 ∙ list-long in
         let work-kept : length ws ≡ 16384 = sized .1 .1 .0 ∙ work-long in
-        lands-in ! (7 + 7) empty (typed-as (plain-changed W) file file-fits) $
+        lands-in ! (7 + 7) empty (typed-as plain-changed file file-fits) $
         -- let found = solve(file.head, &list, members, &mut cores, &mut shares, &mut work)
         sets ! (7 + 14) empty (addr ! (from ! (stop !))) (tt, tt) $
         sets ! (7 + 15) empty (array-slice ! (7 + 14) (length ps) refl (lit< tt) list-kept) (fit-slice (list-room ps list-kept .0)) $
@@ -217,14 +236,14 @@ module _ {M : Type 1} (𝓤 : URA M) (H : Heap 𝓤) (A : Atoms 𝓤) (W : Given
         sets ! (7 + 23) empty (array-slice ! (7 + 22) (length ws) refl (lit< tt) work-kept) (fit-slice (work-room ws work-kept .0)) $
         -- [bytes; list; work; cores; shares; members]
         move ! (1 ∷ 5 ∷ 3 ∷ 4 ∷ 2 ∷ []) $
-        calls-rows ! fm (solve-args file file-fits ps ws list-kept work-kept list work cores shares) S.the-row (plain-solved W) (emp 𝓤)
+        calls-rows ! fm (solve-args file file-fits ps ws list-kept work-kept list work cores shares) S.the-row plain-solved (emp 𝓤)
         (λ r us. Solve-call (file .head) ps ms cores₀ shares₀ ws r (us .1 .1 .0) (us .1 .1 .1 .0) (us .1 .1 .1 .1 .0) (us .1 .1 .1 .1 .1 .0))
         refl (id⊢ 𝓤 _) (λ ks. known-solve (bound (solve-args file file-fits ps ws list-kept work-kept list work cores shares) ks, tt))
         (and-then ! (part-of ! (7 + 7) 1 {d = 4} refl refl refl) (and-then ! (var ! (7 + 15) refl) (and-then ! (var ! (7 + 17) refl)
         (and-then ! (var ! (7 + 19) refl) (and-then ! (var ! (7 + 21) refl) (and-then ! (var ! (7 + 23) refl) (no-more !)))))))
         (λ found us found-fits kept finds.
         let ms′ : List ℕ = us .1 .1 .0 in
-        lands-in ! (7 + 8) empty (typed-as (plain-solved W) found found-fits) $
+        lands-in ! (7 + 8) empty (typed-as plain-solved found found-fits) $
         -- Answer { .. }
         sets ! (7 + 0) empty (agg ! (and-then ! (part-of ! (7 + 7) 0 {d = 0} refl refl refl) (and-then ! (part-of ! (7 + 8) 1 {d = 4} refl refl refl)
         (and-then ! (part-of ! (7 + 8) 2 {d = 8} refl refl refl) (and-then ! (part-of ! (7 + 8) 3 {d = 12} refl refl refl)
