@@ -79,8 +79,8 @@ room-zeros m k h = record { long = omega (arith, length-replicate {A = ℕ} k 0)
 
 -- ---- the answer
 
-module _ (n m : ℕ) (ends weights : List ℕ) (h : Held n m ends weights) (hold₀ s : List ℕ) (p q : ℕ)
-    (f : Searched n m ends weights hold₀ s p q) where
+module _ (n m : ℕ) (ends weights : List ℕ) (h : Held n m ends weights) (scope₀ hold₀ s : List ℕ) (p q : ℕ) (settled : Bool)
+    (f : Searched n m ends weights scope₀ hold₀ s p q settled) where
   pub searched-candidate : Candidate (list-in n m ends weights) p q
   searched-candidate = record { members = s; group = f .found .group; inside-count = f .inside-count; modules = f .modules }
 
