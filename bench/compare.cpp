@@ -1,4 +1,4 @@
-// Times Kandurzo beside libraries in use today, on one pair file, all in one process and in turn: one repetition of each, then the next.
+// Times Kandurzo beside libraries in use today, on one pair file, all in one process: one repetition of each, then the next, each in an order of its own.
 //
 //   compare FILE REPETITIONS LP
 //
@@ -19,6 +19,7 @@
 #include <fstream>
 #include <functional>
 #include <numeric>
+#include <random>
 #include <set>
 #include <sstream>
 #include <string>
@@ -447,12 +448,18 @@ int main(int count, char **words) {
         igraph_destroy(&graph);
     });
 
-    for (int i = 0; i < repetitions; i++)
-        for (Timed &one : all) {
+    // each repetition has its own order, so that nobody always runs behind the same neighbour
+    std::mt19937 random(1);
+    std::vector<int> order(all.size());
+    std::iota(order.begin(), order.end(), 0);
+    for (int i = 0; i < repetitions; i++) {
+        std::shuffle(order.begin(), order.end(), random);
+        for (int which : order) {
             double begin = microseconds();
-            one.run();
-            one.times.push_back(microseconds() - begin);
+            all[which].run();
+            all[which].times.push_back(microseconds() - begin);
         }
+    }
     for (int v = 0; v < n; v++)
         if (lent.cores[v] != VECTOR(numbers)[v] || lent.cores[v] != cores[v]) fail("other core numbers");
     for (Timed &one : all) {
