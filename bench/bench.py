@@ -5,6 +5,7 @@
 FOLDER takes the pair files. A time is the median over the runs; a run is itself a median of repetitions (see compare.cpp). The linear programme runs once a
 run on the first list of a kind, networkx once in all.
 """
+import os
 import random
 import subprocess
 import sys
@@ -171,6 +172,27 @@ def by_networkx(n, pairs, density):
 # ---- runs and tables
 
 
+def idle():
+    """How many cores are idle, over a quarter of a second (Linux)."""
+
+    def ticks():
+        with open("/proc/stat") as file:
+            values = [int(x) for x in file.readline().split()[1:9]]
+        return values[3], sum(values)
+
+    before = ticks()
+    time.sleep(0.25)
+    after = ticks()
+    return os.cpu_count() * (after[0] - before[0]) / max(1, after[1] - before[1])
+
+
+def quiet(seconds=10):
+    """Waits for a core that nobody uses, but not for ever."""
+    end = time.monotonic() + seconds
+    while idle() < 0.9 and time.monotonic() < end:
+        pass
+
+
 def compare(program, path, programme):
     out = subprocess.run([program, path, str(REPETITIONS), str(programme)], check=True, capture_output=True, text=True).stdout
     *lines, last = out.splitlines()
@@ -187,6 +209,7 @@ def measure(program, folder, runs):
             with open(path, "w") as file:
                 file.write(f"modules={n}\npairs={len(pairs)}\n" + "".join(f"pair={a},{b}\n" for a, b in pairs))
             first = seed == 0 and name in KINDS
+            quiet()
             found, density = compare(program, path, int(first))
             if first and run == 0:
                 found |= by_networkx(n, pairs, density)

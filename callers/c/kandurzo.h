@@ -5,8 +5,8 @@
  * there are room for; the first M are held.
  *
  * Each call answers a number: 0, or that of the first cause, in the order given at the call, whose condition holds. A refused call changes no head,
- * list or answer buffer. Lengths are counted in entries. Buffers may be longer than wanted: entries past those named are never written. Two buffers of
- * one call must not overlap, and a pointer must not be null, also where the length is 0.
+ * list or answer buffer. Lengths are counted in entries. Buffers may be longer than wanted: entries past those named are never written. A buffer that a
+ * call writes must not overlap another one of that call, and a pointer must not be null, also where the length is 0.
  *
  *    1  a line is missing, is not of the form due there, or lacks its LF
  *    2  N outside 1 to 512

@@ -172,8 +172,22 @@ fn file(random: &mut Random) -> Vec<u8> {
     let mut lines: Vec<Vec<u8>> = file.split_inclusive(|&c| c == b'\n').map(<[u8]>::to_vec).collect();
     let (i, j) = (random.below(lines.len()), random.below(lines.len()));
     let wrong: [&[u8]; 16] = [
-        b"modules=0\n", b"modules=513\n", b"modules=01\n", b"pairs=4097\n", b"pairs=9999\n", b"pairs=10000\n", b"pair=3,3\n", b"pair=9,9\n",
-        b"pair=0,600\n", b"pair=0,1\n", b"pair=1,0\n", b"pair=00,1\n", b"pair=1,\n", b"pair=+1,2\n", b"pair= 1,2\n", b"pair=1,2\r\n",
+        b"modules=0\n",
+        b"modules=513\n",
+        b"modules=01\n",
+        b"pairs=4097\n",
+        b"pairs=9999\n",
+        b"pairs=10000\n",
+        b"pair=3,3\n",
+        b"pair=9,9\n",
+        b"pair=0,600\n",
+        b"pair=0,1\n",
+        b"pair=1,0\n",
+        b"pair=00,1\n",
+        b"pair=1,\n",
+        b"pair=+1,2\n",
+        b"pair= 1,2\n",
+        b"pair=1,2\r\n",
     ];
     let at = random.below(file.len());
     match random.below(12) {
@@ -212,7 +226,8 @@ fn read() {
         let file = file(&mut random);
         let named = plain::read(&file, 4096).map_or(10, |list| list.pairs.len());
         let length = random.length(named);
-        let before: Vec<Pair> = (0..length).map(|_| Pair { a: random.next() as u16, b: random.next() as u16 }).collect();
+        let before: Vec<Pair> =
+            (0..length).map(|_| Pair { a: random.next() as u16, b: random.next() as u16 }).collect();
         let mut work = work(&mut random);
         let answer = if work.len() < WORK { Err(12) } else { plain::read(&file, length) };
         let (number, head, records) = match &answer {
@@ -220,7 +235,12 @@ fn read() {
             Ok(list) => (0, list.head(), in_front(&list.records(), &before)),
         };
         let (mut list, words) = (before, work_after(number, &work));
-        assert_eq!(ffi::read(&file, &mut list, &mut work), Changed { number, head }, "{}", String::from_utf8_lossy(&file));
+        assert_eq!(
+            ffi::read(&file, &mut list, &mut work),
+            Changed { number, head },
+            "{}",
+            String::from_utf8_lossy(&file)
+        );
         assert!(list == records && work == words, "the buffers after {number}");
         met.see(number);
     }
@@ -285,7 +305,8 @@ fn solve() {
         let (head, list) = plain::lent(&mut random, &drawn);
         let (n, m) = (head.n as usize, head.m as usize);
         let (x, y, z) = (random.length(drawn.n), random.length(drawn.n), random.length(drawn.pairs.len()));
-        let (mut members, mut cores, mut shares) = (bytes(&mut random, x), halves(&mut random, y), halves(&mut random, z));
+        let (mut members, mut cores, mut shares) =
+            (bytes(&mut random, x), halves(&mut random, y), halves(&mut random, z));
         let mut work = work(&mut random);
         let short = x < n || y < n || z < m || work.len() < WORK;
         let number = if !plain::agree(head, &list) { 13 } else { 12 * short as u32 };
@@ -300,7 +321,10 @@ fn solve() {
             continue;
         }
         assert_eq!(solved.number, 0);
-        assert!(members[n..] == before.0[n..] && cores[n..] == before.1[n..] && shares[m..] == before.2[m..], "entries past those named");
+        assert!(
+            members[n..] == before.0[n..] && cores[n..] == before.1[n..] && shares[m..] == before.2[m..],
+            "entries past those named"
+        );
         is_answer(&Plain::of(head, &list), solved, &members[..n], &cores[..n], &shares[..m]);
         // the answer follows from the list alone, whatever the buffers held before
         let (mut again, mut twice, mut thrice) = (vec![0; n], vec![0; n], vec![0; m]);

@@ -83,8 +83,18 @@ fn edits_against_a_set() {
             let pair = (a.min(b), a.max(b));
             // the first half mostly adds, the second mostly removes
             if random.once_in(8) == (step < 6_000) {
-                let pair = if held.is_empty() || random.once_in(2) { pair } else { *held.iter().nth(random.below(held.len())).unwrap() };
-                let wanted = if pair.0 == pair.1 { Some(5) } else if held.remove(&pair) { None } else { Some(14) };
+                let pair = if held.is_empty() || random.once_in(2) {
+                    pair
+                } else {
+                    *held.iter().nth(random.below(held.len())).unwrap()
+                };
+                let wanted = if pair.0 == pair.1 {
+                    Some(5)
+                } else if held.remove(&pair) {
+                    None
+                } else {
+                    Some(14)
+                };
                 assert_eq!(list.remove(pair.1 as u32, pair.0 as u32).err().map(Refusal::number), wanted);
             } else {
                 let wanted = match pair {
@@ -111,7 +121,8 @@ fn a_full_list() {
     let full = plain::uniform(&mut random, 512, 4096);
     let mut list = List::read(&full.file(&mut random)).unwrap();
     let (a, b) = full.pairs[2048];
-    let (c, d) = (0..512).flat_map(|c| (c + 1..512).map(move |d| (c, d))).find(|pair| !full.pairs.contains(pair)).unwrap();
+    let (c, d) =
+        (0..512).flat_map(|c| (c + 1..512).map(move |d| (c, d))).find(|pair| !full.pairs.contains(pair)).unwrap();
     assert_eq!(number(list.add(a as u32, b as u32)), 10);
     assert_eq!(number(list.add(c as u32, d as u32)), 11);
     list.remove(a as u32, b as u32).unwrap();
