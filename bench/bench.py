@@ -130,9 +130,9 @@ def lists():
 
 
 def timed(run):
-    begin = time.perf_counter()
+    begin = time.process_time()
     answer = run()
-    return answer, (time.perf_counter() - begin) * 1e6
+    return answer, (time.process_time() - begin) * 1e6
 
 
 def densest(n, pairs):
@@ -186,7 +186,7 @@ def idle():
     return os.cpu_count() * (after[0] - before[0]) / max(1, after[1] - before[1])
 
 
-def quiet(seconds=10):
+def quiet(seconds=4):
     """Waits for a core that nobody uses, but not for ever."""
     end = time.monotonic() + seconds
     while idle() < 0.9 and time.monotonic() < end:

@@ -2,7 +2,7 @@
 //
 //   compare FILE REPETITIONS LP
 //
-// Prints a line `NAME MICROSECONDS` for each (the median of the repetitions). LP is 1 to run the linear programme too, once. Every density and every
+// Prints a line `NAME MICROSECONDS` for each (processor time, the median of the repetitions). LP is 1 to run the linear programme too, once. Every density and every
 // core number is compared with ours; a difference ends the program.
 //
 // Solve. The others find the greatest ratio by minimum cuts in Goldberg's network and Dinkelbach's iteration: a cut that shows a denser group
@@ -11,11 +11,11 @@
 // only the core of that order into the network, which is where ours begins. The linear programme is Charikar's in its smaller, dual form: hand out
 // each pair's unit between its ends so that the greatest load is least.
 #include <algorithm>
-#include <chrono>
 #include <cmath>
 #include <cstdio>
 #include <cstdlib>
 #include <cstring>
+#include <ctime>
 #include <fstream>
 #include <functional>
 #include <numeric>
@@ -309,8 +309,11 @@ static double programme(int n, const Pairs &pairs) {
 
 // ---- timing
 
+// The processor time of this thread: what others do on the machine meanwhile is not counted.
 static double microseconds() {
-    return std::chrono::duration<double, std::micro>(std::chrono::steady_clock::now().time_since_epoch()).count();
+    timespec t;
+    clock_gettime(CLOCK_THREAD_CPUTIME_ID, &t);
+    return t.tv_sec * 1e6 + t.tv_nsec / 1e3;
 }
 
 struct Timed {
