@@ -263,7 +263,7 @@ def main():
         slow = {"networkx": "solve networkx", "GLPK": "solve GLPK"} if way == "whole" else {}
         compared(times, f"solve, {way}", "solve ours", {engine: f"solve {engine} {way}" for engine in engines} | slow)
     best(times, engines, ways)
-    compared(times, "check; and solving again", "check ours", {"ours": "solve ours", "LEMON, core": "solve LEMON core", "LEMON, whole": "solve LEMON whole"})
+    compared(times, "check", "check ours", {f"solving again: {other}": f"solve {other}" for other in ["ours", "LEMON core", "LEMON whole"]})
     for call, others in {"peel": ["igraph", "Boost", "networkx"], "read": ["scanf", "LEMON", "igraph", "networkx"]}.items():
         compared(times, call, f"{call} ours", {other: f"{call} {other}" for other in others})
     compared(times, "add, a pair", "add ours", {other: f"add {other}" for other in ["std::set", "Boost", "igraph", "networkx"]})
