@@ -196,7 +196,7 @@ def quiet(seconds=4):
 def compare(program, path, programme):
     out = subprocess.run([program, path, str(REPETITIONS), str(programme)], check=True, capture_output=True, text=True).stdout
     *lines, last = out.splitlines()
-    times = {name: float(value.lstrip(">")) for name, value in (line.rsplit(" ", 1) for line in lines)}
+    times = {name: float(value) for name, value in (line.rsplit(" ", 1) for line in lines)}
     return times, tuple(map(int, last.split()[1:]))
 
 
