@@ -1,0 +1,3 @@
+-- Laws behind the audit of sheets; each file opens with what it gives.
+pub mod Judging
+pub mod Reading

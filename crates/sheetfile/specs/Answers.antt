@@ -1,0 +1,67 @@
+-- What the functions that read a sheet promise. A position in the bytes stands for the bytes from there on.
+--   unless-number    a value where the number is 0, else refused by it
+--   LineRead         what the functions for one line promise
+--   PartRead         what read_members and read_shares promise
+--   NumbersRead      what read_numbers promises
+--   read-of          what read_sheet has found, as a sheet
+--   SheetRead        what read_sheet promises
+--   at-least         how many numbers are k or more
+--   Listed           a list that lies in words
+-- Assumes nothing: these are definitions.
+use mathlib.Core.Path.{_≡_}
+use mathlib.Core.Bool.{true}
+use mathlib.Core.List.{List, [], _∷_}
+use Prim.Native.Nat.{ℕ, zero, suc, _+_, _*_, _≤_}
+use lib.Dec.{leb}
+use lib.ListN.{length, drop}
+use Rattle.theory.specs.Basics.{mark}
+use Rattle.theory.specs.Lists.{Pairs, is-list}
+use Rattle.pairs.specs.Located.{ones-in}
+use Rattle.pairfile.specs.Numbers.{Number}
+use Rattle.pairfile.specs.Outcomes.{Outcome, refused, taken}
+use Rattle.sheetfile.specs.Sheet.{Part, Sheet, read-sheet}
+use Rattle.sheetfile.specs.declared.Found.{Found}
+use Rattle.sheetfile.specs.declared.Lines.{Lines}
+use Rattle.sheetfile.specs.declared.Head.{Head}
+
+-- the value where the number is 0
+unfoldable pub unless-number : {A : Type 0} → (number : ℕ) → A → Outcome A
+unless-number zero a = taken a
+unless-number (suc k) a = refused (suc k)
+
+-- MEMBER_LINE, NUMBER_LINE and SHARE_LINE: the line that is due
+pub record LineRead (bytes : List ℕ) (line : Outcome Number) (r : Found) : Type 0 where
+  pub found : line ≡ unless-number (r .number) (record { value = r .value; rest = drop (r .next) bytes })
+  pub within : r .next ≤ length bytes
+
+-- READ_MEMBERS and READ_SHARES: some lines, and the entries that they give
+pub record PartRead (bytes : List ℕ) (part : Outcome Part) (entries : List ℕ) (r : Lines) : Type 0 where
+  pub found : part ≡ unless-number (r .number) (record { entries = entries; rest = drop (r .next) bytes })
+  pub within : r .next ≤ length bytes
+
+-- READ_NUMBERS: some lines
+pub record NumbersRead (bytes : List ℕ) (rest : Outcome (List ℕ)) (r : Lines) : Type 0 where
+  pub found : rest ≡ unless-number (r .number) (drop (r .next) bytes)
+  pub within : r .next ≤ length bytes
+
+-- the sheet of the head, the member bytes and the shares
+unfoldable pub sheet-of : Head → (members shares : List ℕ) → Sheet
+sheet-of h s xs = record { p = h .p; q = h .q; k = h .k; coresize = h .coresize; members = s; shares = xs }
+
+-- READ_SHEET: after a refusal members and shares are free
+pub record SheetRead (g : Pairs) (bytes members shares : List ℕ) (h : Head) : Type 0 where
+  pub found : read-sheet g bytes ≡ unless-number (h .number) (sheet-of h members shares)
+
+-- how many numbers are k or more
+unfoldable pub at-least : (k : ℕ) → List ℕ → ℕ
+at-least k [] = 0
+at-least k (c ∷ cs) = mark (leb k c) + at-least k cs
+
+-- the list of n modules and of the pairs in words
+unfoldable pub list-of : (n m : ℕ) → (ends : List ℕ) → Pairs
+list-of n m ends = record { n = n; pairs = ones-in m ends }
+
+-- it is one as it is held
+pub record Holds (n m : ℕ) (ends : List ℕ) : Type 0 where
+  pub held : is-list (list-of n m ends) ≡ true
+  pub long : 2 * m ≤ length ends
