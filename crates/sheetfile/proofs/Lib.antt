@@ -1,3 +1,5 @@
 -- Laws behind the audit of sheets; each file opens with what it gives.
 pub mod Judging
 pub mod Reading
+pub mod Bodies
+pub mod Tallies

@@ -1,6 +1,8 @@
 -- Lines of a sheet read one after another: the three loops.
+--   refused-not-taken, taken-same      an outcome is refused or taken
 --   Accepted-line, accepted-line       what is known of a line that is taken
 --   unless-none, unless-some           a number that is 0, and one that is not
+--   ends-reading, goes-on              a refusal ends the reading, and what is taken goes on
 --   Marked, marked-start, marked-index, marked-refused, marked-step, marked-done       member lines
 --   Counted, counted-start, counted-refused, counted-step, counted-done                number lines
 --   Shared, shared-start, shared-small, shared-refused, shared-step, shared-done       share lines
@@ -46,14 +48,15 @@ use Rattle.sheetfile.specs.Answers.{unless-number, LineRead, PartRead, N
 use Rattle.sheetfile.specs.declared.Found.{Found}
 use Rattle.sheetfile.specs.declared.Lines.{Lines}
 
-refused-not-taken : {A B : Type 0} {k : ℕ} {a : A} → _≡_ {A = Outcome A} (refused k) (taken a) → B
+-- an outcome is refused or taken
+pub refused-not-taken : {A B : Type 0} {k : ℕ} {a : A} → _≡_ {A = Outcome A} (refused k) (taken a) → B
 refused-not-taken {A} {B} {k} {a} e = absurd (omega (arith, ap {B = ℕ} told e))
   where
     told : Outcome A → ℕ
     told (refused k) = 0
     told (taken a) = 1
 
-taken-same : {A : Type 0} {a b : A} → _≡_ {A = Outcome A} (taken a) (taken b) → a ≡ b
+pub taken-same : {A : Type 0} {a b : A} → _≡_ {A = Outcome A} (taken a) (taken b) → a ≡ b
 taken-same {A} {a} {b} e = ap {B = A} told e
   where
     told : Outcome A → A
@@ -99,22 +102,22 @@ unfolding unless-number
 unless-none k a e = rw e
 
 -- a refused line ends the reading
-ends-reading : {A B : Type 0} (k : ℕ) (a : A) (f : A → Outcome B) (b : B) → (k ≡ 0 → ⊥) → _>>=_ (unless-number k a) f ≡ unless-number k b
+pub ends-reading : {A B : Type 0} (k : ℕ) (a : A) (f : A → Outcome B) (b : B) → (k ≡ 0 → ⊥) → _>>=_ (unless-number k a) f ≡ unless-number k b
 unfolding _>>=_
 ends-reading k a f b h = rw (unless-some k a h, unless-some k b h)
 
 -- one that is taken goes on
-goes-on : {A B : Type 0} (k : ℕ) (a : A) (f : A → Outcome B) → k ≡ 0 → _>>=_ (unless-number k a) f ≡ f a
+pub goes-on : {A B : Type 0} (k : ℕ) (a : A) (f : A → Outcome B) → k ≡ 0 → _>>=_ (unless-number k a) f ≡ f a
 unfolding _>>=_
 goes-on k a f e = rw (unless-none k a e)
 
 abbrev line-at : Found → (bs : List ℕ) → Number
 line-at r bs = record { value = r .value; rest = drop (r .next) bs }
 
-abbrev stopped : (number : ℕ) → Lines
+abbrev pub stopped : (number : ℕ) → Lines
 stopped k = record { number = k; next = 0 }
 
-abbrev read-to : (next : ℕ) → Lines
+abbrev pub read-to : (next : ℕ) → Lines
 read-to i = record { number = 0; next = i }
 
 -- past the end of a list nothing is left

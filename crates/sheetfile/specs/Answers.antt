@@ -3,23 +3,24 @@
 --   LineRead         what the functions for one line promise
 --   PartRead         what read_members and read_shares promise
 --   NumbersRead      what read_numbers promises
---   read-of          what read_sheet has found, as a sheet
---   SheetRead        what read_sheet promises
+--   list-of, Holds, Beside     a list that lies in words, and what a sheet is read beside
+--   BodyRead         what read_body promises
+--   sheet-of, SheetRead        what read_sheet promises
 --   at-least         how many numbers are k or more
---   Listed           a list that lies in words
 -- Assumes nothing: these are definitions.
 use mathlib.Core.Path.{_≡_}
 use mathlib.Core.Bool.{true}
 use mathlib.Core.List.{List, [], _∷_}
 use Prim.Native.Nat.{ℕ, zero, suc, _+_, _*_, _≤_}
 use lib.Dec.{leb}
-use lib.ListN.{length, drop}
+use lib.ListN.{length, drop, replicate}
 use Rattle.theory.specs.Basics.{mark}
 use Rattle.theory.specs.Lists.{Pairs, is-list}
+use Rattle.theory.specs.Cores.{core-numbers}
 use Rattle.pairs.specs.Located.{ones-in}
 use Rattle.pairfile.specs.Numbers.{Number}
 use Rattle.pairfile.specs.Outcomes.{Outcome, refused, taken}
-use Rattle.sheetfile.specs.Sheet.{Part, Sheet, read-sheet}
+use Rattle.sheetfile.specs.Sheet.{Part, Body, Sheet}
 use Rattle.sheetfile.specs.declared.Found.{Found}
 use Rattle.sheetfile.specs.declared.Lines.{Lines}
 use Rattle.sheetfile.specs.declared.Head.{Head}
@@ -44,19 +45,6 @@ pub record NumbersRead (bytes : List ℕ) (rest : Outcome (List ℕ)) (r : Lines
   pub found : rest ≡ unless-number (r .number) (drop (r .next) bytes)
   pub within : r .next ≤ length bytes
 
--- the sheet of the head, the member bytes and the shares
-unfoldable pub sheet-of : Head → (members shares : List ℕ) → Sheet
-sheet-of h s xs = record { p = h .p; q = h .q; k = h .k; coresize = h .coresize; members = s; shares = xs }
-
--- READ_SHEET: after a refusal members and shares are free
-pub record SheetRead (g : Pairs) (bytes members shares : List ℕ) (h : Head) : Type 0 where
-  pub found : read-sheet g bytes ≡ unless-number (h .number) (sheet-of h members shares)
-
--- how many numbers are k or more
-unfoldable pub at-least : (k : ℕ) → List ℕ → ℕ
-at-least k [] = 0
-at-least k (c ∷ cs) = mark (leb k c) + at-least k cs
-
 -- the list of n modules and of the pairs in words
 unfoldable pub list-of : (n m : ℕ) → (ends : List ℕ) → Pairs
 list-of n m ends = record { n = n; pairs = ones-in m ends }
@@ -65,3 +53,29 @@ list-of n m ends = record { n = n; pairs = ones-in m ends }
 pub record Holds (n m : ℕ) (ends : List ℕ) : Type 0 where
   pub held : is-list (list-of n m ends) ≡ true
   pub long : 2 * m ≤ length ends
+
+-- what a sheet is read beside: the list of so many modules and pairs, its core numbers, and member bytes that are 0
+pub record Beside (n m : ℕ) (ends cores members : List ℕ) : Type 0 where
+  pub few : n ≤ 512
+  pub short : m ≤ 4096
+  pub long : 2 * m ≤ length ends
+  pub numbers : cores ≡ core-numbers (list-of n m ends)
+  pub unmarked : members ≡ replicate n 0
+
+-- READ_BODY: after a refusal members and shares are free
+pub record BodyRead (body : Outcome Body) (members shares : List ℕ) (number : ℕ) : Type 0 where
+  pub found : body ≡ unless-number number (record { members = members; shares = shares })
+
+-- the sheet of a head, member bytes and shares
+unfoldable pub sheet-of : Head → (members shares : List ℕ) → Sheet
+sheet-of h s xs = record { p = h .p; q = h .q; k = h .k; coresize = h .coresize; members = s; shares = xs }
+
+-- READ_SHEET: after a refusal members and shares are free
+pub record SheetRead (sheet : Outcome Sheet) (members shares : List ℕ) (h : Head) : Type 0 where
+  pub found : sheet ≡ unless-number (h .number) (sheet-of h members shares)
+  pub some : h .number ≡ 0 → 1 ≤ h .q
+
+-- how many numbers are k or more
+unfoldable pub at-least : (k : ℕ) → List ℕ → ℕ
+at-least k [] = 0
+at-least k (c ∷ cs) = mark (leb k c) + at-least k cs

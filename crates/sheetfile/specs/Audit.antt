@@ -1,7 +1,7 @@
 -- What `audit` answers of a pair file and a sheet: the pair file's refusals (1 to 11); the sheet's, line by line (101 to 106); check's, of the group and
 -- the shares on it (7, 8, 9); last 107, 108, of its head.
 --   sheet-causes           7, 8, 9, 107, 108
---   audit                  the sheet of the file's list that is accepted, or the refusal number
+--   audit-sheet, audit     the sheet of the file's list that is accepted, or the refusal number
 --   Certified, Certifies   what an accepted sheet is; the theorem is `certifies`
 --   verdict-of             the answer
 --   Audits                 the contract
@@ -39,13 +39,18 @@ head-causes g s = cause 107 (not (ratio-good g s)) ∷ cause 108 (not (core-good
 unfoldable pub sheet-causes : Pairs → Sheet → List Cause
 sheet-causes g s = check-causes g (s .members) (s .shares) ++ head-causes g s
 
+-- the sheet of a list, if it is accepted
+unfoldable pub audit-sheet : Pairs → (sheet : List ℕ) → Outcome Sheet
+audit-sheet g sheet = do
+  s ← read-sheet g sheet
+  judge (sheet-causes g s)
+  taken s
+
 -- THE AUDIT of a sheet: it is read beside the list that the pair file names, and judged
 unfoldable pub audit : (file sheet : List ℕ) → Outcome Sheet
 audit file sheet = do
   g ← read-file 4096 file
-  s ← read-sheet g sheet
-  judge (sheet-causes g s)
-  taken s
+  audit-sheet g sheet
 
 -- what an accepted sheet is: the best there is on the file's list
 pub record Certified (file sheet : List ℕ) (s : Sheet) : Type 0 where

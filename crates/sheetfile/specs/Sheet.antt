@@ -8,6 +8,7 @@
 --   Part, member-line, read-members        the member lines, and the member bytes
 --   number-line, read-numbers              the number lines
 --   share-line, read-shares                the share lines, and the shares
+--   Body, read-body                        all lines after the head
 --   Sheet, read-sheet                      the whole sheet
 -- Assumes nothing: these are definitions.
 use mathlib.Core.Bool.{not, _&&_}
@@ -101,7 +102,21 @@ read-shares (p ∷ ps) xs bs = do
 unfoldable pub rest-causes : (bytes : List ℕ) → List Cause
 rest-causes bs = cause 106 (ltb 0 (length bs)) ∷ []
 
--- what a sheet says: P/Q, K and the size of the core of that order, the group by member bytes, a share for each pair
+-- the group by member bytes, and a share for each pair
+pub record Body : Type 0 where
+  pub members : List ℕ
+  pub shares : List ℕ
+
+-- the lines after the head; last 106
+unfoldable pub read-body : Pairs → (q : ℕ) → (bytes : List ℕ) → Outcome Body
+read-body g q bs = do
+  members ← read-members q 0 (replicate (g .n) 0) bs
+  rest ← read-numbers (core-numbers g) (members .rest)
+  shares ← read-shares (g .pairs) [] rest
+  judge (rest-causes (shares .rest))
+  taken (record { members = members .entries; shares = shares .entries })
+
+-- what a sheet says: P/Q, K and the size of the core of that order, group and shares
 pub record Sheet : Type 0 where
   pub p : ℕ
   pub q : ℕ
@@ -109,6 +124,9 @@ pub record Sheet : Type 0 where
   pub coresize : ℕ
   pub members : List ℕ
   pub shares : List ℕ
+
+unfoldable pub sheet : (head : Line) → Body → Sheet
+sheet l b = record { p = first l; q = second l; k = third l; coresize = fourth l; members = b .members; shares = b .shares }
 
 -- 102: Q outside 1 to N
 unfoldable pub ratio-causes : (n q : ℕ) → List Cause
@@ -119,15 +137,5 @@ unfoldable pub read-sheet : Pairs → (bytes : List ℕ) → Outcome Sheet
 read-sheet g bs = do
   head ← due (line-of head-form bs)
   judge (ratio-causes (g .n) (second head))
-  members ← read-members (second head) 0 (replicate (g .n) 0) (head .rest)
-  rest ← read-numbers (core-numbers g) (members .rest)
-  shares ← read-shares (g .pairs) [] rest
-  judge (rest-causes (shares .rest))
-  taken (record {
-    p = first head;
-    q = second head;
-    k = third head;
-    coresize = fourth head;
-    members = members .entries;
-    shares = shares .entries;
-  })
+  body ← read-body g (second head) (head .rest)
+  taken (sheet head body)

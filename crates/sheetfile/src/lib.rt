@@ -6,13 +6,15 @@
 ghost use mathlib.Core.Path.{_≡_};
 ghost use mathlib.Core.List.{[]};
 ghost use Prim.Native.Nat.{_*_, _≤_};
+ghost use lib.Dec.{leb};
 ghost use lib.ListN.{length, take, drop, replicate};
+ghost use Rattle.theory.specs.Basics.{mark};
 ghost use Rattle.theory.specs.Cores.{core-numbers};
 ghost use Rattle.theory.specs.Splits.{rounded-up};
 ghost use Rattle.pairs.specs.Located.{ones-in};
-ghost use Rattle.sheetfile.specs.Sheet.{member-line, number-line, share-line, read-members, read-numbers, read-shares};
+ghost use Rattle.sheetfile.specs.Sheet.{member-line, number-line, share-line, read-members, read-numbers, read-shares, read-body, read-sheet};
 ghost use Rattle.sheetfile.specs.Audit.{Audits};
-ghost use Rattle.sheetfile.specs.Answers.{LineRead, PartRead, NumbersRead, SheetRead, at-least, list-of, Holds};
+ghost use Rattle.sheetfile.specs.Answers.{LineRead, PartRead, NumbersRead, Beside, BodyRead, SheetRead, at-least, list-of, Holds};
 use pairfile::FoundLine;
 use pairfile::FoundNumber;
 use pairfile::count_at;
@@ -39,6 +41,12 @@ struct Head {
     q: u32,
     k: u32,
     coresize: u32,
+}
+
+fn wide(x: u32) -> usize
+    ensures { λ r. ⌜ r ≡ x ⌝ }
+{
+    x as usize
 }
 
 fn refused_line(number: u32) -> Found
@@ -181,4 +189,101 @@ fn read_shares(bytes: &[u8], at: usize, ends: &[u32], shares: &mut [u16]) -> Lin
         j += 1;
     }
     Lines { number: 0, next: i }
+}
+
+// All lines after the head: 0, or the refusal number; last 106.
+fn read_body(
+    bytes: &[u8],
+    at: usize,
+    q: usize,
+    ends: &[u32],
+    cores: &[u32],
+    members: &mut [u8],
+    shares: &mut [u16],
+) -> u32
+    requires { ⌜ at ≤ length (now bytes) ⌝ }
+    requires { ⌜ Beside (length (now members)) (length (now shares)) (now ends) (now cores) (now members) ⌝ }
+    ensures { λ r. ⌜ BodyRead (read-body (list-of (length (now (members .entry))) (length (now (shares .entry))) (now (ends .entry))) q (drop at (now (bytes .entry))))
+        (now (members .exit)) (now (shares .exit)) r ⌝ }
+{
+    let named = read_members(bytes, at, q, members);
+    if named.number != 0 {
+        return named.number;
+    }
+    let counted = read_numbers(bytes, named.next, cores);
+    if counted.number != 0 {
+        return counted.number;
+    }
+    let shared = read_shares(bytes, counted.next, ends, shares);
+    if shared.number != 0 {
+        return shared.number;
+    }
+    if shared.next < bytes.len() {
+        return 106;
+    }
+    0
+}
+
+fn refused_head(number: u32) -> Head
+    ensures { λ r. ⌜ r ≡ record { number = number; p = 0; q = 0; k = 0; coresize = 0 } ⌝ }
+{
+    Head {
+        number,
+        p: 0,
+        q: 0,
+        k: 0,
+        coresize: 0,
+    }
+}
+
+// The sheet that the bytes are, beside a list: its head, the member bytes and the shares.
+fn read_sheet(
+    bytes: &[u8],
+    ends: &[u32],
+    cores: &[u32],
+    members: &mut [u8],
+    shares: &mut [u16],
+) -> Head
+    requires { ⌜ Beside (length (now members)) (length (now shares)) (now ends) (now cores) (now members) ⌝ }
+    ensures { λ r. ⌜ SheetRead (read-sheet (list-of (length (now (members .entry))) (length (now (shares .entry))) (now (ends .entry))) (now (bytes .entry)))
+        (now (members .exit)) (now (shares .exit)) r ⌝ }
+{
+    let mut numbers = [0u32; 4];
+    match line_at(bytes, 0, b"status=0\nratio=P/Q\ncore=K,C\n", &mut numbers) {
+        FoundLine::Malformed => refused_head(101),
+        FoundLine::Line { next } => {
+            let q = wide(numbers[1]);
+            if q < 1 || members.len() < q {
+                return refused_head(102);
+            }
+            Head {
+                number: read_body(bytes, next, q, ends, cores, members, shares),
+                p: numbers[0],
+                q: numbers[1],
+                k: numbers[2],
+                coresize: numbers[3],
+            }
+        }
+    }
+}
+
+// 1 where c is k or more, else 0.
+fn reaches(k: u32, c: u32) -> u32
+    ensures { λ r. ⌜ r ≡ mark (leb k c) ⌝ }
+{
+    if k <= c { 1 } else { 0 }
+}
+
+// How many of the numbers are k or more.
+fn at_least(k: u32, numbers: &[u32]) -> u32
+    requires { ⌜ length (now numbers) ≤ 512 ⌝ }
+    ensures { λ r. ⌜ r ≡ at-least k (now (numbers .entry)) ⌝ }
+{
+    let mut count: u32 = 0;
+    let mut v: usize = 0;
+    while v < numbers.len() {
+        count += reaches(k, numbers[v]);
+        v += 1;
+    }
+    count
 }
