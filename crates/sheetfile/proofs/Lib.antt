@@ -3,3 +3,5 @@ pub mod Judging
 pub mod Reading
 pub mod Bodies
 pub mod Tallies
+pub mod Auditing
+pub mod Promises

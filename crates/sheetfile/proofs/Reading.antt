@@ -1,5 +1,4 @@
 -- Lines of a sheet read one after another: the three loops.
---   refused-not-taken, taken-same      an outcome is refused or taken
 --   Accepted-line, accepted-line       what is known of a line that is taken
 --   unless-none, unless-some           a number that is 0, and one that is not
 --   ends-reading, goes-on              a refusal ends the reading, and what is taken goes on
@@ -29,6 +28,7 @@ use Rattle.pairfile.specs.Text.{text, between}
 use Rattle.pairfile.specs.Numbers.{Number}
 use Rattle.pairfile.specs.Lines.{Line, first, is-place, places, line-of}
 use Rattle.pairfile.specs.Outcomes.{Outcome, refused, taken, _>>=_, _>>_, passed, judge}
+use Rattle.pairfile.proofs.Taken.{refused-not-taken, taken-same}
 use Rattle.pairfile.proofs.Fills.{small, line-spelled}
 use Rattle.sheetfile.specs.Sheet.{
   member-form,
@@ -48,21 +48,6 @@ use Rattle.sheetfile.specs.Answers.{unless-number, LineRead, PartRead, N
 use Rattle.sheetfile.specs.declared.Found.{Found}
 use Rattle.sheetfile.specs.declared.Lines.{Lines}
 
--- an outcome is refused or taken
-pub refused-not-taken : {A B : Type 0} {k : ℕ} {a : A} → _≡_ {A = Outcome A} (refused k) (taken a) → B
-refused-not-taken {A} {B} {k} {a} e = absurd (omega (arith, ap {B = ℕ} told e))
-  where
-    told : Outcome A → ℕ
-    told (refused k) = 0
-    told (taken a) = 1
-
-pub taken-same : {A : Type 0} {a b : A} → _≡_ {A = Outcome A} (taken a) (taken b) → a ≡ b
-taken-same {A} {a} {b} e = ap {B = A} told e
-  where
-    told : Outcome A → A
-    told (refused k) = a
-    told (taken c) = c
-
 -- a line that is taken: it is of its form, its own cause is not met, and its number is the one picked
 pub record Accepted-line (form : List ℕ) (test : Line → Bool) (pick : Line → ℕ) (bs : List ℕ) (a : Number) : Type 0 where
   pub line : Line
@@ -79,7 +64,7 @@ accepted-line form k test pick bs a e = of-line (line-of form bs) refl e
         (do
           judge (cause (suc k) t ∷ [])
           taken (record { value = pick l; rest = l .rest })) ≡ taken a → Accepted-line form test pick bs a
-    of-test l d true f h = refused-not-taken h
+    of-test l d true f h = absurd (refused-not-taken h)
     of-test l d false f h = record { line = l; found = d; unmet = f; picked = ap (λ (x : Number). x .value) (taken-same h) }
 
     of-line : (o : Option Line) → line-of form bs ≡ o →
@@ -88,7 +73,7 @@ accepted-line form k test pick bs a e = of-line (line-of form bs) refl e
           judge (cause (suc k) (test l) ∷ [])
           taken (record { value = pick l; rest = l .rest })) ≡ taken a →
         Accepted-line form test pick bs a
-    of-line none d h = refused-not-taken h
+    of-line none d h = absurd (refused-not-taken h)
     of-line (some l) d h = of-test l d (test l) refl h
 
 -- a number that is not 0 is a refusal, and 0 is none

@@ -4,7 +4,7 @@
 // to check, which counts P and Q itself; the head is compared with what check counted and with the list's cores. Nothing on the sheet is trusted.
 // Refuses by the pair file's numbers; 101 to 106, line by line; 7, 8, 9; 107, 108.
 ghost use mathlib.Core.Path.{_≡_};
-ghost use mathlib.Core.List.{[]};
+ghost use mathlib.Core.List.{[], _++_};
 ghost use Prim.Native.Nat.{_*_, _≤_};
 ghost use lib.Dec.{leb};
 ghost use lib.ListN.{length, take, drop, replicate};
@@ -12,14 +12,17 @@ ghost use Rattle.theory.specs.Basics.{mark};
 ghost use Rattle.theory.specs.Cores.{core-numbers};
 ghost use Rattle.theory.specs.Splits.{rounded-up};
 ghost use Rattle.pairs.specs.Located.{ones-in};
+ghost use Rattle.verify.specs.Answers.{refused-by};
 ghost use Rattle.sheetfile.specs.Sheet.{member-line, number-line, share-line, read-members, read-numbers, read-shares, read-body, read-sheet};
-ghost use Rattle.sheetfile.specs.Audit.{Audits};
-ghost use Rattle.sheetfile.specs.Answers.{LineRead, PartRead, NumbersRead, Beside, BodyRead, SheetRead, at-least, list-of, Holds};
+ghost use Rattle.sheetfile.specs.Audit.{audit-sheet, verdict-of, Audits};
+ghost use Rattle.sheetfile.specs.Answers.{LineRead, PartRead, NumbersRead, Beside, BodyRead, SheetRead, at-least, judged-head, Ones, Blank, list-of};
 use pairfile::FoundLine;
 use pairfile::FoundNumber;
 use pairfile::count_at;
 use pairfile::line_at;
+use pairfile::read_words;
 use verify::Verdict;
+use verify::check_words;
 
 // A line: its refusal number or 0, a number on it, and where it ends.
 struct Found {
@@ -286,4 +289,126 @@ fn at_least(k: u32, numbers: &[u32]) -> u32
         v += 1;
     }
     count
+}
+
+// p over q, rounded up.
+fn rounded_up(p: u32, q: u32) -> u64
+    requires { ⌜ 1 ≤ q ⌝ }
+    ensures { λ r. ⌜ r ≡ rounded-up p q ⌝ }
+{
+    (p as u64 + q as u64 - 1) / q as u64
+}
+
+fn refused(number: u32) -> Verdict
+    ensures { λ r. ⌜ r ≡ refused-by number ⌝ }
+{
+    Verdict { number, p: 0, q: 0 }
+}
+
+// The head beside what check counted and the list's core numbers: 107, 108.
+fn judge_head(head: Head, verdict: Verdict, cores: &[u32]) -> Verdict
+    requires { ⌜ (1 ≤ head .q) × (length (now cores) ≤ 512) ⌝ }
+    ensures { λ r. ⌜ r ≡ judged-head head verdict (now (cores .entry)) ⌝ }
+{
+    if head.p != verdict.p {
+        return refused(107);
+    }
+    if head.q != verdict.q {
+        return refused(107);
+    }
+    if head.k as u64 != rounded_up(head.p, head.q) {
+        return refused(108);
+    }
+    if head.coresize != at_least(head.k, cores) {
+        return refused(108);
+    }
+    verdict
+}
+
+// The sheet audited beside the list in words: what is read of it goes to check.
+fn audit_beside(
+    sheet: &[u8],
+    ends: &[u32],
+    weights: &[u32],
+    cores: &[u32],
+    members: &mut [u8],
+    shares: &mut [u16],
+) -> Verdict
+    requires { ⌜ Beside (length (now members)) (length (now shares)) (now ends) (now cores) (now members) ⌝ }
+    requires { ⌜ Ones (length (now members)) (length (now shares)) (now ends) (now weights) ⌝ }
+    ensures { λ r. ⌜ r ≡ verdict-of (audit-sheet (list-of (length (now (members .entry))) (length (now (shares .entry))) (now (ends .entry))) (now (sheet .entry))) ⌝ }
+{
+    let n = members.len();
+    let m = shares.len();
+    let head = read_sheet(sheet, ends, cores, members, shares);
+    if head.number != 0 {
+        return refused(head.number);
+    }
+    let verdict = check_words(n, m, ends, weights, members, shares);
+    if verdict.number != 0 {
+        return verdict;
+    }
+    judge_head(head, verdict, cores)
+}
+
+// The core numbers of the list in words.
+fn core_numbers(n: usize, m: usize, ends: &[u32], weights: &[u32], cores: &mut [u32])
+    requires { ⌜ Ones n m (now ends) (now weights) ⌝ }
+    requires { ⌜ n ≤ length (now cores) ⌝ }
+    ensures { λ _. ⌜ now (cores .exit) ≡ core-numbers (list-of n m (now (ends .entry))) ++ drop n (now (cores .entry)) ⌝ }
+{
+    let mut order = [0u32; 512];
+    let mut place = [0u32; 512];
+    peel::peel(n, m, 1, ends, weights, &mut order, cores, &mut place);
+}
+
+// The sheet audited beside the list of n modules and m pairs in words.
+fn audit_list(
+    n: usize,
+    m: usize,
+    ends: &[u32],
+    weights: &[u32],
+    sheet: &[u8],
+    cores: &mut [u32],
+    members: &mut [u8],
+    shares: &mut [u16],
+) -> Verdict
+    requires { ⌜ Ones n m (now ends) (now weights) ⌝ }
+    requires { ⌜ Blank n m (now cores) (now members) (now shares) ⌝ }
+    ensures { λ r. ⌜ r ≡ verdict-of (audit-sheet (list-of n m (now (ends .entry))) (now (sheet .entry))) ⌝ }
+{
+    core_numbers(n, m, ends, weights, cores);
+    audit_beside(
+        sheet,
+        ends,
+        weights,
+        &cores[..n],
+        &mut members[..n],
+        &mut shares[..m],
+    )
+}
+
+// Whether a sheet is the best there is of the list that a pair file names: 0 with P and Q, or the first refusal number.
+pub fn audit(file: &[u8], sheet: &[u8]) -> Verdict
+    ensures { λ r. ⌜ Audits (now (file .entry)) (now (sheet .entry)) r ⌝ }
+{
+    let mut ends = [0u32; 8192];
+    let weights = [1u32; 4096];
+    let mut cores = [0u32; 512];
+    let mut members = [0u8; 512];
+    let mut shares = [0u16; 4096];
+    let list = read_words(file, 4096, &mut ends);
+    if list.number != 0 {
+        return refused(list.number);
+    }
+    audit_list(
+        list.n as usize,
+        list.m as usize,
+        &ends,
+        &weights,
+        sheet,
+        &mut cores,
+        &mut members,
+        &mut shares,
+    )
 }
