@@ -6,10 +6,12 @@
 //   large    N M LINES AGAIN MORE        so is a file made here: `modules=N`, `pairs=M`, LINES pair lines, AGAIN of the first again, MORE line ends
 //   reads    WORK N M LINES AGAIN MORE   such a file is read into a list of 100 records, with a work buffer of WORK words
 //   starts   N                           start
+//   audited  FILE SHEET                  the sheet is audited beside the pair file
 //   sheets   A B                         check, on three modules with the pairs 0,1 and 1,2, all three members, and the shares A and B
 //
 // Files of the folders `first`, `second`, `pair` and `end` break a rule on the first line, on the second, on a pair line, after the last; of those in
-// `order` several conditions hold; those in `taken` are accepted, the starred lists of document 01 among them.
+// `order` several conditions hold; those in `taken` are accepted, the starred lists of document 01 among them. In `audits` are sheets that `sheet`
+// printed, NAME.sheet of the pair file NAME, and such sheets altered by hand.
 //
 // An answer is the refusal number, or 0 and the values:
 //   files, large   P/Q; K and the size of the core of order K; the member bytes as runs, where 1x4 0x1 is 1, 1, 1, 1, 0. All 512 member bytes are 2
@@ -17,11 +19,12 @@
 //   reads          the head's N,M; then, after a refusal too, the first three records, how many of the 100 are 7,9 as before, how many words of the
 //                  work buffer are 0 and how many 7 as before
 //   starts         the head's N,M
-//   sheets         P/Q
+//   sheets, audited   P/Q
 //
 // A line is printed for each list of cases, and one for each case that did not come out as due.
 ghost use Prim.Native.Nat.{_≤_};
 ghost use lib.ListN.{length};
+ghost use Rattle.io.specs.Counts.{Counts};
 use answer::solve_file;
 use editing::check_lent;
 use editing::read_100;
@@ -29,6 +32,8 @@ use kandurzo::Changed;
 use kandurzo::start;
 use libc::STDOUT_FILENO;
 use records::Head;
+use sheetfile::audit;
+use verify::Verdict;
 
 enum Kind {
     Files,
@@ -36,6 +41,7 @@ enum Kind {
     Reads,
     Starts,
     Sheets,
+    Audited,
 }
 
 // Where the answer due begins in the line, and how many bytes of the text the answer given has.
@@ -207,19 +213,32 @@ fn put_solved(text: &mut [u8], bytes: &[u8]) -> usize {
     put_runs(text, core, &members)
 }
 
+// Reads an open file, and closes it.
+fn read_open(fd: i32, file: &mut [u8]) -> usize
+    ensures { λ r. ⌜ Counts r (now (file .exit)) ⌝ }
+{
+    let n = io::read_full(fd, file);
+    libc::close(fd);
+    n
+}
+
+// A file is not there: no answer is so due.
+fn no_file(text: &mut [u8], due: usize) -> Given {
+    Given {
+        due,
+        end: put_text(text, 0, b"no file"),
+    }
+}
+
 // A pair file by its name.
 fn try_file(line: &[u8], text: &mut [u8]) -> Given {
     let mut file = io::large_buffer();
     let space = find(line, 0, b' ');
     let fd = os::open_read(&line[0..space]);
     if fd < 0 {
-        return Given {
-            due: after(space),
-            end: put_text(text, 0, b"no file"),
-        };
+        return no_file(text, after(space));
     }
-    let n = io::read_full(fd, &mut file);
-    libc::close(fd);
+    let n = read_open(fd, &mut file);
     Given {
         due: after(space),
         end: put_solved(text, &file[..n]),
@@ -391,10 +410,37 @@ fn try_sheet(line: &[u8], text: &mut [u8]) -> Given {
     words[3] = 2;
     let shares = [share(first.value), share(second.value)];
     let verdict = check_lent(head, &words, &[1, 1, 1], &shares, &mut work);
-    let status = put_field(text, 0, b"", verdict.number);
     Given {
         due: second.next,
-        end: put_two(text, status, verdict.p, b"/", verdict.q),
+        end: put_verdict(text, verdict),
+    }
+}
+
+// What check and audit answer.
+fn put_verdict(text: &mut [u8], verdict: Verdict) -> usize {
+    let status = put_field(text, 0, b"", verdict.number);
+    put_two(text, status, verdict.p, b"/", verdict.q)
+}
+
+// A pair file and a sheet by their names.
+fn try_audit(line: &[u8], text: &mut [u8]) -> Given {
+    let mut file = io::large_buffer();
+    let mut sheet = io::large_buffer();
+    let space = find(line, 0, b' ');
+    if space == line.len() {
+        return no_file(text, space);
+    }
+    let end = find(line, space + 1, b' ');
+    let fd = os::open_read(&line[0..space]);
+    let sd = os::open_read(&line[space + 1..end]);
+    if fd < 0 || sd < 0 {
+        return no_file(text, after(end));
+    }
+    let n = read_open(fd, &mut file);
+    let k = read_open(sd, &mut sheet);
+    Given {
+        due: after(end),
+        end: put_verdict(text, audit(&file[..n], &sheet[..k])),
     }
 }
 
@@ -405,6 +451,7 @@ fn try_case(kind: Kind, line: &[u8], text: &mut [u8]) -> Given {
         Kind::Reads => try_read(line, text),
         Kind::Starts => try_start(line, text),
         Kind::Sheets => try_sheet(line, text),
+        Kind::Audited => try_audit(line, text),
     }
 }
 
@@ -455,9 +502,7 @@ fn try_lines(kind: Kind, list: &[u8]) -> Tally {
 
 fn try_list(kind: Kind, name: &[u8]) {
     let mut list = io::large_buffer();
-    let fd = os::open_read(name);
-    let n = io::read_full(fd, &mut list);
-    libc::close(fd);
+    let n = read_open(os::open_read(name), &mut list);
     let tally = try_lines(kind, &list[..n]);
     io::write_all(STDOUT_FILENO, name);
     io::write_all(STDOUT_FILENO, b": as due=");
@@ -473,4 +518,5 @@ fn main() {
     try_list(Kind::Reads, b"reads");
     try_list(Kind::Starts, b"starts");
     try_list(Kind::Sheets, b"sheets");
+    try_list(Kind::Audited, b"audited");
 }
