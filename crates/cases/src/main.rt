@@ -7,6 +7,7 @@
 //   reads    WORK N M LINES AGAIN MORE   such a file is read into a list of 100 records, with a work buffer of WORK words
 //   starts   N                           start
 //   audited  FILE SHEET                  the sheet is audited beside the pair file
+//   bytes    FILE SHEET                  so is the sheet with each byte one more, and one less, in turn
 //   sheets   A B                         check, on three modules with the pairs 0,1 and 1,2, all three members, and the shares A and B
 //
 // Files of the folders `first`, `second`, `pair` and `end` break a rule on the first line, on the second, on a pair line, after the last; of those in
@@ -20,6 +21,7 @@
 //                  work buffer are 0 and how many 7 as before
 //   starts         the head's N,M
 //   sheets, audited   P/Q
+//   bytes          how many of the altered sheets are refused, how many are best sheets themselves (accepted with the same P/Q), and how many neither
 //
 // A line is printed for each list of cases, and one for each case that did not come out as due.
 ghost use Prim.Native.Nat.{_≤_};
@@ -42,6 +44,7 @@ enum Kind {
     Starts,
     Sheets,
     Audited,
+    Bytes,
 }
 
 // Where the answer due begins in the line, and how many bytes of the text the answer given has.
@@ -60,6 +63,13 @@ struct Number {
 struct Run {
     end: usize,
     count: u32,
+}
+
+// What became of altered sheets.
+struct Fates {
+    caught: u32,
+    best: u32,
+    other: u32,
 }
 
 // How many cases came out as due, and how many did not.
@@ -422,8 +432,83 @@ fn put_verdict(text: &mut [u8], verdict: Verdict) -> usize {
     put_two(text, status, verdict.p, b"/", verdict.q)
 }
 
+fn one_up(byte: u8) -> u8 {
+    if byte < 255 { byte + 1 } else { 0 }
+}
+
+fn one_down(byte: u8) -> u8 {
+    if 0 < byte { byte - 1 } else { 255 }
+}
+
+// One altered sheet more: what audit answers of it, and of the sheet before.
+fn fated(fates: Fates, verdict: Verdict, before: Verdict) -> Fates {
+    if verdict.number != 0 {
+        return Fates {
+            caught: one_more(fates.caught),
+            best: fates.best,
+            other: fates.other,
+        };
+    }
+    if verdict.p == before.p {
+        if verdict.q == before.q {
+            return Fates {
+                caught: fates.caught,
+                best: one_more(fates.best),
+                other: fates.other,
+            };
+        }
+    }
+    Fates {
+        caught: fates.caught,
+        best: fates.best,
+        other: one_more(fates.other),
+    }
+}
+
+// The sheet with byte i one more, and one less; then it is as before.
+fn alter_at(fates: Fates, file: &[u8], sheet: &mut [u8], i: usize, before: Verdict) -> Fates {
+    if sheet.len() <= i {
+        return fates;
+    }
+    let byte = sheet[i];
+    sheet[i] = one_up(byte);
+    let more = fated(fates, audit(file, sheet), before);
+    sheet[i] = one_down(byte);
+    let less = fated(more, audit(file, sheet), before);
+    sheet[i] = byte;
+    less
+}
+
+fn alter_bytes(file: &[u8], sheet: &mut [u8]) -> Fates {
+    let before = audit(file, sheet);
+    let mut fates = Fates {
+        caught: 0,
+        best: 0,
+        other: 0,
+    };
+    let mut i = 0;
+    while i < sheet.len() {
+        fates = alter_at(fates, file, sheet, i, before);
+        i += 1;
+    }
+    fates
+}
+
+fn put_fates(text: &mut [u8], fates: Fates) -> usize {
+    let caught = put_field(text, 0, b"", fates.caught);
+    let best = put_field(text, caught, b" ", fates.best);
+    put_field(text, best, b" ", fates.other)
+}
+
+fn put_audit(text: &mut [u8], file: &[u8], sheet: &mut [u8], alters: bool) -> usize {
+    if alters {
+        return put_fates(text, alter_bytes(file, sheet));
+    }
+    put_verdict(text, audit(file, sheet))
+}
+
 // A pair file and a sheet by their names.
-fn try_audit(line: &[u8], text: &mut [u8]) -> Given {
+fn try_audit(line: &[u8], text: &mut [u8], alters: bool) -> Given {
     let mut file = io::large_buffer();
     let mut sheet = io::large_buffer();
     let space = find(line, 0, b' ');
@@ -440,7 +525,7 @@ fn try_audit(line: &[u8], text: &mut [u8]) -> Given {
     let k = read_open(sd, &mut sheet);
     Given {
         due: after(end),
-        end: put_verdict(text, audit(&file[..n], &sheet[..k])),
+        end: put_audit(text, &file[..n], &mut sheet[..k], alters),
     }
 }
 
@@ -451,7 +536,8 @@ fn try_case(kind: Kind, line: &[u8], text: &mut [u8]) -> Given {
         Kind::Reads => try_read(line, text),
         Kind::Starts => try_start(line, text),
         Kind::Sheets => try_sheet(line, text),
-        Kind::Audited => try_audit(line, text),
+        Kind::Audited => try_audit(line, text, false),
+        Kind::Bytes => try_audit(line, text, true),
     }
 }
 
@@ -519,4 +605,5 @@ fn main() {
     try_list(Kind::Starts, b"starts");
     try_list(Kind::Sheets, b"sheets");
     try_list(Kind::Audited, b"audited");
+    try_list(Kind::Bytes, b"bytes");
 }
