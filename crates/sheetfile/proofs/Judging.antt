@@ -1,4 +1,5 @@
 -- One line judged: what each way through it gives.
+--   line-taken                                   a line whose own cause is not met
 --   line-none, line-unfit, line-fit              a line that is missing, refused by its own cause, taken
 --   member-none, member-unfit, member-fit        a member line: 101, 103
 --   number-none, number-unfit, number-fit        a number line: 101, 104
@@ -36,6 +37,12 @@ refused-line k = record { number = k; value = 0; next = 0 }
 abbrev pub found-line : (value next : ℕ) → Found
 found-line v i = record { number = 0; value = v; next = i }
 
+-- a line whose own cause is not met
+pub line-taken : (form : List ℕ) (own : Line → Cause) (pick : Line → ℕ) (bs : List ℕ) (l : Line) (k : ℕ) → line-of form bs ≡ some l →
+    own l ≡ cause k false → judged-line form own pick bs ≡ taken (record { value = pick l; rest = l .rest })
+unfolding judged-line due _>>=_ _>>_ judge passed refusal cause
+line-taken form own pick bs l k e m = rw (e, m)
+
 module _ (form : List ℕ) (own : Line → Cause) (pick : Line → ℕ) (bs : List ℕ) (at : ℕ) where
   -- 101
   pub line-none : line-of form (drop at bs) ≡ none → LineRead bs (judged-line form own pick (drop at bs)) (refused-line 101)
@@ -51,8 +58,8 @@ module _ (form : List ℕ) (own : Line → Cause) (pick : Line → ℕ) (bs : Li
     -- it is not
     pub line-fit : (k v i : ℕ) → own l ≡ cause k false → pick l ≡ v → l .rest ≡ drop i bs → i ≤ length bs →
         LineRead bs (judged-line form own pick (drop at bs)) (found-line v i)
-    unfolding judged-line due _>>=_ _>>_ judge passed refusal cause unless-number
-    line-fit k v i m p r w = record { found = rw (e, m, p, r); within = w }
+    unfolding unless-number
+    line-fit k v i m p r w = record { found = line-taken form own pick (drop at bs) l k e m ∙ rw (p, r); within = w }
 
 -- what count_at has found
 module _ {form bs : List ℕ} {at : ℕ} {r : FoundNumber} (f : CountFound bs at form r) where

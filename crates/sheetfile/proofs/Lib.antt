@@ -5,3 +5,4 @@ pub mod Bodies
 pub mod Tallies
 pub mod Auditing
 pub mod Promises
+pub mod Written
