@@ -2,6 +2,7 @@
 --   list-ones, lent-ones, peel-ones              a list in words with weights of 1, as check and peel take it
 --   checked, cores-few                           what check says of whole buffers; how many core numbers there are
 --   p-differs, q-differs, k-differs, size-differs, head-agrees     what each way through judge_head gives
+--   check-then                                   where check accepts, the causes behind decide
 --   sheet-refused, check-refused, head-judged    what each way through audit_beside gives
 --   parts-ready, parts-audited                   audit_list: the parts in front
 --   file-refused, list-ready, list-audited       audit: the pair file's list
@@ -109,7 +110,7 @@ module _ (h : Head) (v : Verdict) (cores : List ℕ) where
 -- ---- audit_beside
 
 -- where check accepts, the causes that stand behind decide
-check-then : (g : Pairs) (s xs : List ℕ) (ds : List Cause) → check-number g s xs ≡ 0 → refusal (check-causes g s xs ++ ds) ≡ refusal ds
+pub check-then : (g : Pairs) (s xs : List ℕ) (ds : List Cause) → check-number g s xs ≡ 0 → refusal (check-causes g s xs ++ ds) ≡ refusal ds
 unfolding check-number check-causes
 check-then g s xs ds e =
     let a = refusal-none 6 _ _ e in

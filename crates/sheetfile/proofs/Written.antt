@@ -1,6 +1,7 @@
 -- A sheet that is written reads back.
 --   members-back, numbers-back, shares-back     the parts
 --   sheet-back                                  Sheet-back: the whole sheet
+--   accepts-back                                Accepts-back: a best sheet is accepted
 -- Assumes nothing.
 use mathlib.Core.Path.{_≡_, refl, sym, ap, _∙_}
 use mathlib.Core.Bool.{true, false, _&&_}
@@ -13,8 +14,11 @@ use lib.ListN.{length, set, replicate, length-append, length-replicate}
 use lib.Seq.{set-append-seam}
 use Rattle.theory.specs.Basics.{all, mark}
 use Rattle.theory.specs.Lists.{Pair, Pairs, ends-in-range, is-list}
-use Rattle.theory.specs.Groups.{size, bytes-good, is-group}
-use Rattle.theory.specs.Cores.{core-numbers}
+use Rattle.theory.specs.Groups.{size, inside, bytes-good, is-group}
+use Rattle.theory.specs.Cores.{core, core-numbers}
+use Rattle.theory.specs.Splits.{is-split, greatest-load, rounded-up}
+use Rattle.theory.specs.Promise.{Accepted-exactly, Optimal}
+use Rattle.theory.proofs.Duality.{accepted-exactly}
 use Rattle.theory.specs.Refusals.{cause, refusal}
 use Rattle.theory.proofs.Lists.{Listed, listed}
 use Rattle.theory.proofs.Tests.{tests}
@@ -24,6 +28,8 @@ use Rattle.pairfile.specs.Text.{text, between}
 use Rattle.pairfile.specs.Numbers.{is-digit}
 use Rattle.pairfile.specs.Lines.{is-place, places, first, second, line-of, filled}
 use Rattle.pairfile.specs.Outcomes.{taken, _>>=_, _>>_, passed, judge}
+use Rattle.pairfile.proofs.Accepts.{accepted}
+use Rattle.pairfile.proofs.Judged.{judge-passed}
 use Rattle.pairfile.proofs.Fills.{small, starts-plain, parted, line-filled}
 use Rattle.sheetfile.specs.Sheet.{
   head-form,
@@ -46,8 +52,10 @@ use Rattle.sheetfile.specs.Sheet.{
   ratio-causes,
   read-sheet,
 }
-use Rattle.sheetfile.specs.Writer.{member-lines, number-lines, share-lines, sheet-file, short, Written, Sheet-back}
+use Rattle.sheetfile.specs.Writer.{member-lines, number-lines, share-lines, sheet-file, short, Written, Sheet-back, Accepts-back}
+use Rattle.sheetfile.specs.Audit.{ratio-good, core-good, head-causes, sheet-causes, audit-sheet, audit}
 use Rattle.sheetfile.proofs.Judging.{line-taken}
+use Rattle.sheetfile.proofs.Auditing.{check-then}
 
 -- ---- lines that are written
 
@@ -159,3 +167,23 @@ sheet-back g s l w =
       numbers-back (core-numbers g) shares (w .numbers-short),
       shares-back (g .n) (k .few) (g .pairs) [] (s .shares) (w .each-pair) (k .ends) (w .shares-short),
     ) refl
+
+-- no cause is met of a best sheet
+none-met : (g : Pairs) (s : Sheet) → Optimal g (s .members) (s .shares) (s .p) (s .q) → s .k ≡ rounded-up (s .p) (s .q) →
+    s .coresize ≡ size (core g (s .k)) → refusal (sheet-causes g s) ≡ 0
+unfolding sheet-causes head-causes ratio-good core-good Accepted-exactly refusal cause
+none-met g s o ek ec =
+    let split : is-split g (size (s .members)) (s .shares) ≡ true = rw (← o .modules) (o .is-a-split) in
+    let load : greatest-load g (size (s .members)) (s .shares) ≤ inside g (s .members) = rw (← o .modules, ← o .inside-count) (omega (arith, o .top-load)) in
+    check-then g (s .members) (s .shares) (head-causes g s) (accepted-exactly g (s .members) (s .shares) .1 (o .is-a-group, split, load))
+    ∙ rw (
+      eq-eqb (s .p) (inside g (s .members)) (o .inside-count),
+      eq-eqb (s .q) (size (s .members)) (o .modules),
+      eq-eqb (s .k) (rounded-up (s .p) (s .q)) ek,
+      eq-eqb (s .coresize) (size (core g (s .k))) ec,
+    )
+
+pub accepts-back : Accepts-back
+unfolding Accepts-back Sheet-back audit audit-sheet _>>=_ _>>_
+accepts-back file g s e w o ek ec =
+    rw (e, sheet-back g s (accepted 4096 file g e .list) w, judge-passed (sheet-causes g s) (none-met g s o ek ec))

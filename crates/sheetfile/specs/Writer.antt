@@ -1,7 +1,8 @@
 -- The text of a sheet, as the program `sheet` prints it, and that it reads back.
 --   member-lines, number-lines, share-lines, sheet-file      the lines of a sheet of a list
 --   Written                                                  a sheet that can be written: a group, a share for each pair, numbers of at most four digits
---   Sheet-back                                               what is written reads back; the theorem is `sheet-back`
+--   Sheet-back, Accepts-back                                 what is written reads back, and a best sheet is accepted; the theorems are `sheet-back`
+--                                                            and `accepts-back`
 -- Assumes nothing: these are definitions.
 use mathlib.Core.Path.{_≡_}
 use mathlib.Core.Bool.{true, cond}
@@ -12,7 +13,11 @@ use lib.ListN.{length, getD, drop}
 use Rattle.theory.specs.Basics.{all}
 use Rattle.theory.specs.Lists.{Pair, Pairs, is-list}
 use Rattle.theory.specs.Groups.{size, is-group}
-use Rattle.theory.specs.Cores.{core-numbers}
+use Rattle.theory.specs.Cores.{core, core-numbers}
+use Rattle.theory.specs.Splits.{rounded-up}
+use Rattle.theory.specs.Promise.{Optimal}
+use Rattle.pairfile.specs.File.{read-file}
+use Rattle.sheetfile.specs.Audit.{audit}
 use Rattle.pairfile.specs.Lines.{filled}
 use Rattle.pairfile.specs.Outcomes.{taken}
 use Rattle.sheetfile.specs.Sheet.{head-form, member-form, number-form, share-form, Sheet, read-sheet}
@@ -55,3 +60,11 @@ pub record Written (g : Pairs) (s : Sheet) : Type 0 where
 -- WHAT IS WRITTEN READS BACK
 unfoldable pub Sheet-back : Type 0
 Sheet-back = (g : Pairs) (s : Sheet) → is-list g ≡ true → Written g s → read-sheet g (sheet-file g s) ≡ taken s
+
+-- AND A BEST SHEET IS ACCEPTED, whoever made it: beside a pair file that names the list, group and shares that are optimal with their P and Q, and the
+-- list's core line
+unfoldable pub Accepts-back : Type 0
+Accepts-back =
+    (file : List ℕ) (g : Pairs) (s : Sheet) → read-file 4096 file ≡ taken g → Written g s →
+    Optimal g (s .members) (s .shares) (s .p) (s .q) → s .k ≡ rounded-up (s .p) (s .q) → s .coresize ≡ size (core g (s .k)) →
+    audit file (sheet-file g s) ≡ taken s
