@@ -31,10 +31,9 @@ use Rattle.kandurzo.specs.Buffers.{work-words}
 use Rattle.kandurzo.specs.Gate.{gate-causes, gate-number}
 use Rattle.kandurzo.specs.Listing.{head-of}
 use Rattle.kandurzo.specs.Reading.{read-outcome, read-head, records-front, Read-call}
-use Rattle.kandurzo.specs.Solving.{solve-short, Unsplit, declined, Handed, Solve-call}
+use Rattle.kandurzo.specs.Solving.{solve-short, declined, Handed, Solve-call}
 use Rattle.kandurzo.proofs.Gates.{gate-open}
 use Rattle.kandurzo.proofs.Readings.{read-held, read-agrees}
-use Rattle.kandurzo.proofs.Solves.{unsplit-never}
 use Rattle.kandurzo.proofs.Taken.{held-is-list}
 use Rattle.answer.specs.declared.Answer.{Answer}
 use Rattle.answer.specs.Answers.{refusal-of, Room-enough, solved-of, Handed-over, Sheeted, Answered, Answers}
@@ -148,8 +147,7 @@ module _ (bytes : List ℕ) (ps : List Pair) (work : List ℕ) (list-long : leng
           )
 
       solved : found .number ≡ 0
-      solved =
-          finds .number .taken (gate-none h ps′ short (agreed g e) enough) (λ u. unsplit-never g (good g e) (subst Unsplit (held-as g e) u))
+      solved = finds .number .outright ∙ gate-none h ps′ short (agreed g e) enough
 
       handed : Handed g members cores shares found members′ cores′ shares′
       handed = subst (λ (u : Pairs). Handed u members cores shares found members′ cores′ shares′) (held-as g e) (finds .handed solved)
@@ -190,7 +188,7 @@ module _ (bytes : List ℕ) (ps : List Pair) (work : List ℕ) (list-long : leng
           omega (arith, l .some, n-none)
 
       declines : (found ≡ declined (found .number)) × (members′ ≡ members) × (cores′ ≡ cores) × (shares′ ≡ shares)
-      declines = finds .refused (λ z. shut (sym (finds .number .first shut) ∙ z))
+      declines = finds .refused (λ z. shut (sym (finds .number .outright) ∙ z))
 
       answer-none : answer-of file found ≡ refusal-of k
       unfolding reading-of refusal-of declined head-of

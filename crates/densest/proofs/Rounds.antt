@@ -21,7 +21,7 @@ use Rattle.theory.proofs.Bounds.{inside-bound, size-bound, size-le-length}
 use Rattle.slots.specs.Slots.{Room}
 use Rattle.slots.specs.Split.{Split}
 use Rattle.flow.specs.Flow.{Flowed, Largest}
-use Rattle.peel.specs.Peel.{Held}
+use Rattle.theory.specs.Words.{Held-words as Held}
 use Rattle.densest.specs.Search.{Candidate, Cored, Linked, Round, Searched}
 use Rattle.densest.proofs.Words.{list-weights}
 use Rattle.densest.proofs.Units.{split-kept, split-room, own-none, zero-at}

@@ -26,7 +26,8 @@ use Rattle.theory.proofs.Tables.{length-table, table-at}
 use Rattle.theory.proofs.Lists.{listed}
 use Rattle.theory.proofs.Groups.{found-alone}
 use Rattle.slots.specs.Slots.{mate, Room}
-use Rattle.peel.specs.Peel.{Held, Peelable, Peels}
+use Rattle.theory.specs.Words.{Held-words as Held}
+use Rattle.peel.specs.Peel.{Peelable, Peels}
 use Rattle.peel.specs.Promise.{Peel-promised}
 use Rattle.peel.specs.declared.Remainder.{Remainder}
 use Rattle.peel.proofs.Leavers.{remainder-group}
@@ -42,10 +43,10 @@ use Rattle.densest.proofs.Sheets.{Sheet, sheet-optimal, sheet-outside}
 
 module _ (g : Pairs) (l : is-list g ≡ true) (order cores place order' cores' place' : List ℕ) (r : Remainder)
     (h : Peels g 1 order cores place order' cores' place' r) where
-  pub peeled-cored : length cores' ≡ 512 → Cored g cores'
+  pub peeled-cored : g .n ≤ length cores' → Cored g cores'
   unfolding core-numbers
   peeled-cored e = record {
-    long = omega (arith, listed g l .few);
+    long = e;
     numbers = λ v b.
         ap (λ (xs : List ℕ). getD xs v 0) (h .cores-are)
         ∙ List·getD-append (core-numbers g) (drop (g .n) cores) 0 v (omega (arith, length-table (g .n) (core-number g)))
@@ -66,12 +67,12 @@ module _ (g : Pairs) (l : is-list g ≡ true) (order cores place order' cores' p
   unfolding Peel-promised
   peeled-by-place = peel-promised g 1 order cores place order' cores' place' r l (omega arith) (listed g l .some) h .by-place
 
-pub peelable-zeros : (n m : ℕ) (ends weights : List ℕ) → Held n m ends weights →
-    Peelable n 1 (replicate {A = ℕ} 512 0) (replicate {A = ℕ} 512 0) (replicate {A = ℕ} 512 0)
+pub peelable-zeros : (n m : ℕ) (ends weights cores : List ℕ) → Held n m ends weights → n ≤ length cores →
+    Peelable n 1 (replicate {A = ℕ} 512 0) cores (replicate {A = ℕ} 512 0)
 unfolding list-in
-peelable-zeros n m ends weights h =
+peelable-zeros n m ends weights cores h c =
     let l = listed (list-in n m ends weights) (h .listed) in
-    record { some = omega arith; few = l .some; order-long = l .few; cores-long = l .few; place-long = l .few }
+    record { some = omega arith; few = l .some; order-long = l .few; cores-long = c; place-long = l .few }
 
 pub room-zeros : (m k : ℕ) → 2 * m ≤ k → Room m (replicate {A = ℕ} k 0)
 room-zeros m k h = record { long = omega (arith, length-replicate {A = ℕ} k 0); small = λ s l. omega (arith, zero-at k s, zero-at k (mate s)) }
@@ -131,16 +132,17 @@ module _ (n m : ℕ) (ends weights : List ℕ) (h : Held n m ends weights) (hold
       }
 
 -- the answer, in buffers that may be longer
-pub solves-of : (n m : ℕ) (ends weights members shares s xs : List ℕ) (x : Solution) → n ≤ length members → m ≤ length shares → length s ≡ n →
-    length xs ≡ m → Solved (list-in n m ends weights) s xs x →
-    Solves (list-in n m ends weights) members shares (s ++ drop n members) (xs ++ drop m shares) x
+pub solves-of : (n m : ℕ) (ends weights members cores shares s cores′ xs : List ℕ) (x : Solution) → n ≤ length members → m ≤ length shares →
+    length s ≡ n → length xs ≡ m → cores′ ≡ core-numbers (list-in n m ends weights) ++ drop n cores → Solved (list-in n m ends weights) s xs x →
+    Solves (list-in n m ends weights) members cores shares (s ++ drop n members) cores′ (xs ++ drop m shares) x
 unfolding list-in pairs-in
-solves-of n m ends weights members shares s xs x ln lm ls lx d =
+solves-of n m ends weights members cores shares s cores′ xs x ln lm ls lx ec d =
     let few : length (table m (word-pair ends weights)) ≡ m = length-table m (word-pair ends weights) in
     record {
       members-long = length-front members s n (ls ∙ sym (length-take-le n members ln));
       shares-long = length-front shares xs m (lx ∙ sym (length-take-le m shares lm));
       members-rest = drop-at s (drop n members) n ls;
+      cores-are = ec;
       shares-rest = rw few (drop-at xs (drop m shares) m lx);
       solved = rw (few, take-at s (drop n members) n ls, take-at xs (drop m shares) m lx) d;
     }

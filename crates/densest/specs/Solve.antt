@@ -4,12 +4,12 @@
 -- Assumes nothing: these are definitions.
 use mathlib.Core.Path.{_≡_}
 use mathlib.Core.Bool.{true}
-use mathlib.Core.List.{List}
+use mathlib.Core.List.{List, _++_}
 use Prim.Native.Nat.{ℕ}
 use lib.ListN.{length, take, drop}
 use Rattle.theory.specs.Lists.{Pairs}
 use Rattle.theory.specs.Groups.{size, Found}
-use Rattle.theory.specs.Cores.{core}
+use Rattle.theory.specs.Cores.{core, core-numbers}
 use Rattle.theory.specs.Splits.{core-order, outside-good}
 use Rattle.theory.specs.Promise.{Optimal}
 use Rattle.densest.specs.declared.Solution.{Solution}
@@ -26,10 +26,11 @@ pub record Solved (g : Pairs) (s xs : List ℕ) (r : Solution) : Type 0 where
   pub order : r .k ≡ core-order g s
   pub core-size : r .core ≡ size (core g (r .k))
 
--- the buffers before (members, shares) and after (members′, shares′): entries past the first N and the first M are as they were
-pub record Solves (g : Pairs) (members shares members′ shares′ : List ℕ) (r : Solution) : Type 0 where
+-- the buffers before (members, cores, shares) and after (members′, ..): entries past the first N and the first M are as they were
+pub record Solves (g : Pairs) (members cores shares members′ cores′ shares′ : List ℕ) (r : Solution) : Type 0 where
   pub members-long : length members′ ≡ length members
   pub shares-long : length shares′ ≡ length shares
   pub members-rest : drop (g .n) members′ ≡ drop (g .n) members
   pub shares-rest : drop (length (g .pairs)) shares′ ≡ drop (length (g .pairs)) shares
+  pub cores-are : cores′ ≡ core-numbers g ++ drop (g .n) cores
   pub solved : Solved g (take (g .n) members′) (take (length (g .pairs)) shares′) r

@@ -7,15 +7,17 @@
 // Cost: peeling, and a few rounds; ratios rise from round to round, so the rounds end. Nothing is refused, and 15 never comes.
 ghost use mathlib.Core.Path.{_≡_};
 ghost use mathlib.Core.Bool.{_&&_, cond};
+ghost use mathlib.Core.List.{_++_};
 ghost use Prim.Native.Nat.{ℕ, _+_, _*_, _≤_, _<_};
 ghost use lib.Dec.{leb, ltb, eqb};
-ghost use lib.ListN.{length, getD};
+ghost use lib.ListN.{length, getD, drop};
 ghost use Rattle.theory.specs.Basics.{mark};
 ghost use Rattle.theory.specs.Groups.{is-in, inside, size};
+ghost use Rattle.theory.specs.Cores.{core-numbers};
 ghost use Rattle.theory.specs.Splits.{rounded-up};
 ghost use Rattle.theory.specs.Words.{list-in};
 ghost use Rattle.slots.specs.Slots.{Ends, Room};
-ghost use Rattle.peel.specs.Peel.{Held};
+ghost use Rattle.theory.specs.Words.{Held-words as Held};
 ghost use Rattle.densest.specs.Search.{Candidate, Cored, Linked, Round, Searched, sheet-share};
 ghost use Rattle.densest.specs.Solve.{Solved, Solves};
 
@@ -256,19 +258,20 @@ fn solve_in(
     weights: &[u32],
     scope: &mut [u8],
     members: &mut [u8],
+    cores: &mut [u32],
     shares: &mut [Share],
 ) -> Solution
     requires { ⌜ Held n m (now ends) (now weights) ⌝ }
-    requires { ⌜ (length (now scope) ≡ n) × (length (now members) ≡ n) × (length (now shares) ≡ m) ⌝ }
+    requires { ⌜ (length (now scope) ≡ n) × (length (now members) ≡ n) × (n ≤ length (now cores)) × (length (now shares) ≡ m) ⌝ }
+    ensures { λ r. ⌜ now (cores .exit) ≡ core-numbers (list-in n m (now (ends .entry)) (now (weights .entry))) ++ drop n (now (cores .entry)) ⌝ }
     ensures { λ r. ⌜ Solved (list-in n m (now (ends .entry)) (now (weights .entry))) (now (members .exit)) (now (shares .exit)) r ⌝ }
 {
     let mut order = [0u32; 512];
-    let mut cores = [0u32; 512];
     let mut place = [0u32; 512];
     let mut first = [0u32; 512];
     let mut next = [0u32; 8192];
     let mut hold = [0u32; 8192];
-    let start = peel::peel(n, m, 1, ends, weights, &mut order, &mut cores, &mut place);
+    let start = peel::peel(n, m, 1, ends, weights, &mut order, cores, &mut place);
     slots::links(n, m, ends, &mut first, &mut next);
     let best = search(
         n,
@@ -277,7 +280,7 @@ fn solve_in(
         start.q,
         ends,
         weights,
-        &cores,
+        cores,
         &first,
         &next,
         scope,
@@ -292,7 +295,7 @@ fn solve_in(
         best.q,
         ends,
         weights,
-        &cores,
+        cores,
         &first,
         &next,
         scope,
@@ -308,20 +311,21 @@ fn solve_in(
     }
 }
 
-// The found group's member bytes, a share for each pair, and the numbers of solve's record. Entries past the first n and the first m are as they
-// were.
+// The found group's member bytes, the core numbers, a share for each pair, and the numbers of solve's record. Entries past the first n and the first m
+// are as they were.
 pub fn solve(
     n: usize,
     m: usize,
     ends: &[u32],
     weights: &[u32],
     members: &mut [u8],
+    cores: &mut [u32],
     shares: &mut [Share],
 ) -> Solution
     requires { ⌜ Held n m (now ends) (now weights) ⌝ }
-    requires { ⌜ (n ≤ length (now members)) × (m ≤ length (now shares)) ⌝ }
-    ensures { λ r. ⌜ Solves (list-in n m (now (ends .entry)) (now (weights .entry))) (now (members .entry)) (now (shares .entry))
-        (now (members .exit)) (now (shares .exit)) r ⌝ }
+    requires { ⌜ (n ≤ length (now members)) × (n ≤ length (now cores)) × (m ≤ length (now shares)) ⌝ }
+    ensures { λ r. ⌜ Solves (list-in n m (now (ends .entry)) (now (weights .entry))) (now (members .entry)) (now (cores .entry)) (now (shares .entry))
+        (now (members .exit)) (now (cores .exit)) (now (shares .exit)) r ⌝ }
 {
     let mut scope = [0u8; 512];
     solve_in(
@@ -331,6 +335,7 @@ pub fn solve(
         weights,
         &mut scope[..n],
         &mut members[..n],
+        cores,
         &mut shares[..m],
     )
 }

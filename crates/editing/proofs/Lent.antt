@@ -19,6 +19,7 @@ use denote.Builtin.{u32}
 use denote.Slice.{Room}
 use borrow.Author.Tests.{not-false}
 use Rattle.theory.proofs.Tests.{no}
+use Rattle.theory.specs.Refusals.{if-taken}
 use Rattle.records.specs.declared.Pair.{Pair}
 use Rattle.records.specs.declared.Head.{Head}
 use Rattle.records.specs.Records.{blank, laid-out, put-back, narrow}
@@ -27,7 +28,7 @@ use Rattle.records.proofs.Steps.{Enough, Enough-back}
 use Rattle.records.proofs.Copies.{length-put-back, length-laid-out}
 use Rattle.records.proofs.Pair as P
 use Rattle.kandurzo.specs.declared.Changed.{Changed}
-use Rattle.kandurzo.specs.Listing.{if-taken, head-of, add-number, added, Add-says, remove-number, removed, Remove-says}
+use Rattle.kandurzo.specs.Listing.{head-of, add-number, added, Add-says, remove-number, removed, Remove-says}
 use Rattle.editing.specs.Lent.{Thin, Holds, lent, Through, unlent, On-words}
 
 abbrev pub start-list : ℕ → List Pair

@@ -3,7 +3,8 @@
 // Units lie in slots (crate `slots`). Given a bound p, `flow` moves units within their pairs until no load is above p; or it finds a set of modules
 // in which more than p a module stays, however units move. It knows loads and units, nothing of ratios and best groups.
 // How: a module loaded above p sends units along a chain of slots that hold some, found breadth first, to the first module loaded below p
-// (augmenting paths). Where no chain leads to one, the modules reached are such a set (a minimum cut). Once no load is above p, modules of the
+// (augmenting paths). Where no chain leads to one, the modules reached are such a set (a minimum cut). Push phases (crate `push`) go first and
+// leave little to search; they promise nothing but that a split stays one. Once no load is above p, modules of the
 // scope loaded below p drain, and so does whoever could pass units on to them: what stays is the largest set loaded p throughout.
 // Cost: a search takes a step for each slot of the modules that it reaches. Links say where to look first; that nothing leads out of a set is
 // found by one scan over all slots. There are at most as many searches as units lie above p. Nothing is refused.

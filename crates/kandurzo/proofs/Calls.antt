@@ -6,30 +6,28 @@
 -- Assumes nothing.
 use mathlib.Core.Path.{_≡_, refl, sym, ap, _∙_}
 use mathlib.Core.Bool.{Bool, true, false, not, cond}
-use mathlib.Core.List.{List, [], _∷_, _++_, map, append-assoc}
-use Prim.Native.Nat.{ℕ, zero, suc, _+_, _*_, _-_, _≤_, _<_}
+use mathlib.Core.List.{List, [], _∷_, _++_, map}
+use Prim.Native.Nat.{ℕ, zero, suc, _+_, _-_, _≤_}
 use native.Mathlib.Omega.{arith}
 use lib.Dec.{eqb}
-use lib.ListN.{length, getD, take, drop, replicate, length-replicate}
-use borrow.Author.Tests.{eqb-true, eq-eqb, ne-eqb, eqb-false}
+use lib.ListN.{length, drop, replicate}
+use borrow.Author.Tests.{eqb-true, ne-eqb}
 use Rattle.theory.specs.Basics.{table}
 use Rattle.theory.specs.Lists as Lists
 use Rattle.theory.specs.Lists.{Pairs, pair}
-use Rattle.theory.specs.Refusals.{refusal}
+use Rattle.theory.specs.Refusals.{refusal, if-taken}
 use Rattle.theory.specs.Words.{word-pair, pairs-in}
-use Rattle.theory.proofs.Lists.{Listed, listed}
+use Rattle.theory.proofs.Lists.{listed}
 use Rattle.pairs.specs.Held.{insert-pair, remove-pair, smaller-first-pair}
 use Rattle.pairs.specs.Causes.{add-causes, remove-causes}
 use Rattle.pairs.specs.Located.{ones-in}
 use Rattle.pairs.proofs.Weights.{ones-at}
 use Rattle.records.specs.declared.Pair.{Pair}
 use Rattle.records.specs.declared.Head.{Head}
-use Rattle.records.specs.Records.{as-pairs, held-list, agrees, laid-out, word-record, records-in, put-back}
+use Rattle.records.specs.Records.{held-list, agrees, laid-out, word-record, records-in, put-back}
 use Rattle.records.proofs.Copies.{length-laid-out, pairs-laid-out}
 use Rattle.records.proofs.Steps.{Enough, Enough-back}
-use Rattle.kandurzo.specs.declared.Changed.{Changed}
-use Rattle.kandurzo.specs.declared.Edit.{Edit}
-use Rattle.kandurzo.specs.Listing.{if-taken, head-of, as-record, as-records, is-full, add-number, added, Add-says, remove-number, removed, Remove-says}
+use Rattle.kandurzo.specs.Listing.{head-of, as-record, as-records, is-full, add-number, added, Add-says, remove-number, removed, Remove-says}
 use Rattle.kandurzo.specs.Edits.{word-list, records-out, Ready, edit-of, add-on-number, add-edit, add-words, remove-on-number, remove-edit, remove-words}
 use Rattle.kandurzo.proofs.Orders.{add-13, remove-13}
 use Rattle.kandurzo.proofs.Changes.{Edited, add-edited, remove-edited}

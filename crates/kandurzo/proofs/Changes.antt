@@ -10,18 +10,15 @@ use mathlib.Core.Bool.{Bool, true, false, _||_, not, cond}
 use mathlib.Core.List.{List, [], _∷_, _++_}
 use Prim.Native.Nat.{ℕ, zero, suc, _+_, _*_, _-_, _≤_, _<_, min, max}
 use native.Mathlib.Omega.{arith}
-use native.Mathlib.Numerals.{add-one}
-use lib.Dec.{leb, eqb}
-use lib.ListN.{length, getD, replicate, take, drop}
+use lib.Dec.{eqb}
+use lib.ListN.{length, getD, take}
 use lib.Seq.{take-suc, take-length, length-take-le, getD-take, ext-getD}
 use borrow.Author.Tests.{ne-eqb, eq-eqb, eqb-true, eqb-false, not-false}
-use Rattle.theory.specs.Basics.{table, all}
-use Rattle.theory.specs.Lists.{Pair, Pairs, pair, ends-in-range, rising, is-list}
-use Rattle.theory.specs.Refusals.{refusal}
-use Rattle.theory.specs.Words.{word-pair, pairs-in}
+use Rattle.theory.specs.Basics.{all}
+use Rattle.theory.specs.Lists.{Pair, pair, ends-in-range, rising, is-list}
+use Rattle.theory.specs.Refusals.{refusal, if-taken}
 use Rattle.theory.proofs.Tests.{tests, no}
-use Rattle.theory.proofs.Tables.{table-at, length-table}
-use Rattle.theory.proofs.Lists.{Listed, listed}
+use Rattle.theory.proofs.Lists.{listed}
 use Rattle.pairs.specs.Held.{is-held, place-of, insert-pair, remove-pair, with-pair, without-pair, smaller-first-pair}
 use Rattle.pairs.specs.Causes.{pair-causes}
 use Rattle.pairs.specs.Located.{ones-in, located}
@@ -36,7 +33,7 @@ use Rattle.pairs.proofs.Words.{ones-inserted, ones-deleted, ones-pair}
 use Rattle.records.specs.declared.Head.{Head}
 use Rattle.records.specs.Records.{narrow}
 use Rattle.kandurzo.specs.declared.Edit.{Edit}
-use Rattle.kandurzo.specs.Listing.{if-taken, head-of, is-full}
+use Rattle.kandurzo.specs.Listing.{head-of, is-full}
 use Rattle.kandurzo.specs.Edits.{word-list, Ready, edit-of, pair-place, add-on-number, add-words, remove-on-number, remove-words}
 use Rattle.kandurzo.proofs.Orders.{add-none, remove-none}
 

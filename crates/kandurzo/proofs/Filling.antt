@@ -2,16 +2,20 @@
 --   Turning, turning-start, turning-step, turning-done    the entries before j are the new ones
 --   length-filled, filled-front, filled-rest, filled-at, filled-low    what `filled` holds
 --   length-front, front-rest, front-at                    the first n of one list in front of another's
+--   work-zeros, work-same                                 what `work-left` says of a number
 -- Assumes nothing.
 use mathlib.Core.Path.{_≡_, refl, sym, ap, _∙_}
+use mathlib.Core.Bool.{true, _||_}
 use mathlib.Core.List.{List, _++_, append-assoc}
-use Prim.Native.Nat.{ℕ, suc, _+_, _-_, _≤_, _<_}
+use Prim.Native.Nat.{ℕ, _+_, _-_, _≤_, _<_}
 use native.Mathlib.Omega.{arith}
 use native.Mathlib.Numerals.{add-one}
+use lib.Dec.{eqb}
 use lib.ListN.{length, getD, set, take, drop, replicate, length-append, length-drop, length-replicate, length-set, getD-replicate, List·getD-append}
 use lib.Seq.{length-take-le, take-at, drop-at, getD-take, getD-append-add}
+use borrow.Author.Tests.{ne-eqb}
 use Rattle.pairs.proofs.Moves.{turned, turned-none, turned-step, turned-all}
-use Rattle.kandurzo.specs.Buffers.{filled}
+use Rattle.kandurzo.specs.Buffers.{in-front, filled, work-words, work-left}
 
 -- the entries before j are those of `new`, the others those of `old`
 pub record Turning (from to : ℕ) (new old now : List ℕ) (j : ℕ) : Type 0 where
@@ -86,3 +90,15 @@ module _ (n : ℕ) (ws xs : List ℕ) (h : n ≤ length ws) (room : n ≤ length
 
   pub front-at : (k : ℕ) → k < n → getD (take n ws ++ drop n xs) k 0 ≡ getD ws k 0
   front-at k l = List·getD-append (take n ws) (drop n xs) 0 k (omega (arith, length-take-le n ws h)) ∙ getD-take n ws k 0 l
+
+-- ---- the work buffer after a call
+
+-- a number that is neither 12 nor 13 leaves zeros
+pub work-zeros : (k : ℕ) (w : List ℕ) → (k ≡ 12 → ⊥) → (k ≡ 13 → ⊥) → work-left k w ≡ in-front (replicate work-words 0) w
+unfolding work-left
+work-zeros k w a b = rw (ne-eqb k 12 a, ne-eqb k 13 b)
+
+-- 12 and 13 leave it as it was
+pub work-same : (k : ℕ) (w : List ℕ) → (eqb k 12 || eqb k 13) ≡ true → work-left k w ≡ w
+unfolding work-left
+work-same k w e = rw e

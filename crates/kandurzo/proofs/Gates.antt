@@ -4,32 +4,31 @@
 --   work-in-list         it holds the list
 --   work-in-words        so the calls on words may go on
 --   work-in-shut         where the gate refuses it is untouched
---   work-in-zeroed       and zeros in front of it are zeros in front of the buffer as it was
+--   work-in-left         a call leaves of it what it leaves of the buffer as it was
 -- Assumes nothing.
 use mathlib.Core.Path.{_≡_, refl, sym, ap, _∙_}
 use mathlib.Core.Bool.{Bool, true, false, _||_, not, cond}
-use mathlib.Core.List.{List, [], _∷_, _++_}
-use Prim.Native.Nat.{ℕ, zero, suc, _+_, _*_, _-_, _≤_, _<_}
+use mathlib.Core.List.{List, _++_}
+use Prim.Native.Nat.{ℕ, _+_, _*_, _-_, _≤_}
 use native.Mathlib.Omega.{arith}
 use lib.Dec.{eqb}
-use lib.ListN.{length, getD, take, drop, replicate, length-replicate, length-append}
+use lib.ListN.{length, take, drop, replicate, length-replicate}
 use lib.Seq.{drop-drop, length-take-le, drop-append-add}
-use borrow.Author.Tests.{eqb-true, eqb-false, eq-eqb, ne-eqb, not-false}
+use borrow.Author.Tests.{eqb-true, eqb-false, ne-eqb, not-false}
 use Rattle.theory.specs.Lists as Lists
-use Rattle.theory.specs.Lists.{Pairs, is-list}
-use Rattle.theory.specs.Refusals.{cause, refusal}
-use Rattle.theory.proofs.Refusals.{refusal-none, refusal-met, refusal-passed}
-use Rattle.theory.proofs.Lists.{Listed, listed}
+use Rattle.theory.specs.Refusals.{cause, refusal, if-taken}
+use Rattle.theory.proofs.Refusals.{refusal-none}
+use Rattle.theory.proofs.Lists.{listed}
 use Rattle.pairs.specs.Located.{ones-in}
 use Rattle.pairs.proofs.Weights.{ones-at}
 use Rattle.records.specs.declared.Pair.{Pair}
 use Rattle.records.specs.declared.Head.{Head}
 use Rattle.records.specs.Records.{held-list, agrees, ends-of, laid-out}
 use Rattle.records.proofs.Copies.{length-ends-of, length-laid-out, laid-out-none, pairs-laid-out}
-use Rattle.kandurzo.specs.Listing.{if-taken}
 use Rattle.kandurzo.specs.Edits.{word-list}
-use Rattle.kandurzo.specs.Buffers.{in-front, work-words}
+use Rattle.kandurzo.specs.Buffers.{in-front, work-words, work-left}
 use Rattle.kandurzo.specs.Gate.{gate-causes, gate-number, records-through, On-words}
+use Rattle.kandurzo.proofs.Filling.{work-zeros}
 use Rattle.kandurzo.proofs.Taken.{held-few, held-is-list, length-held}
 
 module _ (h : Head) (ps : List Pair) (short : Bool) where
@@ -90,6 +89,7 @@ module _ (h : Head) (ps : List Pair) (short : Bool) where
         record {
           held = λ e. rw (work-in-list e) (held-is-list h ps (gate-open e .0));
           long = λ e. omega (arith, length-work-in, enough (gate-open e .1));
+          shut = gate-one-of;
         }
 
     -- a shut gate: it is untouched
@@ -98,7 +98,7 @@ module _ (h : Head) (ps : List Pair) (short : Bool) where
     work-in-shut n = rw (ne-eqb (gate-number h ps short) 0 n) (laid-out-none ps work)
 
     -- zeros in front of it
-    pub work-in-zeroed : in-front (replicate work-words 0) (work-in work) ≡ in-front (replicate work-words 0) work
+    work-in-zeroed : in-front (replicate work-words 0) (work-in work) ≡ in-front (replicate work-words 0) work
     unfolding in-front work-in work-words
     work-in-zeroed =
         let k : ℕ = records-through h (gate-number h ps short) in
@@ -114,3 +114,16 @@ module _ (h : Head) (ps : List Pair) (short : Bool) where
         ∙ past
         ∙ drop-drop (16384 - 2 * k) (2 * k) work
         ∙ ap (λ (i : ℕ). drop i work) rest)
+
+    pub work-in-left : work-left (gate-number h ps short) (work-in work) ≡ work-left (gate-number h ps short) work
+    work-in-left = go (eqb (gate-number h ps short) 0) refl
+      where
+        k : ℕ
+        k = gate-number h ps short
+
+        zeros : k ≡ 0 → (w : List ℕ) → work-left k w ≡ in-front (replicate work-words 0) w
+        zeros z w = work-zeros k w (λ e. omega (arith, z, e)) (λ e. omega (arith, z, e))
+
+        go : (t : Bool) → eqb k 0 ≡ t → work-left k (work-in work) ≡ work-left k work
+        go true e = let z = eqb-true k 0 e in zeros z (work-in work) ∙ work-in-zeroed ∙ sym (zeros z work)
+        go false e = ap (work-left k) (work-in-shut (eqb-false k 0 e))

@@ -6,7 +6,6 @@ pub mod Calls
 pub mod Filling
 pub mod Gates
 pub mod Parts
-pub mod Verdicts
 pub mod Judgements
 pub mod Peels
 pub mod Readings

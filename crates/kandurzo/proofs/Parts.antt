@@ -1,29 +1,28 @@
 -- The list in the parts of the work buffer, once its weights are set to 1; and the buffer cleared.
 --   weighed              the work buffer with the weights set
 --   parts-list           the parts hold the list that the words held
---   weighed-cleared      cleared, it is zeros in front of what it was
+--   weighed-cleared      cleared, it is what a call leaves
+--   shut-left            behind a shut gate that is the buffer as it was
 -- Assumes nothing.
 use mathlib.Core.Path.{_≡_, refl, sym, ap, _∙_}
 use mathlib.Core.Bool.{true}
 use mathlib.Core.List.{List, _++_}
 use Prim.Native.Nat.{ℕ, _+_, _*_, _-_, _≤_, _<_}
 use native.Mathlib.Omega.{arith}
-use lib.ListN.{length, getD, take, drop, replicate, length-replicate, length-drop}
-use lib.Seq.{getD-take, getD-drop, drop-drop, length-take-le}
-use Rattle.theory.specs.Basics.{table}
+use lib.ListN.{length, getD, take, drop, replicate, length-replicate}
+use lib.Seq.{getD-take, getD-drop, drop-drop}
 use Rattle.theory.specs.Lists as Lists
-use Rattle.theory.specs.Lists.{Pairs, is-list}
+use Rattle.theory.specs.Lists.{is-list}
 use Rattle.theory.specs.Words.{word-pair, pairs-in, list-in}
 use Rattle.theory.proofs.Tables.{table-ext}
-use Rattle.theory.proofs.Lists.{Listed, listed}
+use Rattle.theory.proofs.Lists.{listed}
 use Rattle.pairs.specs.Located.{ones-in}
 use Rattle.pairs.proofs.Weights.{length-ones, pairs-ones}
 use Rattle.records.specs.declared.Head.{Head}
 use Rattle.kandurzo.specs.Edits.{word-list}
-use Rattle.kandurzo.specs.Buffers.{in-front, filled, work-words}
-use Rattle.kandurzo.specs.Gate.{On-words}
-use Rattle.kandurzo.specs.Judged.{ends-part, weights-part}
-use Rattle.kandurzo.proofs.Filling.{length-filled, filled-rest, filled-at, filled-low}
+use Rattle.kandurzo.specs.Buffers.{in-front, filled, work-words, work-left}
+use Rattle.kandurzo.specs.Gate.{On-words, ends-part, weights-part}
+use Rattle.kandurzo.proofs.Filling.{length-filled, filled-rest, filled-at, filled-low, work-zeros, work-same}
 
 -- the same ends make the same pairs
 ones-same : (m : ℕ) (es fs : List ℕ) → ((k : ℕ) → k < 2 * m → getD es k 0 ≡ getD fs k 0) → ones-in m es ≡ ones-in m fs
@@ -31,6 +30,9 @@ unfolding ones-in pairs-in
 ones-same m es fs e =
     table-ext m (word-pair es (replicate m 1)) (word-pair fs (replicate m 1))
     (λ j l. unfold word-pair in cc (e (2 * j) (omega arith), e (2 * j + 1) (omega arith)))
+
+pub shut-left : (h : Head) (gate : ℕ) (work : List ℕ) → On-words h gate work → (gate ≡ 0 → ⊥) → work ≡ work-left gate work
+shut-left h gate work on n = sym (work-same gate work (on .shut n))
 
 module _ (h : Head) (gate : ℕ) (work : List ℕ) (on : On-words h gate work) (z : gate ≡ 0) where
   pub few : h .m ≤ 4096
@@ -59,7 +61,7 @@ module _ (h : Head) (gate : ℕ) (work : List ℕ) (on : On-words h gate work) (
   pub parts-held : is-list (list-in (h .n) (h .m) (ends-part (h .m) weighed) (weights-part (h .m) weighed)) ≡ true
   parts-held = rw parts-list (on .held z)
 
-  pub weighed-cleared : filled 0 16384 0 weighed ≡ in-front (replicate work-words 0) work
+  pub weighed-cleared : filled 0 16384 0 weighed ≡ work-left gate work
   unfolding in-front work-words
   weighed-cleared =
       let past : 8192 + h .m + (16384 - (8192 + h .m)) ≡ 16384 = omega (arith, few) in
@@ -70,3 +72,4 @@ module _ (h : Head) (gate : ℕ) (work : List ℕ) (on : On-words h gate work) (
       ∙ drop-drop (16384 - (8192 + h .m)) (8192 + h .m) work ∙ ap (λ (i : ℕ). drop i work) past in
       let front : filled 0 16384 0 weighed ≡ replicate 16384 0 ++ drop 16384 weighed = unfold filled in refl in
       front ∙ ap (λ (xs : List ℕ). replicate 16384 0 ++ xs) rest ∙ ap (λ (i : ℕ). replicate 16384 0 ++ drop i work) (sym ws)
+      ∙ sym (work-zeros gate work (λ e. omega (arith, z, e)) (λ e. omega (arith, z, e)))

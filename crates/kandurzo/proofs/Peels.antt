@@ -1,38 +1,35 @@
 -- Peel on words: 32-bit numbers in front of local arrays, narrowed to the lent buffers; and the call's promise.
 --   narrowed, narrow-long, narrow-fits    n entries in front of an array, narrowed, stand in front of the buffer
+--   cores-long, cores-fit, cores-narrowed, cores-in-front    the same for core numbers
 --   core-numbers-few                      on a list of ones a core number fits 16 bits
 --   peel-enough, peel-call                the call's promise
 -- Assumes nothing.
 use mathlib.Core.Path.{_≡_, refl, sym, ap, _∙_}
-use mathlib.Core.Bool.{Bool, true, false, _||_, cond}
-use mathlib.Core.List.{List, [], _∷_, _++_}
+use mathlib.Core.Bool.{Bool, true, false}
+use mathlib.Core.List.{List, _++_}
 use Prim.Native.Nat.{ℕ, zero, suc, _+_, _≤_, _<_}
 use native.Mathlib.Omega.{arith}
 use lib.Dec.{eqb}
 use lib.ListN.{length, getD, take, drop, replicate, length-append, List·getD-append}
 use lib.Seq.{take-at}
-use borrow.Author.Tests.{ltb-false, eqb-true, eqb-false, eq-eqb, ne-eqb}
+use borrow.Author.Tests.{ltb-false, eqb-true}
 use Rattle.theory.specs.Lists as Lists
-use Rattle.theory.specs.Lists.{Pairs, pair, is-list}
-use Rattle.theory.specs.Leaving.{leaving}
 use Rattle.theory.specs.Cores.{core-number, core-numbers}
 use Rattle.theory.specs.Words.{word-pair, pairs-in}
 use Rattle.theory.specs.Basics.{table}
+use Rattle.theory.proofs.Tables.{length-table, table-at}
 use Rattle.theory.proofs.Bounds.{total, core-number-le}
-use Rattle.theory.proofs.Tables.{length-table}
+use Rattle.theory.specs.Refusals.{if-taken}
 use Rattle.pairs.specs.Located.{ones-in}
 use Rattle.pairs.proofs.Weights.{ones-at}
 use Rattle.records.specs.declared.Pair.{Pair}
 use Rattle.records.specs.declared.Head.{Head}
-use Rattle.records.specs.Records.{held-list}
-use Rattle.kandurzo.specs.Listing.{if-taken}
 use Rattle.kandurzo.specs.Edits.{word-list}
-use Rattle.kandurzo.specs.Buffers.{in-front, work-words, work-left}
+use Rattle.kandurzo.specs.Buffers.{in-front, work-words}
 use Rattle.kandurzo.specs.Gate.{gate-number}
-use Rattle.kandurzo.specs.Judged.{work-after}
 use Rattle.kandurzo.specs.Peeling.{peel-short, peel-number, Peel-call, Peel-on}
-use Rattle.kandurzo.proofs.Gates.{gate-open, gate-one-of, work-in, work-in-list, work-in-shut, work-in-zeroed}
-use Rattle.kandurzo.proofs.Judgements.{or-none, work-zeros, work-same}
+use Rattle.kandurzo.proofs.Gates.{work-in, work-in-list, work-in-left}
+use Rattle.kandurzo.proofs.Judgements.{or-none}
 
 -- ---- narrowing
 
@@ -49,6 +46,28 @@ module _ (n : ℕ) (xs rest new : List ℕ) (long : length xs ≡ n) (is : new �
   pub narrow-fits : (b : ℕ) → ((i : ℕ) → i < n → getD xs i 0 < b) → (i : ℕ) → i < n → getD new i 0 < b
   narrow-fits b h i l =
       omega (arith, ap (λ (ys : List ℕ). getD ys i 0) is, List·getD-append xs rest 0 i (omega (arith, long)), h i l)
+
+-- ---- core numbers, narrowed
+
+numbers-length : (g : Lists.Pairs) → length (core-numbers g) ≡ g .n
+unfolding core-numbers
+numbers-length g = length-table (g .n) _
+
+pub cores-in-front : (g : Lists.Pairs) (to : List ℕ) → core-numbers g ++ drop (g .n) to ≡ in-front (core-numbers g) to
+unfolding in-front
+cores-in-front g to = ap (λ (i : ℕ). core-numbers g ++ drop i to) (sym (numbers-length g))
+
+module _ (g : Lists.Pairs) (old new : List ℕ) (is : new ≡ core-numbers g ++ drop (g .n) old) where
+  pub cores-long : g .n ≤ length new
+  cores-long = narrow-long (g .n) (core-numbers g) _ new (numbers-length g) is
+
+  pub cores-fit : ((v : ℕ) → core-number g v < 65536) → (i : ℕ) → i < g .n → getD new i 0 < 65536
+  cores-fit few =
+      narrow-fits (g .n) (core-numbers g) _ new (numbers-length g) is 65536
+      (λ i b. unfold core-numbers in rw (table-at (g .n) (core-number g) i 0 b) (few i))
+
+  pub cores-narrowed : (to : List ℕ) → take (g .n) new ++ drop (g .n) to ≡ core-numbers g ++ drop (g .n) to
+  cores-narrowed to = narrowed (g .n) (core-numbers g) _ new (numbers-length g) is to ∙ sym (cores-in-front g to)
 
 -- ---- core numbers of a list of ones
 
@@ -80,7 +99,7 @@ module _ (h : Head) (ps : List Pair) (order cores work : List ℕ) where
 
   pub peel-call : {order′ cores′ work′ : List ℕ} → Peel-on h (gate-number h ps short) order cores (work-in h ps short work) order′ cores′ work′ →
       Peel-call h ps order cores work (gate-number h ps short) order′ cores′ work′
-  unfolding peel-number work-after if-taken
+  unfolding peel-number if-taken
   peel-call {order′} {cores′} {work′} on = go (eqb (gate-number h ps short) 0) refl
     where
       go : (t : Bool) → eqb (gate-number h ps short) 0 ≡ t → Peel-call h ps order cores work (gate-number h ps short) order′ cores′ work′
@@ -91,15 +110,12 @@ module _ (h : Head) (ps : List Pair) (order cores work : List ℕ) where
             number = refl;
             order-is = rw same at (on .order-is);
             cores-are = rw same at (on .cores-are);
-            left = on .left ∙ rw e (work-in-zeroed h ps short work (λ f. peel-enough f .2))
-                ∙ sym (work-zeros (gate-number h ps short) work (λ x. omega arith) (λ x. omega arith));
+            left = on .left ∙ work-in-left h ps short work (λ f. peel-enough f .2);
           }
       go false e =
-          let n : gate-number h ps short ≡ 0 → ⊥ = eqb-false _ 0 e in
           record {
             number = refl;
             order-is = on .order-is ∙ rw e;
             cores-are = on .cores-are ∙ rw e;
-            left = on .left ∙ rw e (work-in-shut h ps short work (λ f. peel-enough f .2) n)
-                ∙ sym (work-same (gate-number h ps short) work (gate-one-of h ps short n));
+            left = on .left ∙ work-in-left h ps short work (λ f. peel-enough f .2);
           }

@@ -1,6 +1,6 @@
 -- Read: from the bytes to words, and from the words to the lent records.
 --   file-few                    a file is refused by a number below 12: 12 is the work buffer's length alone
---   zeros-past, cleared-filled  zeros in front of the work buffer
+--   zeros-past, left-filled     zeros in front of the work buffer
 --   read-short, read-file-on    what read answers on words: of a short work buffer, and of any other
 --   outcome-taken               what is taken
 --   read-enough, read-long      what the copy and the clearing ask
@@ -8,15 +8,15 @@
 --   read-held, read-agrees      after a taken file the list holds what the file names: 13 never follows
 -- Assumes nothing.
 use mathlib.Core.Path.{_≡_, refl, sym, ap, _∙_}
-use mathlib.Core.Bool.{Bool, true, false, _||_, cond}
+use mathlib.Core.Bool.{Bool, true, false, cond}
 use mathlib.Core.List.{List, [], _∷_, _++_}
 use mathlib.Core.Option.{Option, none, some}
 use Prim.Native.Nat.{ℕ, zero, suc, _+_, _*_, _-_, _≤_, _<_}
 use native.Mathlib.Omega.{arith}
-use lib.Dec.{ltb, eqb}
+use lib.Dec.{ltb}
 use lib.ListN.{length, drop, replicate, length-replicate}
 use lib.Seq.{drop-drop}
-use borrow.Author.Tests.{ltb-false, lt-ltb, le-ltb, ne-eqb}
+use borrow.Author.Tests.{ltb-false, lt-ltb, le-ltb}
 use Rattle.theory.specs.Basics.{all}
 use Rattle.theory.specs.Lists as Lists
 use Rattle.theory.specs.Lists.{Pairs}
@@ -30,20 +30,7 @@ use Rattle.pairs.proofs.Keeps.{counts-once}
 use Rattle.pairs.proofs.Weights.{length-ones}
 use Rattle.pairfile.specs.Outcomes.{Outcome, refused, taken, _>>=_, _>>_, passed, judge}
 use Rattle.pairfile.specs.Lines.{modules-form, pairs-form, pair-form, Line, first, second, line-of}
-use Rattle.pairfile.specs.File.{
-  line-or-1,
-  line-due,
-  count-line,
-  modules-causes,
-  modules-line,
-  pairs-causes,
-  pairs-line,
-  pair-line-causes,
-  pair-line,
-  end-causes,
-  read-pairs,
-  read-file,
-}
+use Rattle.pairfile.specs.File.{line-or-1, line-due, count-line, modules-causes, modules-line, pairs-causes, pairs-line, pair-line-causes, pair-line, end-causes, read-pairs, read-file}
 use Rattle.pairfile.specs.Promise.{ones}
 use Rattle.pairfile.specs.Answers.{reading-of, pairs-of, words-used, FileRead}
 use Rattle.pairfile.specs.declared.Reading.{Reading}
@@ -57,7 +44,8 @@ use Rattle.records.proofs.Steps.{Enough-back}
 use Rattle.kandurzo.specs.declared.Edit.{Edit}
 use Rattle.kandurzo.specs.Listing.{head-of, as-records}
 use Rattle.kandurzo.specs.Buffers.{in-front, filled, work-words, work-left}
-use Rattle.kandurzo.specs.Reading.{read-outcome, read-head, records-front, Read-call, cleared, Read-on}
+use Rattle.kandurzo.specs.Reading.{read-outcome, read-head, records-front, Read-call, Read-on}
+use Rattle.kandurzo.proofs.Filling.{work-zeros}
 use Rattle.kandurzo.proofs.Calls.{records-ones}
 use Rattle.kandurzo.proofs.Taken.{held-front, agrees-front}
 
@@ -149,10 +137,9 @@ filled-zeros : (w : List ℕ) → filled 0 16384 0 w ≡ in-front (replicate wor
 unfolding in-front work-words filled
 filled-zeros w = ap (λ (i : ℕ). replicate 16384 0 ++ drop i w) (sym (length-replicate {A = ℕ} 16384 0))
 
--- filled with zeros it is cleared
-pub cleared-filled : (k : ℕ) (w : List ℕ) → (k ≡ 12 → ⊥) → filled 0 16384 0 w ≡ cleared k w
-unfolding cleared
-cleared-filled k w h = filled-zeros w ∙ sym (rw (ne-eqb k 12 h))
+-- filled with zeros it is what read leaves
+pub left-filled : (k : ℕ) (w : List ℕ) → k < 13 → (k ≡ 12 → ⊥) → filled 0 16384 0 w ≡ work-left k w
+left-filled k w few h = filled-zeros w ∙ sym (work-zeros k w h (λ e. omega arith))
 
 -- ---- on words
 
@@ -193,12 +180,12 @@ used-few room bytes = go (read-file room bytes) refl
     go (taken g) e = omega (arith, listed g (accepted room bytes g e .list) .short)
 
 module _ (room : ℕ) (bytes work after : List ℕ) (f : Reading) (long : 16384 ≤ length work) (read : FileRead room bytes work after f) where
-  read-past : cleared (f .number) after ≡ cleared (f .number) work
-  unfolding cleared
+  read-past : work-left (f .number) after ≡ work-left (f .number) work
   read-past =
       let same : f .number ≡ reading-of (read-file room bytes) .number = ap (λ (q : Reading). q .number) (read .reading) in
-      let z : eqb (f .number) 12 ≡ false = ne-eqb (f .number) 12 (λ x. omega (arith, number-few room bytes)) in
-      rw z (zeros-past (words-used (read-file room bytes)) after work (used-few room bytes) (read .past))
+      let zeros : (w : List ℕ) → work-left (f .number) w ≡ in-front (replicate work-words 0) w =
+      λ w. work-zeros (f .number) w (λ x. omega (arith, number-few room bytes)) (λ x. omega (arith, number-few room bytes)) in
+      zeros after ∙ zeros-past (words-used (read-file room bytes)) after work (used-few room bytes) (read .past) ∙ sym (zeros work)
 
   head-is : _≡_ {A = Head} (record { n = f .n; m = f .m }) (read-head (read-file room bytes))
   unfolding read-head head-of
@@ -262,15 +249,6 @@ outcome-number room w bytes = go (ltb w 16384) refl
     go true z = unfold reading-of in (λ h. absurd (h refl), omega arith)
     go false z = (λ h. ltb-false w 16384 z, omega (arith, number-few room bytes))
 
--- clearing is what read leaves
-cleared-left : (k : ℕ) (w : List ℕ) → k < 13 → cleared k w ≡ work-left k w
-unfolding cleared work-left
-cleared-left k w h = let z : eqb k 13 ≡ false = ne-eqb k 13 (λ e. omega arith) in rw z (go (eqb k 12))
-  where
-    go : (t : Bool) → cond t w (in-front (replicate work-words 0) w) ≡ cond (t || false) w (in-front (replicate work-words 0) w)
-    go true = refl
-    go false = refl
-
 module _ (bytes : List ℕ) (ps : List Pair) (work after : List ℕ) (e : Edit) (on : Read-on (length ps) bytes work after e) where
   count-is : length (pairs-of (read-outcome (length ps) (length work) bytes)) ≡ e .count
   count-is = ap length (sym (on .pairs)) ∙ length-ones (e .count) after
@@ -282,12 +260,14 @@ module _ (bytes : List ℕ) (ps : List Pair) (work after : List ℕ) (e : Edit) 
       (omega (arith, f .0, count-is), omega (arith, f .1, count-is), omega (arith, f .2, count-is), on .small)
 
   -- what the clearing asks
-  pub read-long : length after ≡ length work → (e .number ≡ 12 → ⊥) → 16384 ≤ length after
-  read-long same h = omega (arith, outcome-number (length ps) (length work) bytes .0 (λ z. h (on .number ∙ z)))
+  pub read-long : length after ≡ length work → (e .number < 13) × ((e .number ≡ 12 → ⊥) → 16384 ≤ length after)
+  read-long same =
+      let k = outcome-number (length ps) (length work) bytes in
+      (omega (arith, on .number, k .1), λ h. omega (arith, k .0 (λ z. h (on .number ∙ z))))
 
   -- READ: number, head, every record, and the work buffer
   pub read-says :
-      Read-call bytes ps work (record { number = e .number; head = e .head }) (put-back ps after (e .count)) (cleared (e .number) after)
+      Read-call bytes ps work (record { number = e .number; head = e .head }) (put-back ps after (e .count)) (work-left (e .number) after)
   unfolding put-back records-front
   read-says =
       record {
@@ -296,7 +276,7 @@ module _ (bytes : List ℕ) (ps : List Pair) (work after : List ℕ) (e : Edit) 
         records =
             rw (records-ones (e .count) after, on .pairs)
             (ap (λ (i : ℕ). as-records (pairs-of (read-outcome (length ps) (length work) bytes)) ++ drop i ps) (sym count-is));
-        left = on .past ∙ cleared-left (e .number) work (omega (arith, on .number, outcome-number (length ps) (length work) bytes .1));
+        left = on .past;
       }
 
 -- AFTER A TAKEN FILE the list holds exactly what the file names

@@ -1,8 +1,8 @@
 -- The load sheet, narrowed to the lent buffer, and what solve hands out.
 --   sheet-small      the shares fit 16 bits
---   sheet-solves     narrowed, they are the load sheet of the lent buffer
+--   sheet-solves     narrowed, shares and core numbers are those of the lent buffers
 --   some-modules     the found group has a module
---   handed           with the core numbers and the float this is what solve hands out
+--   handed           with the float this is what solve hands out
 -- Assumes nothing.
 use mathlib.Core.Path.{_≡_, refl, _∙_}
 use mathlib.Core.Bool.{true}
@@ -12,7 +12,6 @@ use native.Mathlib.Omega.{arith}
 use lib.ListN.{length, getD, take, drop, length-append, length-drop}
 use lib.Seq.{length-take-le, take-at, drop-at, getD-take}
 use Rattle.theory.specs.Lists.{Pairs, is-list}
-use Rattle.theory.specs.Cores.{core-numbers}
 use Rattle.theory.specs.Splits.{is-split, shares-good}
 use Rattle.theory.specs.Ratio.{float-ratio}
 use Rattle.theory.proofs.Tests.{tests}
@@ -20,11 +19,11 @@ use Rattle.theory.proofs.Bounds.{size-bound}
 use Rattle.densest.specs.declared.Solution.{Solution}
 use Rattle.densest.specs.Solve.{Solves}
 use Rattle.kandurzo.specs.declared.Solved.{Solved}
-use Rattle.kandurzo.specs.Buffers.{in-front}
-use Rattle.kandurzo.specs.Solving.{Narrow, Handed}
+use Rattle.kandurzo.specs.Solving.{Fits-16-bits, Handed}
+use Rattle.kandurzo.proofs.Peels.{cores-narrowed, cores-in-front}
 
-module _ (g : Pairs) (held : is-list g ≡ true) (m : ℕ) (few : length (g .pairs) ≡ m) (members sheet members′ sheet′ : List ℕ) (r : Solution)
-    (s : Solves g members sheet members′ sheet′ r) where
+module _ (g : Pairs) (held : is-list g ≡ true) (m : ℕ) (few : length (g .pairs) ≡ m) (members numbers sheet members′ numbers′ sheet′ : List ℕ)
+    (r : Solution) (s : Solves g members numbers sheet members′ numbers′ sheet′ r) where
   split-good : (1 ≤ r .q) × (shares-good (r .q) (g .pairs) (take m sheet′) ≡ true)
   unfolding is-split
   split-good = simp tests at (rw few at (s .solved .optimal .is-a-split))
@@ -32,33 +31,36 @@ module _ (g : Pairs) (held : is-list g ≡ true) (m : ℕ) (few : length (g .pai
   pub some-modules : 1 ≤ r .q
   some-modules = split-good .0
 
-  pub sheet-small : Narrow g → (i : ℕ) → i < m → getD sheet′ i 0 < 65536
+  pub sheet-small : Fits-16-bits g → (i : ℕ) → i < m → getD sheet′ i 0 < 65536
   sheet-small thin i l =
       let o = s .solved .optimal in
       let low : r .q ≤ 512 = omega (arith, o .modules, size-bound g _ held (o .is-a-group)) in
       omega (arith, thin .shares (r .q) (take m sheet′) i low (split-good .1), getD-take m sheet′ i 0 l)
 
-  pub sheet-solves : (shares : List ℕ) → m ≤ length sheet′ → m ≤ length shares → Solves g members shares members′ (take m sheet′ ++ drop m shares) r
-  sheet-solves shares long enough =
+  pub sheet-solves : (cores shares : List ℕ) → m ≤ length sheet′ → m ≤ length shares →
+      Solves g members cores shares members′ (take (g .n) numbers′ ++ drop (g .n) cores) (take m sheet′ ++ drop m shares) r
+  sheet-solves cores shares long enough =
       let lx = length-take-le m sheet′ long in
       record {
         members-long = s .members-long;
         shares-long = omega (arith, length-append (take m sheet′) (drop m shares), lx, length-drop m shares);
         members-rest = s .members-rest;
+        cores-are = cores-narrowed g numbers numbers′ (s .cores-are) cores;
         shares-rest = rw few (drop-at (take m sheet′) (drop m shares) m lx);
         solved = rw (few, take-at (take m sheet′) (drop m shares) m lx) (rw few at (s .solved));
       }
 
-module _ (g : Pairs) (members shares members′ shares′ cores : List ℕ) (r : Solution) (s : Solves g members shares members′ shares′ r) where
+module _ (g : Pairs) (members cores shares members′ cores′ shares′ : List ℕ) (r : Solution)
+    (s : Solves g members cores shares members′ cores′ shares′ r) where
   abbrev record-of : Solved
   record-of = record { number = 0; p = r .p; q = r .q; k = r .k; coresize = r .core; ratio = float-ratio (r .p) (r .q) }
 
-  pub handed : Handed g members cores shares record-of members′ (in-front (core-numbers g) cores) shares′
+  pub handed : Handed g members cores shares record-of members′ cores′ shares′
   handed =
       let o = s .solved .optimal in
       record {
         members-rest = s .members-rest;
-        cores-are = refl;
+        cores-are = s .cores-are ∙ cores-in-front g cores;
         shares-rest = s .shares-rest;
         found = s .solved .found;
         optimal = o;

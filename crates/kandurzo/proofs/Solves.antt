@@ -1,44 +1,38 @@
 -- Solve, from the words to the call, and what follows of its answers.
 --   solve-enough         where no buffer is short
---   unsplit-never        the condition of 15 never holds
+--   unsplit-never        the condition of 15 never holds: so 15 never comes
 --   solve-call           the call's promise
---   fifteen-never        15 never comes
 --   records-in-order     two records' floats compare as their ratios do
---   narrow-ones          numbers of a list of ones fit 16 bits
+--   ones-fit             numbers of a list of ones fit 16 bits
 -- Assumes nothing.
-use mathlib.Core.Path.{_≡_, refl, sym, ap, _∙_, subst}
-use mathlib.Core.Bool.{Bool, true, false, _||_, _&&_, cond}
+use mathlib.Core.Path.{_≡_, refl, sym, ap, _∙_}
+use mathlib.Core.Bool.{Bool, true, false}
 use mathlib.Core.List.{List, [], _∷_}
-use Prim.Native.Nat.{ℕ, zero, suc, _+_, _*_, _≤_, _<_}
+use Prim.Native.Nat.{ℕ, zero, suc, _≤_, _<_}
 use native.Mathlib.Omega.{arith}
 use native.Mathlib.Nat.{mul-le-mul-right}
-use lib.Dec.{ltb, leb, eqb}
-use lib.ListN.{length, getD, take, replicate}
-use lib.Ieee.{lt, le, eq}
+use lib.Dec.{eqb}
+use lib.ListN.{length, getD, replicate}
 use borrow.Author.Tests.{ltb-false, eqb-true, eqb-false}
 use Rattle.theory.specs.Basics.{table}
 use Rattle.theory.specs.Lists.{Pairs, is-list}
 use Rattle.theory.specs.Lists as Lists
-use Rattle.theory.specs.Groups.{inside, size, is-group, Found}
-use Rattle.theory.specs.Splits.{units, shares-good, is-split, greatest-load}
-use Rattle.theory.specs.Ratio.{float-ratio}
+use Rattle.theory.specs.Splits.{units, shares-good}
 use Rattle.theory.specs.Words.{word-pair, pairs-in}
-use Rattle.theory.specs.Promise.{Split-densest, Ratios-in-order, Optimal, In-order}
+use Rattle.theory.specs.Promise.{Split-densest, Ratios-in-order}
 use Rattle.theory.proofs.Tests.{tests}
 use Rattle.theory.proofs.Promises.{split-densest, ratios-in-order}
 use Rattle.pairs.specs.Located.{ones-in}
 use Rattle.records.specs.declared.Pair.{Pair}
 use Rattle.records.specs.declared.Head.{Head}
-use Rattle.records.specs.Records.{held-list, agrees}
+use Rattle.records.specs.Records.{held-list}
 use Rattle.kandurzo.specs.declared.Solved.{Solved}
-use Rattle.kandurzo.specs.Listing.{if-taken}
 use Rattle.kandurzo.specs.Edits.{word-list}
 use Rattle.kandurzo.specs.Buffers.{work-words, work-left}
 use Rattle.kandurzo.specs.Gate.{gate-number}
-use Rattle.kandurzo.specs.Judged.{work-after}
-use Rattle.kandurzo.specs.Solving.{solve-short, No-split, Unsplit, Solve-number, declined, Narrow, Handed, Solve-call, Solve-on, Records-in-order}
-use Rattle.kandurzo.proofs.Gates.{gate-open, gate-one-of, work-in, work-in-list, work-in-shut, work-in-zeroed}
-use Rattle.kandurzo.proofs.Judgements.{or-none, work-zeros, work-same}
+use Rattle.kandurzo.specs.Solving.{solve-short, No-split, Unsplit, declined, Fits-16-bits, Solve-call, Solve-on, Records-in-order}
+use Rattle.kandurzo.proofs.Gates.{gate-open, work-in, work-in-list, work-in-left}
+use Rattle.kandurzo.proofs.Judgements.{or-none}
 use Rattle.kandurzo.proofs.Taken.{held-is-list}
 use Rattle.kandurzo.proofs.Peels.{core-numbers-few}
 
@@ -68,57 +62,51 @@ module _ (h : Head) (ps : List Pair) (members cores shares work : List ℕ) wher
   module _ {r : Solved} {members′ cores′ shares′ work′ : List ℕ}
       (on : Solve-on h gate members cores shares (work-in h ps short work) r members′ cores′ shares′ work′) where
     pub solve-call : Solve-call h ps members cores shares work r members′ cores′ shares′ work′
-    unfolding work-after if-taken
     solve-call = go (eqb gate 0) refl
       where
+        left : work′ ≡ work-left (r .number) work
+        left = on .left ∙ work-in-left h ps short work long ∙ ap (λ (k : ℕ). work-left k work) (sym (on .number))
+
         go : (t : Bool) → eqb gate 0 ≡ t → Solve-call h ps members cores shares work r members′ cores′ shares′ work′
         go true e =
             let z : gate ≡ 0 = eqb-true _ 0 e in
             record {
               number = record {
-                first = λ n. absurd (n z);
-                unsplit = λ _ u. absurd (unsplit-never (held-list h ps) (held-is-list h ps (gate-open h ps short z .0)) u);
-                taken = λ _ _. on .number ∙ z;
+                outright = on .number;
+                fifteen = λ _. (
+                  λ x. absurd (omega (arith, x, on .number, z)),
+                  λ u. absurd (unsplit-never (held-list h ps) (held-is-list h ps (gate-open h ps short z .0)) u),
+                );
               };
               handed = λ _. rw (work-in-list h ps short work long z) at (on .handed z);
               refused = λ n. absurd (n (on .number ∙ z));
-              left = on .left ∙ rw e (work-in-zeroed h ps short work long)
-                  ∙ sym (work-zeros (r .number) work (λ x. omega (arith, on .number, z)) (λ x. omega (arith, on .number, z)));
+              left = left;
             }
         go false e =
             let n : gate ≡ 0 → ⊥ = eqb-false _ 0 e in
             let no = on .refused n in
             record {
-              number = record { first = λ _. on .number; unsplit = λ z _. absurd (n z); taken = λ z _. absurd (n z) };
+              number = record { outright = on .number; fifteen = λ z. absurd (n z) };
               handed = λ z. absurd (n (sym (on .number) ∙ z));
               refused = λ _. (no .0 ∙ ap declined (sym (on .number)), no .1, no .2, no .3);
-              left = on .left ∙ rw e (work-in-shut h ps short work long n) ∙ sym (work-same (r .number) work (rw (on .number) (gate-one-of h ps short n)));
+              left = left;
             }
 
 -- ---- what follows of the answers
 
--- the gate's number, 0 included, is the call's
-pub fifteen-never : (h : Head) (ps : List Pair) (members cores shares work : List ℕ) {r : Solved} {members′ cores′ shares′ work′ : List ℕ} →
-    Solve-call h ps members cores shares work r members′ cores′ shares′ work′ →
-    r .number ≡ gate-number h ps (solve-short h (length members) (length cores) (length shares) (length work))
-fifteen-never h ps members cores shares work {r} call = go (eqb k 0) refl
-  where
-    k : ℕ
-    k = gate-number h ps (solve-short h (length members) (length cores) (length shares) (length work))
+-- a call that refuses nothing has a list as it is held
+module _ (h : Head) (ps : List Pair) (ms cs xs ws : List ℕ) {r : Solved} {ms′ cs′ xs′ ws′ : List ℕ} (call : Solve-call h ps ms cs xs ws r ms′ cs′ xs′ ws′) (z : r .number ≡ 0) where
+  taken-list : is-list (held-list h ps) ≡ true
+  taken-list = held-is-list h ps (gate-open h ps (short h ps ms cs xs ws) (sym (call .number .outright) ∙ z) .0)
 
-    go : (t : Bool) → eqb k 0 ≡ t → r .number ≡ k
-    go true e =
-        let z : k ≡ 0 = eqb-true _ 0 e in
-        call .number .taken z (unsplit-never (held-list h ps)
-        (held-is-list h ps (gate-open h ps (solve-short h (length members) (length cores) (length shares) (length work)) z .0))) ∙ sym z
-    go false e = call .number .first (eqb-false _ 0 e)
-
--- of one list or of two: the floats that two taken calls return are in the order of their ratios
-pub records-in-order : (g h : Pairs) {ms cs xs ms′ cs′ xs′ ns ds ys ns′ ds′ ys′ : List ℕ} {r s : Solved} → is-list g ≡ true → is-list h ≡ true →
-    Handed g ms cs xs r ms′ cs′ xs′ → Handed h ns ds ys s ns′ ds′ ys′ → Records-in-order r s
-unfolding Ratios-in-order
-records-in-order g h lg lh a b =
-    let o = ratios-in-order g h _ _ lg lh (a .optimal .is-a-group) (b .optimal .is-a-group) in
+-- the floats that two such calls return are in the order of their ratios
+pub records-in-order : Records-in-order
+unfolding Records-in-order Ratios-in-order
+records-in-order h i ps qs ms cs xs ws ms′ cs′ xs′ ws′ ns ds ys vs ns′ ds′ ys′ vs′ r s first second z y =
+    let a = first .handed z in
+    let b = second .handed y in
+    let o = ratios-in-order (held-list h ps) (held-list i qs) _ _ (taken-list h ps ms cs xs ws first z) (taken-list i qs ns ds ys vs second y)
+    (a .optimal .is-a-group) (b .optimal .is-a-group) in
     record {
       less = rw (a .float, b .float, a .optimal .inside-count, b .optimal .inside-count, a .optimal .modules, b .optimal .modules) (o .less);
       at-most = rw (a .float, b .float, a .optimal .inside-count, b .optimal .inside-count, a .optimal .modules, b .optimal .modules) (o .at-most);
@@ -143,9 +131,9 @@ one-at-most zero j = omega arith
 one-at-most (suc m) zero = omega arith
 one-at-most (suc m) (suc j) = one-at-most m j
 
-pub narrow-ones : (h : Head) (work : List ℕ) → h .m ≤ 4096 → Narrow (word-list h work)
+pub ones-fit : (h : Head) (work : List ℕ) → h .m ≤ 4096 → Fits-16-bits (word-list h work)
 unfolding word-list ones-in pairs-in
-narrow-ones h work few = record {
+ones-fit h work few = record {
   cores = λ v. core-numbers-few h work v few;
   shares = λ q xs j low good. shares-small (h .m) (word-pair work (replicate (h .m) 1)) q xs j low (λ i. unfold word-pair in one-at-most (h .m) i) good;
 }

@@ -10,18 +10,17 @@
 --   held-alone                          lists that hold the same pairs have the same held records: the order of arrival leaves no trace
 -- Assumes nothing.
 use mathlib.Core.Path.{_≡_, refl, sym, ap, _∙_}
-use mathlib.Core.Bool.{Bool, true, false, _&&_, _||_, not, cond}
-use mathlib.Core.List.{List, [], _∷_, _++_, map}
-use Prim.Native.Nat.{ℕ, zero, suc, _+_, _-_, _≤_, _<_}
+use mathlib.Core.Bool.{Bool, true, false, _||_}
+use mathlib.Core.List.{List, [], _∷_, _++_}
+use Prim.Native.Nat.{ℕ, _+_, _-_, _≤_, _<_}
 use native.Mathlib.Omega.{arith}
-use native.Mathlib.Numerals.{add-one}
-use lib.Dec.{leb, eqb}
-use lib.ListN.{length, take, drop, length-map, length-append, length-drop}
+use lib.Dec.{eqb}
+use lib.ListN.{length, take, length-map, length-append}
 use lib.Seq.{length-take-le, take-at}
-use borrow.Author.Tests.{eqb-true, eqb-false, leb-true, le-leb, not-false, not-true}
+use borrow.Author.Tests.{eqb-false, not-false}
 use Rattle.theory.specs.Basics.{all}
 use Rattle.theory.specs.Lists as Lists
-use Rattle.theory.specs.Lists.{Pairs, pair, rising, is-list}
+use Rattle.theory.specs.Lists.{Pairs, pair, is-list}
 use Rattle.theory.specs.Refusals.{refusal}
 use Rattle.theory.proofs.Tests.{tests, no}
 use Rattle.theory.proofs.Lists.{listed}

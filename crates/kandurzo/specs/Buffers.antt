@@ -4,7 +4,7 @@
 --   work-words     the work buffer's 16,384 words
 --   work-left      the work buffer after a call: untouched after 12 or 13, else 16,384 zeros
 -- Assumes nothing: these are definitions.
-use mathlib.Core.Bool.{Bool, _||_, cond}
+use mathlib.Core.Bool.{_||_, cond}
 use mathlib.Core.List.{List, _++_}
 use Prim.Native.Nat.{ℕ, _-_}
 use lib.Dec.{eqb}

@@ -1,27 +1,27 @@
 -- Document 01, "Check" and "Surplus": what the two calls answer and leave.
 --   check-short, check-order, Check-call           check: 13, 12, 7, 8, 9
 --   surplus-short, surplus-order, Surplus-call     surplus: 13, 12, 7
+--   Check-on, Surplus-on                           the same on words, once the records are out
 -- Assumes nothing: these are definitions.
 use mathlib.Core.Path.{_≡_}
 use mathlib.Core.Bool.{Bool, _||_, not}
 use mathlib.Core.List.{List, _++_}
-use mathlib.Core.Logic.{_↔_}
-use Prim.Native.Nat.{ℕ, _*_}
+use Prim.Native.Nat.{ℕ}
 use lib.Dec.{ltb}
 use lib.ListN.{length, take}
 use lib.IntN.{pos}
-use lib.Signed.{ltZ}
 use Rattle.theory.specs.Groups.{inside, size}
-use Rattle.theory.specs.Refusals.{Cause, refusal}
+use Rattle.theory.specs.Refusals.{Cause, refusal, if-taken}
 use Rattle.theory.specs.Check.{check-causes}
-use Rattle.theory.specs.Surplus.{surplus, surplus-causes}
+use Rattle.theory.specs.Surplus.{surplus, Signed, surplus-causes}
 use Rattle.theory.specs.Promise.{Optimal}
 use Rattle.verify.specs.declared.Verdict.{Verdict}
 use Rattle.verify.specs.declared.Difference.{Difference}
+use Rattle.verify.specs.Answers.{refused-by, Check-says, Surplus-says}
 use Rattle.records.specs.declared.Pair.{Pair}
 use Rattle.records.specs.declared.Head.{Head}
 use Rattle.records.specs.Records.{held-list, agrees}
-use Rattle.kandurzo.specs.Listing.{if-taken}
+use Rattle.kandurzo.specs.Edits.{word-list}
 use Rattle.kandurzo.specs.Buffers.{work-words, work-left}
 use Rattle.kandurzo.specs.Gate.{gate-causes}
 
@@ -64,13 +64,18 @@ pub record Surplus-call (h : Head) (ps : List Pair) (t s : List ℕ) (d : Differ
   pub number : d .number ≡ refusal (surplus-order h ps t s)
   -- the value; 0 beside a refusal
   pub value : d .value ≡ if-taken (d .number) (surplus (held-list h ps) (take (h .n) t) (take (h .n) s)) (pos 0)
-  -- zero exactly when the ratios are equal, above zero exactly when t is denser, below zero exactly when s is
-  pub zero : d .number ≡ 0 →
-      (d .value ≡ pos 0)
-      ↔ (inside (held-list h ps) (take (h .n) t) * size (take (h .n) s) ≡ inside (held-list h ps) (take (h .n) s) * size (take (h .n) t))
-  pub above : d .number ≡ 0 →
-      ltZ (pos 0) (d .value)
-      ≡ ltb (inside (held-list h ps) (take (h .n) s) * size (take (h .n) t)) (inside (held-list h ps) (take (h .n) t) * size (take (h .n) s))
-  pub below : d .number ≡ 0 →
-      ltZ (d .value) (pos 0)
-      ≡ ltb (inside (held-list h ps) (take (h .n) t) * size (take (h .n) s)) (inside (held-list h ps) (take (h .n) s) * size (take (h .n) t))
+  -- what its sign says: zero exactly when the ratios are equal, above zero exactly when t is denser, below zero exactly when s is
+  pub signs : d .number ≡ 0 → Signed (held-list h ps) (take (h .n) t) (take (h .n) s) (d .value)
+
+-- ---- on words
+
+-- check behind the gate, with the work buffer cleared
+pub record Check-on (h : Head) (gate : ℕ) (members shares work : List ℕ) (v : Verdict) (work′ : List ℕ) : Type 0 where
+  pub judged : gate ≡ 0 → Check-says (word-list h work) (take (h .n) members) (take (h .m) shares) v
+  pub refused : (gate ≡ 0 → ⊥) → v ≡ refused-by gate
+  pub left : work′ ≡ work-left gate work
+
+-- surplus behind the gate
+pub record Surplus-on (h : Head) (gate : ℕ) (t s words : List ℕ) (d : Difference) : Type 0 where
+  pub judged : gate ≡ 0 → Surplus-says (word-list h words) (take (h .n) t) (take (h .n) s) d
+  pub refused : (gate ≡ 0 → ⊥) → d ≡ record { number = gate; value = pos 0 }

@@ -6,5 +6,4 @@ pub mod Buffers
 pub mod Gate
 pub mod Peeling
 pub mod Judging
-pub mod Judged
 pub mod Solving

@@ -1,27 +1,25 @@
 -- Document 01, "The list and its calls": what start, add and remove answer, and what they leave of the lent records.
---   if-taken       what a call leaves: the new where nothing is refused, else the old
---   started        start's answer
---   add-number, added, Add-says              add
+--   head-of, changed-to                      a head, and a number with a head
+--   started                                  start
+--   as-record, as-records                    pairs as records
+--   is-full, add-number, added, Add-says     add
 --   remove-number, removed, Remove-says      remove
 -- Assumes nothing: these are definitions.
 use mathlib.Core.Path.{_≡_}
-use mathlib.Core.Bool.{Bool, _&&_, _||_, not, cond}
-use mathlib.Core.List.{List, [], _∷_, _++_, map}
+use mathlib.Core.Bool.{Bool, _||_, not}
+use mathlib.Core.List.{List, _∷_, _++_, map}
 use Prim.Native.Nat.{ℕ, _+_, _-_}
-use lib.Dec.{leb, eqb}
+use lib.Dec.{eqb}
 use lib.ListN.{length, drop}
 use Rattle.theory.specs.Lists as Lists
-use Rattle.theory.specs.Refusals.{Cause, cause, refusal}
+use Rattle.theory.specs.Refusals.{refusal, if-taken}
 use Rattle.pairs.specs.Held.{insert-pair, remove-pair, smaller-first-pair}
 use Rattle.pairs.specs.Causes.{add-causes, remove-causes}
+use Rattle.pairfile.specs.File.{modules-causes}
 use Rattle.records.specs.declared.Pair.{Pair}
 use Rattle.records.specs.declared.Head.{Head}
-use Rattle.records.specs.Records.{held-list, agrees}
+use Rattle.records.specs.Records.{held-list, agrees, blank}
 use Rattle.kandurzo.specs.declared.Changed.{Changed}
-
--- a refusal leaves things as they were: the new where the number is 0, else the old
-unfoldable pub if-taken : {A : Type 0} → (number : ℕ) → (new old : A) → A
-if-taken k x y = cond (eqb k 0) x y
 
 -- a head of n modules and m pairs
 unfoldable pub head-of : (n m : ℕ) → Head
@@ -31,15 +29,11 @@ head-of n m = record { n = n; m = m }
 unfoldable pub changed-to : (number : ℕ) → Head → Changed
 changed-to k h = record { number = k; head = h }
 
--- ---- start: 2
+-- ---- start
 
--- 2: N outside 1 to 512
-unfoldable pub start-causes : (n : ℕ) → List Cause
-start-causes n = cause 2 (not (leb 1 n && leb n 512)) ∷ []
-
--- a head without pairs; 0,0 beside a refusal
+-- 2, as on the first line of a pair file; a head without pairs, and 0,0 beside a refusal
 unfoldable pub started : (n : ℕ) → Changed
-started n = record { number = refusal (start-causes n); head = if-taken (refusal (start-causes n)) (head-of n 0) (head-of 0 0) }
+started n = record { number = refusal (modules-causes n); head = if-taken (refusal (modules-causes n)) (head-of n 0) (head-of 0 0) }
 
 -- ---- records
 
@@ -47,6 +41,7 @@ started n = record { number = refusal (start-causes n); head = if-taken (refusal
 unfoldable pub as-record : Lists.Pair → Pair
 as-record p = record { a = p .a; b = p .b }
 
+-- the records of some pairs
 unfoldable pub as-records : List Lists.Pair → List Pair
 as-records ps = map as-record ps
 
@@ -56,6 +51,7 @@ as-records ps = map as-record ps
 unfoldable pub is-full : Head → (len : ℕ) → Bool
 is-full h len = eqb (h .m) 4096 || eqb (h .m) len
 
+-- the number that add gives
 unfoldable pub add-number : Head → List Pair → (a b : ℕ) → ℕ
 add-number h ps a b = refusal (add-causes (not (agrees h ps)) (held-list h ps) (is-full h (length ps)) a b)
 
@@ -71,13 +67,14 @@ pub record Add-says (h : Head) (ps : List Pair) (a b : ℕ) (r : Changed) (after
 
 -- ---- remove: 13, 4, 5, 14
 
+-- the number that remove gives
 unfoldable pub remove-number : Head → List Pair → (a b : ℕ) → ℕ
 remove-number h ps a b = refusal (remove-causes (not (agrees h ps)) (held-list h ps) a b)
 
 -- the held records without the pair, later ones shifted down; the one freed becomes 0,0; records past them stay
 unfoldable pub removed : Head → List Pair → (a b : ℕ) → List Pair
 removed h ps a b =
-    as-records (remove-pair (smaller-first-pair a b) (held-list h ps .pairs)) ++ (record { a = 0; b = 0 } ∷ drop (h .m) ps)
+    as-records (remove-pair (smaller-first-pair a b) (held-list h ps .pairs)) ++ (blank ∷ drop (h .m) ps)
 
 -- what remove answers, and the lent records after it
 pub record Remove-says (h : Head) (ps : List Pair) (a b : ℕ) (r : Changed) (after : List Pair) : Type 0 where

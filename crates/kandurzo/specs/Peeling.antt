@@ -1,24 +1,22 @@
 -- Document 01, "Peel": leaving order and core numbers.
---   peel-short, peel-order, Peel-call    13, 12; the first N entries of the two buffers
---   Peel-on                              the same on words, once the records are out
+--   peel-short, peel-number, Peel-call    13, 12; the first N entries of the two buffers
+--   Peel-on                               the same on words, once the records are out
 -- Assumes nothing: these are definitions.
 use mathlib.Core.Path.{_≡_}
-use mathlib.Core.Bool.{Bool, _||_, not}
+use mathlib.Core.Bool.{Bool, _||_}
 use mathlib.Core.List.{List}
 use Prim.Native.Nat.{ℕ}
 use lib.Dec.{ltb}
-use lib.ListN.{length, replicate}
-use Rattle.theory.specs.Refusals.{Cause, refusal}
+use lib.ListN.{length}
+use Rattle.theory.specs.Refusals.{if-taken}
 use Rattle.theory.specs.Leaving.{leaving}
 use Rattle.theory.specs.Cores.{core-numbers}
 use Rattle.records.specs.declared.Pair.{Pair}
 use Rattle.records.specs.declared.Head.{Head}
-use Rattle.records.specs.Records.{held-list, agrees}
-use Rattle.kandurzo.specs.Listing.{if-taken}
+use Rattle.records.specs.Records.{held-list}
 use Rattle.kandurzo.specs.Edits.{word-list}
 use Rattle.kandurzo.specs.Buffers.{in-front, work-words, work-left}
 use Rattle.kandurzo.specs.Gate.{gate-number}
-use Rattle.kandurzo.specs.Judged.{work-after}
 
 -- 12: order or cores shorter than N, the work buffer than 16,384
 unfoldable pub peel-short : Head → (order cores work : ℕ) → Bool
@@ -40,4 +38,4 @@ pub record Peel-call (h : Head) (ps : List Pair) (order cores work : List ℕ) (
 pub record Peel-on (h : Head) (gate : ℕ) (order cores work order′ cores′ work′ : List ℕ) : Type 0 where
   pub order-is : order′ ≡ if-taken gate (in-front (leaving (word-list h work)) order) order
   pub cores-are : cores′ ≡ if-taken gate (in-front (core-numbers (word-list h work)) cores) cores
-  pub left : work′ ≡ work-after gate work
+  pub left : work′ ≡ work-left gate work

@@ -2,15 +2,14 @@
 --   read-outcome     the list that is read, or the refusal: 12, then the file's own
 --   read-head, records-front    the new head, and new records in front of the others
 --   Read-call        number, head, every record, and the work buffer
---   cleared          the work buffer after the call: untouched after 12, else 16,384 zeros
 --   Read-on          the same on words, before the records come in
 -- Assumes nothing: these are definitions.
 use mathlib.Core.Path.{_≡_}
 use mathlib.Core.Bool.{cond}
 use mathlib.Core.List.{List, _++_}
 use Prim.Native.Nat.{ℕ}
-use lib.Dec.{ltb, eqb}
-use lib.ListN.{length, drop, replicate}
+use lib.Dec.{ltb}
+use lib.ListN.{length, drop}
 use Rattle.theory.specs.Lists as Lists
 use Rattle.theory.specs.Lists.{Pairs}
 use Rattle.pairs.specs.Located.{ones-in}
@@ -23,7 +22,7 @@ use Rattle.records.specs.Records.{narrow}
 use Rattle.kandurzo.specs.declared.Changed.{Changed}
 use Rattle.kandurzo.specs.declared.Edit.{Edit}
 use Rattle.kandurzo.specs.Listing.{head-of, as-records}
-use Rattle.kandurzo.specs.Buffers.{in-front, work-words, work-left}
+use Rattle.kandurzo.specs.Buffers.{work-words, work-left}
 
 -- 12, which is the work buffer's length alone; then lines in file order, for a list of `room` records
 unfoldable pub read-outcome : (room work : ℕ) → (bytes : List ℕ) → Outcome Pairs
@@ -41,15 +40,11 @@ records-front new ps = as-records new ++ drop (length new) ps
 pub record Read-call (bytes : List ℕ) (ps : List Pair) (work : List ℕ) (r : Changed) (ps′ : List Pair) (work′ : List ℕ) : Type 0 where
   pub number : r .number ≡ reading-of (read-outcome (length ps) (length work) bytes) .number
   pub head : r .head ≡ read-head (read-outcome (length ps) (length work) bytes)
-  -- the first M records are the file's pairs in rising order, the others are as before; a refused file has none and changes nothing
+  -- the first M records are the file's pairs in rising order, the others are as before; a refused file has none and leaves the records as they were
   pub records : ps′ ≡ records-front (pairs-of (read-outcome (length ps) (length work) bytes)) ps
   pub left : work′ ≡ work-left (r .number) work
 
 -- ---- on words
-
--- the work buffer: untouched after 12, else its 16,384 words are zero
-unfoldable pub cleared : (number : ℕ) → List ℕ → List ℕ
-cleared k w = cond (eqb k 12) w (in-front (replicate work-words 0) w)
 
 -- before the records come into the list: their pairs lie in the work buffer's first words
 pub record Read-on (room : ℕ) (bytes work work′ : List ℕ) (e : Edit) : Type 0 where
@@ -59,4 +54,4 @@ pub record Read-on (room : ℕ) (bytes work work′ : List ℕ) (e : Edit) : Typ
   -- they fit records
   pub small : narrow (e .count) work′
   -- nothing is written after 12, nor past the 16,384 words
-  pub past : cleared (e .number) work′ ≡ cleared (e .number) work
+  pub past : work-left (e .number) work′ ≡ work-left (e .number) work

@@ -3,15 +3,17 @@
 --   No-split, Unsplit        the condition of 15
 --   Solve-number             13, 12, 15
 --   declined                 the record beside a refusal
---   Narrow                   numbers that fit 16 bits
+--   Fits-16-bits             a list whose numbers fit the buffers
 --   Handed                   what is handed out; free are only the shares of pairs inside the core of order K
 --   Solve-call               the call
 --   Solve-on                 the same on words, once the records are out
---   Records-in-order         two records' floats compare as their ratios do; the theorem is records-in-order
+--   Compare-alike            two records' floats compare as their ratios do
+--   Records-in-order         so the records of any two calls; the theorem is records-in-order
 -- Assumes nothing: these are definitions.
 use mathlib.Core.Path.{_≡_}
 use mathlib.Core.Bool.{Bool, true, _||_}
 use mathlib.Core.List.{List}
+use mathlib.Core.Logic.{_↔_}
 use Prim.Native.Nat.{ℕ, _*_, _≤_, _<_}
 use lib.Dec.{ltb, leb, eqb}
 use lib.ListN.{length, getD, take, drop}
@@ -29,7 +31,6 @@ use Rattle.kandurzo.specs.declared.Solved.{Solved}
 use Rattle.kandurzo.specs.Edits.{word-list}
 use Rattle.kandurzo.specs.Buffers.{in-front, work-words, work-left}
 use Rattle.kandurzo.specs.Gate.{gate-number}
-use Rattle.kandurzo.specs.Judged.{work-after}
 
 -- 12: members or cores shorter than N, shares than M, the work buffer than 16,384
 unfoldable pub solve-short : Head → (members cores shares work : ℕ) → Bool
@@ -45,18 +46,18 @@ pub record Unsplit (g : Pairs) : Type 0 where
   pub densest : Densest g group
   pub no-split : No-split g group
 
--- 13 and 12 stand first; then 15 exactly where its condition holds
+-- 13, 12, 15: the number is the gate's, since the condition of 15 never holds
 pub record Solve-number (gate : ℕ) (g : Pairs) (number : ℕ) : Type 0 where
-  pub first : (gate ≡ 0 → ⊥) → number ≡ gate
-  pub unsplit : gate ≡ 0 → Unsplit g → number ≡ 15
-  pub taken : gate ≡ 0 → (Unsplit g → ⊥) → number ≡ 0
+  pub outright : number ≡ gate
+  -- 15 exactly where its condition holds
+  pub fifteen : gate ≡ 0 → (number ≡ 15) ↔ Unsplit g
 
 -- beside a refusal the other fields are 0, the ratio +0.0
 unfoldable pub declined : (number : ℕ) → Solved
 declined k = record { number = k; p = 0; q = 0; k = 0; coresize = 0; ratio = float-ratio 0 1 }
 
 -- a list whose core numbers, and shares at up to 512 modules, fit the buffers' 16 bits
-pub record Narrow (g : Pairs) : Type 0 where
+pub record Fits-16-bits (g : Pairs) : Type 0 where
   pub cores : (v : ℕ) → core-number g v < 65536
   pub shares : (q : ℕ) (xs : List ℕ) (j : ℕ) → q ≤ 512 → shares-good q (g .pairs) xs ≡ true → getD xs j 0 < 65536
 
@@ -89,10 +90,16 @@ pub record Solve-on (h : Head) (gate : ℕ) (members cores shares work : List �
   pub number : r .number ≡ gate
   pub handed : gate ≡ 0 → Handed (word-list h work) members cores shares r members′ cores′ shares′
   pub refused : (gate ≡ 0 → ⊥) → (r ≡ declined gate) × (members′ ≡ members) × (cores′ ≡ cores) × (shares′ ≡ shares)
-  pub left : work′ ≡ work-after gate work
+  pub left : work′ ≡ work-left gate work
 
 -- <, ≤ and = of two records' floats are those of the cross products
-pub record Records-in-order (r s : Solved) : Type 0 where
+pub record Compare-alike (r s : Solved) : Type 0 where
   pub less : lt (r .ratio) (s .ratio) ≡ ltb (r .p * s .q) (s .p * r .q)
   pub at-most : le (r .ratio) (s .ratio) ≡ leb (r .p * s .q) (s .p * r .q)
   pub equal : eq (r .ratio) (s .ratio) ≡ eqb (r .p * s .q) (s .p * r .q)
+
+-- of one list or of two: whatever two calls return that refuse nothing
+unfoldable pub Records-in-order : Type 0
+Records-in-order =
+    (h i : Head) (ps qs : List Pair) (ms cs xs ws ms′ cs′ xs′ ws′ ns ds ys vs ns′ ds′ ys′ vs′ : List ℕ) (r s : Solved) →
+    Solve-call h ps ms cs xs ws r ms′ cs′ xs′ ws′ → Solve-call i qs ns ds ys vs s ns′ ds′ ys′ vs′ → r .number ≡ 0 → s .number ≡ 0 → Compare-alike r s

@@ -6,7 +6,7 @@ ghost use lib.ListN.{length, getD, take, drop};
 ghost use Rattle.kandurzo.specs.Buffers.{filled};
 
 // Sets the words from .. to − 1 to `value`.
-pub fn fill(words: &mut [u32], from: usize, to: usize, value: u32)
+pub(crate) fn fill(words: &mut [u32], from: usize, to: usize, value: u32)
     requires { ⌜ from ≤ to ⌝ }
     requires { ⌜ to ≤ length (now words) ⌝ }
     ensures { λ _. ⌜ now (words .exit) ≡ filled from to value (now (words .entry)) ⌝ }
@@ -19,7 +19,7 @@ pub fn fill(words: &mut [u32], from: usize, to: usize, value: u32)
 }
 
 // The first n words, which fit 16 bits, in front of the entries of `to`.
-pub fn narrow(words: &[u32], n: usize, to: &mut [u16])
+pub(crate) fn narrow(words: &[u32], n: usize, to: &mut [u16])
     requires { ⌜ n ≤ length (now words) ⌝ }
     requires { ⌜ n ≤ length (now to) ⌝ }
     requires { ⌜ ((i : ℕ) → i < n → getD (now words) i 0 < 65536) ⌝ }

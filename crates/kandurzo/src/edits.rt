@@ -1,4 +1,4 @@
-// Add and remove on words: the refusals in their order, then the change. No search here: pairs looks a pair up.
+// Add and remove on words: the refusals in their order, then the change. The crate `pairs` does the looking up and the shifting.
 ghost use mathlib.Core.Path.{_≡_};
 ghost use Rattle.kandurzo.specs.Edits.{records-out, Ready, add-edit, add-words, remove-edit, remove-words};
 ghost use Prim.Native.Nat.{min, max};
@@ -10,7 +10,7 @@ use pairs::pair_number;
 use records::Head;
 
 // How many records go out to words.
-pub fn records_out(head: Head, agreed: bool) -> usize
+pub(crate) fn records_out(head: Head, agreed: bool) -> usize
     ensures { λ r. ⌜ r ≡ records-out head agreed ⌝ }
 {
     if agreed {
@@ -42,7 +42,14 @@ fn refused(number: u32, head: Head) -> Edit
 }
 
 // Refuses by 13, 4, 5, 10, 11.
-pub fn add_on_words(head: Head, agreed: bool, len: usize, words: &mut [u32], a: u32, b: u32) -> Edit
+pub(crate) fn add_on_words(
+    head: Head,
+    agreed: bool,
+    len: usize,
+    words: &mut [u32],
+    a: u32,
+    b: u32,
+) -> Edit
     requires { ⌜ Ready head agreed len (now words) ⌝ }
     ensures { λ r. ⌜ (r ≡ add-edit head agreed len (now (words .entry)) a b) × (now (words .exit) ≡ add-words head agreed len (now (words .entry)) a b) ⌝ }
 {
@@ -78,7 +85,7 @@ pub fn add_on_words(head: Head, agreed: bool, len: usize, words: &mut [u32], a: 
 }
 
 // Refuses by 13, 4, 5, 14. The record freed comes back as 0,0.
-pub fn remove_on_words(
+pub(crate) fn remove_on_words(
     head: Head,
     agreed: bool,
     len: usize,

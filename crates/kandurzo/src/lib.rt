@@ -33,7 +33,7 @@ use solving::solve_on_words;
 use verify::Difference;
 use verify::Verdict;
 
-// What start, add and remove answer: the refusal number or 0, and the head after the call.
+// What start, add, remove and read answer: the refusal number or 0, and the head after the call.
 #[repr(C)]
 pub struct Changed {
     pub number: u32,
@@ -52,14 +52,14 @@ pub struct Solved {
     pub ratio: f64,
 }
 
-// A change of the words: the number, the head after it, and how many records come back to the list.
+// Not part of the calls. A change of the words: the number, the head after it, and how many records come back to the list.
 pub struct Edit {
     pub number: u32,
     pub head: Head,
     pub count: usize,
 }
 
-// What the first two refusals say: 13, 12 or 0, and how many records go out to the work buffer.
+// Not part of the calls. What the first two refusals say: 13, 12 or 0, and how many records go out to the work buffer.
 pub struct Gate {
     pub number: u32,
     pub out: usize,
@@ -154,7 +154,7 @@ pub extern "C" fn kandurzo_remove_from(head: &mut Head, list: &mut [Pair], a: u3
 pub use kandurzo_remove_from as remove_from;
 
 // Reads a pair file: makes a new head, and writes the first M records in rising order. Refuses by 12 (work), then line by line: 1, 2; 1, 3, 11;
-// 1, 4, 5, 10; 6. A refused file changes nothing.
+// 1, 4, 5, 10; 6. A refused file leaves every record as it was.
 #[no_mangle]
 pub extern "C" fn kandurzo_read(bytes: &[u8], list: &mut [Pair], work: &mut [u32]) -> Changed
     ensures { λ r. ⌜ Read-call (now (bytes .entry)) (now (list .entry)) (now (work .entry)) r (now (list .exit)) (now (work .exit)) ⌝ }
@@ -179,7 +179,8 @@ pub extern "C" fn kandurzo_peel(
     cores: &mut [u16],
     work: &mut [u32],
 ) -> u32
-    ensures { λ r. ⌜ Peel-call head (now (list .entry)) (now (order .entry)) (now (cores .entry)) (now (work .entry)) r (now (order .exit)) (now (cores .exit)) (now (work .exit)) ⌝ }
+    ensures { λ r. ⌜ Peel-call head (now (list .entry)) (now (order .entry)) (now (cores .entry)) (now (work .entry)) r
+        (now (order .exit)) (now (cores .exit)) (now (work .exit)) ⌝ }
 {
     let agreed = agree(head, list);
     let gate = peel_gate(head, agreed, order.len(), cores.len(), work.len());
@@ -201,7 +202,8 @@ pub extern "C" fn kandurzo_solve(
     shares: &mut [u16],
     work: &mut [u32],
 ) -> Solved
-    ensures { λ r. ⌜ Solve-call head (now (list .entry)) (now (members .entry)) (now (cores .entry)) (now (shares .entry)) (now (work .entry)) r (now (members .exit)) (now (cores .exit)) (now (shares .exit)) (now (work .exit)) ⌝ }
+    ensures { λ r. ⌜ Solve-call head (now (list .entry)) (now (members .entry)) (now (cores .entry)) (now (shares .entry)) (now (work .entry)) r
+        (now (members .exit)) (now (cores .exit)) (now (shares .exit)) (now (work .exit)) ⌝ }
 {
     let agreed = agree(head, list);
     let gate = solve_gate(

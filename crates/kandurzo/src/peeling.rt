@@ -8,8 +8,7 @@ ghost use Rattle.theory.specs.Leaving.{leaving};
 ghost use Rattle.theory.specs.Cores.{core-number, core-numbers};
 ghost use Rattle.theory.specs.Words.{list-in};
 ghost use Rattle.kandurzo.specs.Buffers.{in-front};
-ghost use Rattle.kandurzo.specs.Gate.{gate-of, On-words};
-ghost use Rattle.kandurzo.specs.Judged.{ends-part, weights-part};
+ghost use Rattle.kandurzo.specs.Gate.{gate-of, ends-part, weights-part, On-words};
 ghost use Rattle.kandurzo.specs.Peeling.{peel-short, Peel-on};
 use crate::Gate;
 use crate::buffers::fill;
@@ -31,22 +30,24 @@ fn peel_short(head: Head, order: usize, cores: usize, work: usize) -> bool
     work < 16384
 }
 
-pub fn peel_gate(head: Head, agreed: bool, order: usize, cores: usize, work: usize) -> Gate
+pub(crate) fn peel_gate(head: Head, agreed: bool, order: usize, cores: usize, work: usize) -> Gate
     ensures { λ r. ⌜ r ≡ gate-of head agreed (peel-short head order cores work) ⌝ }
 {
     gate(head, agreed, peel_short(head, order, cores, work))
 }
 
 // Peel of the list in the words' parts; its 32-bit numbers are narrowed to the buffers' 16.
-pub fn peel_in(n: usize, m: usize, work: &[u32], order: &mut [u16], cores: &mut [u16])
+fn peel_in(n: usize, m: usize, work: &[u32], order: &mut [u16], cores: &mut [u16])
     requires { ⌜ is-list (list-in n m (ends-part m (now work)) (weights-part m (now work))) ≡ true ⌝ }
     requires { ⌜ m ≤ 4096 ⌝ }
     requires { ⌜ 16384 ≤ length (now work) ⌝ }
     requires { ⌜ n ≤ length (now order) ⌝ }
     requires { ⌜ n ≤ length (now cores) ⌝ }
     requires { ⌜ ((v : ℕ) → core-number (list-in n m (ends-part m (now work)) (weights-part m (now work))) v < 65536) ⌝ }
-    ensures { λ _. ⌜ now (order .exit) ≡ in-front (leaving (list-in n m (ends-part m (now (work .entry))) (weights-part m (now (work .entry))))) (now (order .entry)) ⌝ }
-    ensures { λ _. ⌜ now (cores .exit) ≡ in-front (core-numbers (list-in n m (ends-part m (now (work .entry))) (weights-part m (now (work .entry))))) (now (cores .entry)) ⌝ }
+    ensures { λ _. ⌜ now (order .exit) ≡
+        in-front (leaving (list-in n m (ends-part m (now (work .entry))) (weights-part m (now (work .entry))))) (now (order .entry)) ⌝ }
+    ensures { λ _. ⌜ now (cores .exit) ≡
+        in-front (core-numbers (list-in n m (ends-part m (now (work .entry))) (weights-part m (now (work .entry))))) (now (cores .entry)) ⌝ }
 {
     let mut leavers = [0u32; 512];
     let mut numbers = [0u32; 512];
@@ -68,9 +69,17 @@ pub fn peel_in(n: usize, m: usize, work: &[u32], order: &mut [u16], cores: &mut 
 }
 
 // Behind the gate the list's weights are set to 1, and the work buffer is cleared in the end.
-pub fn peel_on_words(head: Head, gate: u32, order: &mut [u16], cores: &mut [u16], work: &mut [u32])
-    requires { ⌜ On-words head gate (now work) × (gate ≡ 0 → head .n ≤ length (now order)) × (gate ≡ 0 → head .n ≤ length (now cores)) ⌝ }
-    ensures { λ _. ⌜ Peel-on head gate (now (order .entry)) (now (cores .entry)) (now (work .entry)) (now (order .exit)) (now (cores .exit)) (now (work .exit)) ⌝ }
+pub(crate) fn peel_on_words(
+    head: Head,
+    gate: u32,
+    order: &mut [u16],
+    cores: &mut [u16],
+    work: &mut [u32],
+)
+    requires { ⌜ On-words head gate (now work) × (gate ≡ 0 → head .n ≤ length (now order))
+        × (gate ≡ 0 → head .n ≤ length (now cores)) ⌝ }
+    ensures { λ _. ⌜ Peel-on head gate (now (order .entry)) (now (cores .entry)) (now (work .entry))
+        (now (order .exit)) (now (cores .exit)) (now (work .exit)) ⌝ }
 {
     if gate != 0 {
         return;

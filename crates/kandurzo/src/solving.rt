@@ -7,15 +7,13 @@ ghost use Rattle.theory.specs.Lists.{is-list};
 ghost use Rattle.theory.specs.Ratio.{float-ratio};
 ghost use Rattle.theory.specs.Words.{list-in};
 ghost use Rattle.densest.specs.Solve.{Solves};
-ghost use Rattle.kandurzo.specs.Gate.{gate-of, On-words};
-ghost use Rattle.kandurzo.specs.Judged.{ends-part, weights-part};
-ghost use Rattle.kandurzo.specs.Solving.{solve-short, declined, Narrow, Handed, Solve-on};
+ghost use Rattle.kandurzo.specs.Gate.{gate-of, ends-part, weights-part, On-words};
+ghost use Rattle.kandurzo.specs.Solving.{solve-short, declined, Fits-16-bits, Handed, Solve-on};
 use crate::Gate;
 use crate::Solved;
 use crate::buffers::fill;
 use crate::buffers::narrow;
 use crate::judging::gate;
-use crate::peeling::peel_in;
 use densest::Solution;
 use densest::solve;
 use records::Head;
@@ -36,7 +34,7 @@ fn solve_short(head: Head, members: usize, cores: usize, shares: usize, work: us
     work < 16384
 }
 
-pub fn solve_gate(
+pub(crate) fn solve_gate(
     head: Head,
     agreed: bool,
     members: usize,
@@ -75,16 +73,26 @@ fn refused(number: u32) -> Solved
     }
 }
 
-// The group and the load sheet of the list in the words' parts; shares are narrowed to the buffer's 16 bits.
-fn sheet_in(n: usize, m: usize, work: &[u32], members: &mut [u8], shares: &mut [u16]) -> Solution
+// Group, core numbers and load sheet of the list in the words' parts; core numbers and shares are narrowed to the buffers' 16 bits.
+fn sheet_in(
+    n: usize,
+    m: usize,
+    work: &[u32],
+    members: &mut [u8],
+    cores: &mut [u16],
+    shares: &mut [u16],
+) -> Solution
     requires { ⌜ is-list (list-in n m (ends-part m (now work)) (weights-part m (now work))) ≡ true ⌝ }
     requires { ⌜ m ≤ 4096 ⌝ }
     requires { ⌜ 16384 ≤ length (now work) ⌝ }
     requires { ⌜ n ≤ length (now members) ⌝ }
+    requires { ⌜ n ≤ length (now cores) ⌝ }
     requires { ⌜ m ≤ length (now shares) ⌝ }
-    requires { ⌜ Narrow (list-in n m (ends-part m (now work)) (weights-part m (now work))) ⌝ }
-    ensures { λ r. ⌜ Solves (list-in n m (ends-part m (now (work .entry))) (weights-part m (now (work .entry)))) (now (members .entry)) (now (shares .entry)) (now (members .exit)) (now (shares .exit)) r ⌝ }
+    requires { ⌜ Fits-16-bits (list-in n m (ends-part m (now work)) (weights-part m (now work))) ⌝ }
+    ensures { λ r. ⌜ Solves (list-in n m (ends-part m (now (work .entry))) (weights-part m (now (work .entry)))) (now (members .entry))
+        (now (cores .entry)) (now (shares .entry)) (now (members .exit)) (now (cores .exit)) (now (shares .exit)) r ⌝ }
 {
+    let mut numbers = [0u32; 512];
     let mut sheet = [0u32; 4096];
     let ends = 2 * m;
     let weights = 8192 + m;
@@ -94,8 +102,10 @@ fn sheet_in(n: usize, m: usize, work: &[u32], members: &mut [u8], shares: &mut [
         &work[0..ends],
         &work[8192..weights],
         members,
+        &mut numbers,
         &mut sheet,
     );
+    narrow(&numbers, n, cores);
     narrow(&sheet, m, shares);
     found
 }
@@ -115,12 +125,12 @@ fn solve_in(
     requires { ⌜ n ≤ length (now members) ⌝ }
     requires { ⌜ n ≤ length (now cores) ⌝ }
     requires { ⌜ m ≤ length (now shares) ⌝ }
-    requires { ⌜ Narrow (list-in n m (ends-part m (now work)) (weights-part m (now work))) ⌝ }
-    ensures { λ r. ⌜ (r .number ≡ 0) × Handed (list-in n m (ends-part m (now (work .entry))) (weights-part m (now (work .entry)))) (now (members .entry)) (now (cores .entry)) (now (shares .entry)) r (now (members .exit)) (now (cores .exit)) (now (shares .exit)) ⌝ }
+    requires { ⌜ Fits-16-bits (list-in n m (ends-part m (now work)) (weights-part m (now work))) ⌝ }
+    ensures { λ r. ⌜ (r .number ≡ 0) × Handed (list-in n m (ends-part m (now (work .entry))) (weights-part m (now (work .entry))))
+        (now (members .entry)) (now (cores .entry)) (now (shares .entry)) r
+        (now (members .exit)) (now (cores .exit)) (now (shares .exit)) ⌝ }
 {
-    let mut order = [0u16; 512];
-    peel_in(n, m, work, &mut order, cores);
-    let found = sheet_in(n, m, work, members, shares);
+    let found = sheet_in(n, m, work, members, cores, shares);
     let ratio = ratio(found.p, found.q);
     Solved {
         number: 0,
@@ -133,7 +143,7 @@ fn solve_in(
 }
 
 // Behind the gate the list's weights are set to 1, and the work buffer is cleared in the end.
-pub fn solve_on_words(
+pub(crate) fn solve_on_words(
     head: Head,
     gate: u32,
     members: &mut [u8],
@@ -141,8 +151,10 @@ pub fn solve_on_words(
     shares: &mut [u16],
     work: &mut [u32],
 ) -> Solved
-    requires { ⌜ On-words head gate (now work) × (gate ≡ 0 → head .n ≤ length (now members)) × (gate ≡ 0 → head .n ≤ length (now cores)) × (gate ≡ 0 → head .m ≤ length (now shares)) ⌝ }
-    ensures { λ r. ⌜ Solve-on head gate (now (members .entry)) (now (cores .entry)) (now (shares .entry)) (now (work .entry)) r (now (members .exit)) (now (cores .exit)) (now (shares .exit)) (now (work .exit)) ⌝ }
+    requires { ⌜ On-words head gate (now work) × (gate ≡ 0 → head .n ≤ length (now members))
+        × (gate ≡ 0 → head .n ≤ length (now cores)) × (gate ≡ 0 → head .m ≤ length (now shares)) ⌝ }
+    ensures { λ r. ⌜ Solve-on head gate (now (members .entry)) (now (cores .entry)) (now (shares .entry)) (now (work .entry)) r
+        (now (members .exit)) (now (cores .exit)) (now (shares .exit)) (now (work .exit)) ⌝ }
 {
     if gate != 0 {
         return refused(gate);

@@ -16,7 +16,7 @@ use lib.ListN.{length, getD}
 use borrow.Author.Tests.{lt-ltb, le-leb, eq-eqb, ne-eqb, not-true, not-false}
 use Rattle.theory.specs.Basics.{table, all}
 use Rattle.theory.specs.Lists.{Pair, pair, ends-in-range, smaller-first, weight-in-range, stands-before, before-first, rising, is-list}
-use Rattle.theory.specs.Words.{word-pair, pairs-in, list-in}
+use Rattle.theory.specs.Words.{word-pair, pairs-in, list-in, Held-words}
 use Rattle.theory.proofs.Tests.{tests, and-iff, no, fails}
 use Rattle.theory.proofs.Tables.{length-table, table-at}
 use Rattle.theory.proofs.Lists.{Listed, listed, is-listed}
@@ -188,9 +188,7 @@ module _ (n m : ℕ) (es ws : List ℕ) where
 pub record Words-hold (n m : ℕ) (es ws : List ℕ) : Type 0 where
   pub some : 1 ≤ n
   pub few : n ≤ 512
-  pub ends-long : 2 * m ≤ length es
-  pub weights-long : m ≤ length ws
-  pub listed : is-list (list-in n m es ws) ≡ true
+  pub words : Held-words n m es ws
 
 -- they do where is_held does not answer no
 pub words-hold : (n m : ℕ) (es ws : List ℕ) (answer : Bool) → answer ≡ held-in n m es ws → not answer ≡ false → Words-hold n m es ws
@@ -201,7 +199,5 @@ words-hold n m es ws answer e f =
     record {
       some = k .some;
       few = k .few;
-      ends-long = held-long n m es ws h .0;
-      weights-long = held-long n m es ws h .1;
-      listed = held-listed n m es ws h;
+      words = record { listed = held-listed n m es ws h; ends-long = held-long n m es ws h .0; weights-long = held-long n m es ws h .1 };
     }

@@ -69,7 +69,7 @@ pub record LineHas (form : List ℕ) (k : ℕ) (bs : List ℕ) (at : ℕ) (ns : 
   pub within : i ≤ length bs
 
 -- what line_at has found
-module _ {form bs : List ℕ} {at : ℕ} {ns : List ℕ} {r : FoundLine} (f : LineFound bs at form ns r) where
+module _ {form bs : List ℕ} {at : ℕ} {ms ns : List ℕ} {r : FoundLine} (f : LineFound bs at form ms ns r) where
   -- no line of the form
   pub malformed : r ≡ Malformed → line-of form (drop at bs) ≡ none
   unfolding line-in

@@ -60,10 +60,12 @@ unfoldable pub line-end : FoundLine → ℕ
 line-end Malformed = 0
 line-end (line i) = i
 
--- LINE_AT: the line of a form at a position
-pub record LineFound (bytes : List ℕ) (at : ℕ) (form numbers : List ℕ) (r : FoundLine) : Type 0 where
-  pub found : line-of form (drop at bytes) ≡ line-in bytes (places form) numbers r
+-- LINE_AT: the line of a form at a position. After a malformed line the buffer's first entries, one for each place of the form, are free
+pub record LineFound (bytes : List ℕ) (at : ℕ) (form numbers numbers′ : List ℕ) (r : FoundLine) : Type 0 where
+  pub found : line-of form (drop at bytes) ≡ line-in bytes (places form) numbers′ r
   pub within : line-end r ≤ length bytes
+  -- entries past those places are as they were
+  pub past : drop (places form) numbers′ ≡ drop (places form) numbers
 
 -- the line found, with one number
 unfoldable pub one-number-in : (bytes : List ℕ) → FoundNumber → Option Line

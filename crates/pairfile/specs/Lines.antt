@@ -40,10 +40,11 @@ pub record Line : Type 0 where
   pub numbers : List ℕ
   pub rest : List ℕ
 
--- a line's first number, and its second
+-- a line's first number
 unfoldable pub first : Line → ℕ
 first l = getD (l .numbers) 0 0
 
+-- and its second
 unfoldable pub second : Line → ℕ
 second l = getD (l .numbers) 1 0
 

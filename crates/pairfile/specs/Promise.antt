@@ -36,6 +36,7 @@ Read-back =
     (room : ℕ) (g : Pairs) (lines : List Pair) → is-list g ≡ true → ones (g .pairs) ≡ true → length (g .pairs) ≤ room →
     Names lines (g .pairs) → read-file room (file-of (g .n) lines) ≡ taken g
 
+-- the bytes are the file of a list g
 pub record Accepted (room : ℕ) (bytes : List ℕ) (g : Pairs) : Type 0 where
   -- it is a list as it is held, and fits the records lent
   pub list : is-list g ≡ true

@@ -1,5 +1,5 @@
 -- Document 01, "The list and its calls": whether a pair is held, its place, and the list with a pair more or a pair less.
---   same-ends             whether two pairs are of the same two modules
+--   same-ends             whether two pairs have the same two numbers in the same order
 --   is-held, weight-of    whether a list holds a pair, and how often it counts there
 --   place-of              where it stands or would go
 --   insert-pair, remove-pair, with-pair, without-pair    the list with it, and without it
@@ -40,10 +40,11 @@ unfoldable pub remove-pair : Pair → List Pair → List Pair
 remove-pair p [] = []
 remove-pair p (r ∷ rs) = cond (same-ends p r) rs (r ∷ remove-pair p rs)
 
--- a list with p, and without it
+-- a list with p
 unfoldable pub with-pair : Pair → Pairs → Pairs
 with-pair p g = record { n = g .n; pairs = insert-pair p (g .pairs) }
 
+-- and without it
 unfoldable pub without-pair : Pair → Pairs → Pairs
 without-pair p g = record { n = g .n; pairs = remove-pair p (g .pairs) }
 

@@ -12,10 +12,9 @@ use lib.ListN.{length, getD, set}
 use Rattle.theory.specs.Lists.{Pairs}
 use Rattle.theory.specs.Groups.{everyone}
 use Rattle.theory.specs.Leaving.{leaver, leaving, remainder, leaving-degree}
-use Rattle.theory.specs.Words.{list-in}
+use Rattle.theory.specs.Words.{list-in, Held-words}
 use Rattle.ranking.specs.declared.Leaver.{Leaver}
 use Rattle.ranking.specs.Ranking.{Someone, Taken}
-use Rattle.peel.specs.Peel.{Held}
 use Rattle.peel.specs.Slots.{Linked}
 use Rattle.peel.specs.Steps.{entry, Ranked, Loosable, Loosened, Turned}
 use Rattle.peel.proofs.Leavers.{leaver-at, remainder-full}
@@ -32,7 +31,7 @@ unfolding remainder
 turning-start g order falls work r =
     record { ranked = r; turned = record { order-is = written-none (entry (leaving g)) order; falls-are = written-none (leaving-degree g) falls } }
 
-module _ (n m : ℕ) (ends weights : List ℕ) (h : Held n m ends weights) (i : ℕ) (l : i < n)
+module _ (n m : ℕ) (ends weights : List ℕ) (h : Held-words n m ends weights) (i : ℕ) (l : i < n)
     (order falls work order′ falls′ : List ℕ) (t : Turning (list-in n m ends weights) i order falls work order′ falls′) where
   abbrev g : Pairs
   g = list-in n m ends weights

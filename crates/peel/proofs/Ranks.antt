@@ -15,7 +15,7 @@ use borrow.Author.Tests.{ltb-true, ltb-false}
 use Rattle.theory.specs.Lists.{Pairs}
 use Rattle.theory.specs.Groups.{is-in, everyone}
 use Rattle.theory.specs.Leaving.{degree, leaver}
-use Rattle.theory.specs.Words.{pairs-in, list-in}
+use Rattle.theory.specs.Words.{pairs-in, list-in, Held-words}
 use Rattle.theory.specs.Promise.{Leaver-fewest, Leaver-lowest}
 use Rattle.theory.proofs.Tests.{tests, fails}
 use Rattle.theory.proofs.Lists.{proper}
@@ -25,13 +25,12 @@ use Rattle.theory.proofs.Peeling.{degree-leave}
 use Rattle.ranking.specs.declared.Leaver.{Leaver}
 use Rattle.ranking.specs.Ranking.{has, carries, Someone, Buildable, Built, Taken}
 use Rattle.ranking.proofs.Order.{has-below, key-first}
-use Rattle.peel.specs.Peel.{Held}
 use Rattle.peel.specs.Slots.{slot-joint, Ends, Linked, Indexed}
 use Rattle.peel.specs.Steps.{Ranked, Loosable, Loosened}
 use Rattle.peel.proofs.Words.{few-modules, held-ends}
 use Rattle.peel.proofs.Slots.{degree-slots, joint-slots, slot-degree-le}
 
-module _ (n m : ℕ) (ends weights : List ℕ) (h : Held n m ends weights) where
+module _ (n m : ℕ) (ends weights : List ℕ) (h : Held-words n m ends weights) where
   -- the list that lies in the words
   abbrev g : Pairs
   g = list-in n m ends weights

@@ -15,11 +15,10 @@ use lib.ListN.{getD}
 use borrow.Author.Tests.{eqb-true, eqb-false}
 use Rattle.theory.specs.Basics.{table, all}
 use Rattle.theory.specs.Lists.{ends-in-range, smaller-first, weight-in-range, is-list}
-use Rattle.theory.specs.Words.{word-pair, pairs-in, list-in}
+use Rattle.theory.specs.Words.{word-pair, pairs-in, list-in, Held-words}
 use Rattle.theory.proofs.Tests.{tests}
 use Rattle.theory.proofs.Tables.{length-table}
 use Rattle.theory.proofs.Lists.{Listed, listed}
-use Rattle.peel.specs.Peel.{Held}
 use Rattle.peel.specs.Slots.{Ends}
 
 -- a test of all entries of a table holds of each
@@ -69,7 +68,7 @@ module _ (n m : ℕ) (ends weights : List ℕ) (h : is-list (list-in n m ends we
           let same : s ≡ 2 * (s / 2) + 1 = omega (arith, eqb-false (s % 2) 0 e) in
           rw same (g .below)
 
-pub held-ends : (n m : ℕ) (ends weights : List ℕ) → Held n m ends weights → Ends m ends weights
+pub held-ends : (n m : ℕ) (ends weights : List ℕ) → Held-words n m ends weights → Ends m ends weights
 held-ends n m ends weights h =
     record {
       few = few-pairs n m ends weights (h .listed);

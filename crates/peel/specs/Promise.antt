@@ -18,6 +18,7 @@ use Rattle.peel.specs.declared.Remainder.{Remainder}
 use Rattle.peel.specs.Places.{place-in}
 use Rattle.peel.specs.Peel.{Peels}
 
+-- of the buffers and the remainder that one call leaves
 pub record Peel-promise (g : Pairs) (least : ℕ) (order′ cores′ place′ : List ℕ) (r : Remainder) : Type 0 where
   -- for every module the core number written is the largest k such that a group in which each member has at least k inside holds it
   pub core-exact : (m : ℕ) → m < g .n → Largest-order g m (getD cores′ m 0)
@@ -35,6 +36,7 @@ pub record Peel-promise (g : Pairs) (least : ℕ) (order′ cores′ place′ : 
   pub densest : (i : ℕ) → i + least ≤ g .n → at-most g (remainder g i) (remainder g (r .at)) ≡ true
   pub larger : (i : ℕ) → i + least ≤ g .n → at-most g (remainder g (r .at)) (remainder g i) ≡ true → r .at ≤ i
 
+-- so of every call
 unfoldable pub Peel-promised : Type 0
 Peel-promised =
     (g : Pairs) (least : ℕ) (order cores place order′ cores′ place′ : List ℕ) (r : Remainder) → is-list g ≡ true → 1 ≤ least → least ≤ g .n →

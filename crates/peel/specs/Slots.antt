@@ -31,10 +31,11 @@ slot-of es ws v s = cond (eqb (getD es s 0) v) (getD ws (s / 2) 0) 0
 unfoldable pub slot-to : (ends weights : List ℕ) → (u v s : ℕ) → ℕ
 slot-to es ws u v s = cond (eqb (getD es s 0) v && eqb (getD es (mate s) 0) u) (getD ws (s / 2) 0) 0
 
--- what the first k slots give v, and what they have between v and u
+-- what the first k slots give v
 unfoldable pub slot-degree : (ends weights : List ℕ) → (v k : ℕ) → ℕ
 slot-degree es ws v k = upto k (slot-of es ws v)
 
+-- what they have between v and u
 unfoldable pub slot-joint : (ends weights : List ℕ) → (u v k : ℕ) → ℕ
 slot-joint es ws u v k = upto k (slot-to es ws u v)
 

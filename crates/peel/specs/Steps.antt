@@ -89,10 +89,12 @@ remaining n falls i = upto n (entry falls) - upto i (entry falls)
 unfoldable pub pick : (n : ℕ) → (f : ℕ → ℕ) → (i j : ℕ) → ℕ
 pick n f i j = cond (leb (f j * (n - i)) (f i * (n - j))) i j
 
+-- the pick of 0, 1, .., i
 unfoldable pub picks : (n : ℕ) → (f : ℕ → ℕ) → (i : ℕ) → ℕ
 picks n f zero = 0
 picks n f (suc i) = pick n f (picks n f i) (suc i)
 
+-- the falls of n modules, of which 1 to n are asked to remain
 pub record Pickable (n least : ℕ) (falls : List ℕ) : Type 0 where
   pub few : n ≤ 512
   pub some : 1 ≤ least

@@ -7,8 +7,8 @@ ghost use mathlib.Core.Path.{_≡_};
 ghost use Prim.Native.Nat.{_+_, _*_, _-_, _≤_, _<_, max};
 ghost use lib.ListN.{length};
 ghost use Rattle.theory.specs.Groups.{everyone};
-ghost use Rattle.theory.specs.Words.{list-in};
-ghost use Rattle.peel.specs.Peel.{Held, Peelable, Peels};
+ghost use Rattle.theory.specs.Words.{list-in, Held-words};
+ghost use Rattle.peel.specs.Peel.{Peelable, Peels};
 ghost use Rattle.peel.specs.Slots.{mate, upto, Ends, Linked, Indexed};
 ghost use Rattle.peel.specs.Steps.{Ranked, Loosable, Loosened, Turned, Numberable, Numbered};
 ghost use Rattle.peel.specs.Steps.{entry, remaining, picks, denser, Pickable, Remainder-at};
@@ -96,7 +96,7 @@ fn turns(
     order: &mut [u32],
     falls: &mut [u32],
 )
-    requires { ⌜ Held n m (now ends) (now weights) ⌝ }
+    requires { ⌜ Held-words n m (now ends) (now weights) ⌝ }
     requires { ⌜ Linked (2 * m) (now ends) (now first) (now next) ⌝ }
     requires { ⌜ Ranked (list-in n m (now ends) (now weights)) (everyone (list-in n m (now ends) (now weights))) (now work) ⌝ }
     requires { ⌜ n ≤ length (now order) ⌝ }
@@ -187,7 +187,7 @@ pub fn peel(
     cores: &mut [u32],
     place: &mut [u32],
 ) -> Remainder
-    requires { ⌜ Held n m (now ends) (now weights) ⌝ }
+    requires { ⌜ Held-words n m (now ends) (now weights) ⌝ }
     requires { ⌜ Peelable n least (now order) (now cores) (now place) ⌝ }
     ensures { λ r. ⌜ Peels (list-in n m (now (ends .entry)) (now (weights .entry))) least
         (now (order .entry)) (now (cores .entry)) (now (place .entry))

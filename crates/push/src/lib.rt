@@ -1,7 +1,8 @@
 // Push phases (push-relabel): they balance a split before the exact search of crate `flow`, which is what decides.
 //
-// A phase gives each module a label: its distance from a module of the scope loaded below p, along slots that hold units (breadth first, backward). Modules loaded above p then stand in line: the first one sends what it has too much to modules with a lower label, gets a label just above
-// the lowest that it can reach, and lines up again if it still has too much. Where the line's 1,024 places are used up, the phase ends.
+// A phase gives each module a label: its distance from a module of the scope loaded below p, along slots that hold units (breadth first,
+// backward). Modules loaded above p then stand in line. The first one sends what it has too much to modules with a lower label, gets a label just
+// above the lowest that it can reach, and lines up again if it still has too much. Where the line's 1,024 places are used up, the phase ends.
 // Whatever the labels say, units move within pairs only (`slots::shift`): the promise is that a split stays a split. How well it is balanced is free.
 // Cost: a phase takes a step for each slot of the modules that it labels and of those that come up in line. Nothing is refused.
 use slots::capped;
@@ -10,14 +11,12 @@ use slots::other;
 use slots::shift;
 use slots::short;
 use slots::wide;
-
-// The label of a module from which no units were seen to come to one loaded below p: higher than any distance.
-const FAR: u32 = 1024;
-
-ghost use mathlib.Core.Path.{_≡_};
 ghost use Prim.Native.Nat.{_*_, _≤_, _<_};
 ghost use lib.ListN.{length};
 ghost use Rattle.slots.specs.Slots.{Ends, Room, Covers, Kept};
+
+// The label of a module from which no units were seen to come to one loaded below p: higher than any distance.
+const FAR: u32 = 1024;
 
 // v joins a line of `tail` entries where there is a place left; the line's new length. What the line holds is free.
 fn join(v: u32, tail: usize, line: &mut [u32]) -> usize

@@ -24,6 +24,7 @@ use Rattle.records.specs.declared.Head.{Head}
 unfoldable pub as-pair : Pair → Lists.Pair
 as-pair p = pair (p .a) (p .b)
 
+-- the pairs that some records stand for
 unfoldable pub as-pairs : List Pair → List Lists.Pair
 as-pairs ps = map as-pair ps
 
@@ -52,6 +53,7 @@ laid-out ps ws m = ends-of (take m ps) ++ drop (2 * m) ws
 unfoldable pub word-record : List ℕ → ℕ → Pair
 word-record ws j = record { a = getD ws (2 * j) 0; b = getD ws (2 * j + 1) 0 }
 
+-- the first m of them
 unfoldable pub records-in : ℕ → List ℕ → List Pair
 records-in m ws = table m (word-record ws)
 

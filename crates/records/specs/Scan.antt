@@ -5,7 +5,7 @@
 --   step-of     one record more
 --   scan        a list of records
 -- Assumes nothing: these are definitions.
-use mathlib.Core.Bool.{Bool, true, false, _&&_, cond}
+use mathlib.Core.Bool.{Bool, _&&_, cond}
 use mathlib.Core.List.{List, [], _∷_}
 use Prim.Native.Nat.{ℕ}
 use lib.Dec.{leb, ltb}
@@ -30,6 +30,7 @@ reach-of h ok = cond ok (h .m) 0
 unfoldable pub step-of : (n : ℕ) → Seen → (a b : ℕ) → Seen
 step-of n s a b = record { ok = s .ok && (ltb b n && (ltb a b && stands-before (pair (s .a) (s .b)) (pair a b))); a = a; b = b }
 
+-- one after the other
 unfoldable pub scan : (n : ℕ) → Seen → List Pair → Seen
 scan n s [] = s
 scan n s (p ∷ ps) = scan n (step-of n s (p .a) (p .b)) ps

@@ -1,5 +1,5 @@
 -- A sheet that has been read, judged.
---   list-ones, lent-ones, peel-ones              a list in words with weights of 1, as check and peel take it
+--   list-ones, held-ones                         a list in words with weights of 1, as check and peel take it
 --   checked, cores-few                           what check says of whole buffers; how many core numbers there are
 --   p-differs, q-differs, k-differs, size-differs, head-agrees     what each way through judge_head gives
 --   check-then                                   where check accepts, the causes behind decide
@@ -19,9 +19,9 @@ use lib.Seq.{take-all, length-take-le, take-at}
 use Rattle.theory.specs.Lists.{Pair, Pairs, is-list}
 use Rattle.theory.specs.Groups.{inside, size}
 use Rattle.theory.specs.Splits.{rounded-up}
-use Rattle.theory.specs.Words.{list-in}
+use Rattle.theory.specs.Words.{list-in, Held-words}
 use Rattle.theory.specs.Cores.{core, core-number, core-numbers}
-use Rattle.theory.specs.Refusals.{Cause, cause, refusal}
+use Rattle.theory.specs.Refusals.{Cause, cause, refusal, if-taken}
 use Rattle.theory.specs.Check.{check-causes, check-number}
 use Rattle.theory.proofs.Tests.{tests}
 use Rattle.theory.proofs.Tables.{length-table}
@@ -35,9 +35,7 @@ use Rattle.pairfile.specs.declared.Reading.{Reading}
 use Rattle.pairfile.proofs.Judged.{judge-refused}
 use Rattle.pairfile.proofs.Accepts.{accepted as file-accepted}
 use Rattle.pairfile.proofs.Readings.{reading-taken, reading-refused}
-use Rattle.peel.specs.Peel.{Held}
-use Rattle.verify.specs.Lent.{Lent}
-use Rattle.verify.specs.Answers.{unless-refused, refused-by, Check-says}
+use Rattle.verify.specs.Answers.{refused-by, Check-says}
 use Rattle.verify.specs.declared.Verdict.{Verdict}
 use Rattle.sheetfile.specs.Sheet.{Sheet, read-sheet}
 use Rattle.sheetfile.specs.Audit.{ratio-good, core-good, head-causes, sheet-causes, audit-sheet, audit, verdict-of}
@@ -53,11 +51,8 @@ module _ {n m : ℕ} {ends weights : List ℕ} (o : Ones n m ends weights) where
   unfolding list-in list-of
   list-ones = ap (λ (ps : List Pair). record { n = n; pairs = ps }) (pairs-ones m ends weights (o .once))
 
-  pub lent-ones : Lent n m ends weights
-  lent-ones = record { held = rw list-ones (o .held); ends-enough = o .long; weights-enough = o .weights-long }
-
-  pub peel-ones : Held n m ends weights
-  peel-ones = record { listed = rw list-ones (o .held); ends-long = o .long; weights-long = o .weights-long }
+  pub held-ones : Held-words n m ends weights
+  held-ones = record { listed = rw list-ones (o .held); ends-long = o .long; weights-long = o .weights-long }
 
 -- what check says of the whole of two buffers
 pub checked : {n m : ℕ} {ends weights : List ℕ} → Ones n m ends weights → {s xs : List ℕ} {v : Verdict} → length s ≡ n → length xs ≡ m →
@@ -137,7 +132,7 @@ module _ (g : Pairs) (bytes : List ℕ) {s xs : List ℕ} {h : Head} (r : SheetR
     module _ {v : Verdict} (c : Check-says g s xs v) where
       -- 7, 8, 9
       pub check-refused : (v .number ≡ 0 → ⊥) → v ≡ verdict-of (audit-sheet g bytes)
-      unfolding sheet-causes sheet-of check-number verdict-of _>>_ unless-refused
+      unfolding sheet-causes sheet-of check-number verdict-of _>>_ if-taken
       check-refused n =
           let k : ℕ = check-number g s xs in
           let k-some : k ≡ 0 → ⊥ = λ e. n (c .number ∙ e) in
@@ -155,11 +150,11 @@ module _ (g : Pairs) (bytes : List ℕ) {s xs : List ℕ} {h : Head} (r : SheetR
         accepted = sym (c .number) ∙ none
 
         p-is : v .p ≡ inside g s
-        unfolding unless-refused
+        unfolding if-taken
         p-is = c .p ∙ ap (λ (t : Bool). cond t (inside g s) 0) (eq-eqb (check-number g s xs) 0 accepted)
 
         q-is : v .q ≡ size s
-        unfolding unless-refused
+        unfolding if-taken
         q-is = c .q ∙ ap (λ (t : Bool). cond t (size s) 0) (eq-eqb (check-number g s xs) 0 accepted)
 
         ratio-test : (eqb (h .p) (v .p) && eqb (h .q) (v .q)) ≡ ratio-good g read

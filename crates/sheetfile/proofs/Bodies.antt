@@ -114,7 +114,7 @@ abbrev pub head-in : (number : ℕ) → (numbers : List ℕ) → Head
 head-in k ns = record { number = k; p = getD ns 0 0; q = getD ns 1 0; k = getD ns 2 0; coresize = getD ns 3 0 }
 
 -- 101
-pub head-none : {bs ns : List ℕ} {r : FoundLine} → LineFound bs 0 head-form ns r → (g : Pairs) (s xs : List ℕ) → r ≡ Malformed →
+pub head-none : {bs ms ns : List ℕ} {r : FoundLine} → LineFound bs 0 head-form ms ns r → (g : Pairs) (s xs : List ℕ) → r ≡ Malformed →
     SheetRead (read-sheet g bs) s xs (refused-head 101)
 unfolding read-sheet due _>>=_ unless-number
 head-none f g s xs e = record { found = rw (malformed f e); some = λ z. absurd (omega (arith, z)) }

@@ -114,7 +114,7 @@ module _ {bs : List ℕ} {at : ℕ} {r : FoundNumber} (f : CountFound bs at numb
   number-fit {v} {i} e h = line-fit number-form _ first bs at _ (one-of f e) 104 v i (rw (eq-eqb v c h)) refl refl (one-within f e)
 
 -- a share line
-pub share-none : {bs : List ℕ} {at : ℕ} {ns : List ℕ} {r : FoundLine} → LineFound bs at share-form ns r → (a b : ℕ) → r ≡ Malformed →
+pub share-none : {bs : List ℕ} {at : ℕ} {ms ns : List ℕ} {r : FoundLine} → LineFound bs at share-form ms ns r → (a b : ℕ) → r ≡ Malformed →
     LineRead bs (share-line a b (drop at bs)) (refused-line 101)
 unfolding share-line
 share-none {bs} {at} f a b e = line-none share-form _ third bs at (malformed f e)

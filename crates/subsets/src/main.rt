@@ -1,6 +1,6 @@
-// Solve against a plain second computation (module `plain`) that tries every subset: group, P, Q, K and core size of every list on up to 5
-// modules and of thousands of lists of up to 12 modules; and the sheet of each put to check. Then lists of 512 modules and up to 4,096 pairs of
-// several kinds: K and core size, and the sheet put to check. Prints a line for each kind: lists tried and their pairs, how many of them words
+// Solve against a plain second computation (module `plain`) that tries every subset: group, P, Q, K, core size and core numbers of every list on up
+// to 5 modules and of thousands of lists of up to 12 modules; and the sheet of each put to check. Then lists of 512 modules and up to 4,096 pairs of
+// several kinds: K, the core of order K and the next one, and the sheet put to check. Prints a line for each kind: lists tried and their pairs, how many of them words
 // did not hold, and how many answers differ. Then answers with one thing altered, each of which must differ; a sheet with no pairs has no share
 // to alter.
 mod plain;
@@ -27,6 +27,7 @@ enum Altered {
     Size,
     Order,
     Core,
+    Number,
     Share,
 }
 
@@ -89,8 +90,14 @@ fn flip(members: &mut [u8], v: usize) {
     }
 }
 
-// Alters one thing of solve's answer: a member byte, a number of the record, or the first share, which passes Q.
-fn alter(altered: Altered, solution: Solution, members: &mut [u8], shares: &mut [u32]) -> Solution {
+// Alters one thing of solve's answer: a member byte, a number of the record, a core number, or the first share, which passes Q.
+fn alter(
+    altered: Altered,
+    solution: Solution,
+    members: &mut [u8],
+    cores: &mut [u32],
+    shares: &mut [u32],
+) -> Solution {
     let mut answer = solution;
     match altered {
         Altered::Nothing => {}
@@ -99,6 +106,7 @@ fn alter(altered: Altered, solution: Solution, members: &mut [u8], shares: &mut 
         Altered::Size => answer.q = one_more(answer.q),
         Altered::Order => answer.k = one_more(answer.k),
         Altered::Core => answer.core = one_more(answer.core),
+        Altered::Number => lists::bump(cores, 0),
         Altered::Share => lists::put_word(shares, 0, one_more(answer.q)),
     }
     answer
@@ -165,6 +173,53 @@ fn core_right(n: usize, pairs: &[u32], answer: Solution) -> bool {
     answer.core == plain::core_size(n, answer.k, pairs)
 }
 
+// 1 where a core number is k or more, else 0.
+fn reaches(k: u32, number: u32) -> u32 {
+    if k <= number { 1 } else { 0 }
+}
+
+// Whether the modules with core number k or more are those of a set.
+fn same_core(n: usize, k: u32, cores: &[u32], set: &[u32]) -> bool {
+    let mut v = 0;
+    while v < n {
+        if reaches(k, lists::word_at(cores, v)) != lists::word_at(set, v) {
+            return false;
+        }
+        v += 1;
+    }
+    true
+}
+
+// Whether they are the core of order k.
+fn order_right(n: usize, k: u32, pairs: &[u32], cores: &[u32]) -> bool {
+    let mut set = [1u32; 512];
+    plain::shrink(n, k, pairs, &mut set);
+    same_core(n, k, cores, &set)
+}
+
+// The same for every order up to n, which no core number reaches.
+fn orders_right(n: u32, pairs: &[u32], cores: &[u32]) -> bool {
+    let mut k = 0;
+    while k < n {
+        k += 1;
+        if !order_right(wide(n), k, pairs, cores) {
+            return false;
+        }
+    }
+    true
+}
+
+// Whether the core numbers are right: of lists of 13 modules and more, those of order k and the next one.
+fn cores_right(n: u32, k: u32, pairs: &[u32], cores: &[u32]) -> bool {
+    if n < 13 {
+        return orders_right(n, pairs, cores);
+    }
+    if !order_right(wide(n), k, pairs, cores) {
+        return false;
+    }
+    order_right(wide(n), one_more(k), pairs, cores)
+}
+
 // Whether the group is right, where every subset can be tried.
 fn group_fits(n: u32, pairs: &[u32], members: &[u8], answer: Solution) -> bool {
     if n < 13 {
@@ -175,8 +230,18 @@ fn group_fits(n: u32, pairs: &[u32], members: &[u8], answer: Solution) -> bool {
 }
 
 // Whether solve's answer is right.
-fn agrees(n: u32, pairs: &[u32], members: &[u8], answer: Solution, verdict: Verdict) -> bool {
+fn agrees(
+    n: u32,
+    pairs: &[u32],
+    members: &[u8],
+    cores: &[u32],
+    answer: Solution,
+    verdict: Verdict,
+) -> bool {
     if !group_fits(n, pairs, members, answer) {
+        return false;
+    }
+    if !cores_right(n, answer.k, pairs, cores) {
         return false;
     }
     if !core_right(wide(n), pairs, answer) {
@@ -188,6 +253,7 @@ fn agrees(n: u32, pairs: &[u32], members: &[u8], answer: Solution, verdict: Verd
 // Solves a list, puts the sheet to check, and compares.
 fn compare(n: u32, m: usize, ends: &[u32], weights: &[u32], altered: Altered) -> Outcome {
     let mut members = [0u8; 512];
+    let mut cores = [0u32; 512];
     let mut shares = [0u32; 4096];
     let mut sheet = [0u16; 4096];
     let size = wide(n);
@@ -196,11 +262,19 @@ fn compare(n: u32, m: usize, ends: &[u32], weights: &[u32], altered: Altered) ->
     }
     let words = 2 * m;
     let pairs = &ends[..words];
-    let solution = densest::solve(size, m, ends, weights, &mut members, &mut shares);
-    let answer = alter(altered, solution, &mut members, &mut shares);
+    let solution = densest::solve(
+        size,
+        m,
+        ends,
+        weights,
+        &mut members,
+        &mut cores,
+        &mut shares,
+    );
+    let answer = alter(altered, solution, &mut members, &mut cores, &mut shares);
     copy_shares(m, &shares, &mut sheet);
     let verdict = verify::check_words(size, m, ends, weights, &members, &sheet);
-    if agrees(n, pairs, &members, answer, verdict) {
+    if agrees(n, pairs, &members, &cores, answer, verdict) {
         Outcome::Same
     } else {
         Outcome::Differs
@@ -384,5 +458,6 @@ fn main() {
     line(b"Q altered", every(Altered::Size));
     line(b"K altered", every(Altered::Order));
     line(b"core size altered", every(Altered::Core));
+    line(b"core number altered", every(Altered::Number));
     line(b"share altered", every(Altered::Share));
 }

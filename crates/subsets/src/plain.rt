@@ -164,8 +164,8 @@ fn drop_below(n: usize, k: u32, pairs: &[u32], set: &mut [u32]) -> bool {
     dropped
 }
 
-// Rounds until nothing drops, at most one for each module.
-fn shrink(n: usize, k: u32, pairs: &[u32], set: &mut [u32]) {
+// Leaves the core of order k of a set: rounds until nothing drops, at most one for each module.
+pub(crate) fn shrink(n: usize, k: u32, pairs: &[u32], set: &mut [u32]) {
     let mut round = 0;
     while round < n {
         if !drop_below(n, k, pairs, set) {

@@ -2,7 +2,7 @@
 use Rattle.theory.specs.Promise.{Equal-best, Check-best, Accepted-exactly, Accepted-optimal, Found-there, Found-alone, Found-largest, Found-no-pairs}
 use Rattle.theory.specs.Promise.{Split-densest, Split-there, Found-in-core, Core-exact, Core-members, Union-densest, Shared-densest, Leaver-fewest}
 use Rattle.theory.specs.Promise.{Leaver-lowest, Leaver-there, Leaving-steps, Leaving-everyone, Leaver-core, Cores-never-fall, Outside-first, Floats-in-order}
-use Rattle.theory.specs.Promise.{Ratios-in-order, Rounded-once, Surplus-zero, Surplus-above, Surplus-below}
+use Rattle.theory.specs.Promise.{Ratios-in-order, Rounded-once, Surplus-signed}
 use Rattle.theory.specs.Cases.{Starred-cases}
 use Rattle.theory.proofs.Groups as groups
 use Rattle.theory.proofs.Duality as duality
@@ -106,14 +106,8 @@ ratios-in-order = bounds.ratios-in-order
 pub rounded-once : Rounded-once
 rounded-once = floats.rounded-once
 
-pub surplus-zero : Surplus-zero
-surplus-zero = difference.surplus-zero
-
-pub surplus-above : Surplus-above
-surplus-above = difference.surplus-above
-
-pub surplus-below : Surplus-below
-surplus-below = difference.surplus-below
+pub surplus-signed : Surplus-signed
+surplus-signed = difference.surplus-signed
 
 -- ---- the ten starred lists
 

@@ -10,7 +10,7 @@
 --   split       Split-densest, Split-there
 --   cores       Core-exact, Core-members, Found-in-core
 --   leaving     Leaver-fewest, Leaver-lowest, Leaver-there, Leaving-steps, Leaving-everyone, Leaver-core, Cores-never-fall, Outside-first
---   ratios      In-order, Floats-in-order, Ratios-in-order, Rounded-once, Surplus-zero, Surplus-above, Surplus-below
+--   ratios      In-order, Floats-in-order, Ratios-in-order, Rounded-once, Surplus-signed
 -- Assumes nothing: these are definitions.
 use mathlib.Core.Path.{_≡_}
 use mathlib.Core.Bool.{true, false}
@@ -20,8 +20,6 @@ use mathlib.Core.Option.{some}
 use Prim.Native.Nat.{ℕ, suc, _*_, _≤_, _<_}
 use lib.Dec.{ltb, leb, eqb}
 use lib.ListN.{length, getD}
-use lib.IntN.{pos}
-use lib.Signed.{ltZ}
 use lib.Ieee.{binary64, round, lt, le, eq}
 use Rattle.theory.specs.Basics.{greatest}
 use Rattle.theory.specs.Lists.{Pairs, is-list}
@@ -29,7 +27,7 @@ use Rattle.theory.specs.Groups.{is-in, size, is-group, everyone, inside,
 use Rattle.theory.specs.Leaving.{degree, leaver, leaving, remainder, leaving-degree, before}
 use Rattle.theory.specs.Cores.{each-has, core, core-number}
 use Rattle.theory.specs.Splits.{is-split, greatest-load, core-order, outside-good}
-use Rattle.theory.specs.Surplus.{surplus}
+use Rattle.theory.specs.Surplus.{surplus, Signed}
 use Rattle.theory.specs.Ratio.{float-ratio}
 use Rattle.theory.specs.Check.{check-number}
 
@@ -64,6 +62,8 @@ Accepted-exactly =
 
 -- what is said of a group s with shares xs that solve hands out or check accepts, and of the P and Q returned
 pub record Optimal (g : Pairs) (s xs : List ℕ) (p q : ℕ) : Type 0 where
+  -- ratio and greatest load over share size are equal
+  pub equal : inside g s * q ≡ greatest-load g q xs * size s
   -- P and Q are the group's inside count and size
   pub inside-count : p ≡ inside g s
   pub modules : q ≡ size s
@@ -216,14 +216,6 @@ Ratios-in-order =
 unfoldable pub Rounded-once : Type 0
 Rounded-once = (p q : ℕ) → p ≤ 4096000 → 1 ≤ q → q ≤ 512 → float-ratio p q ≡ round binary64 false p q
 
--- surplus is zero exactly when the ratios are equal
-unfoldable pub Surplus-zero : Type 0
-Surplus-zero = (g : Pairs) (t s : List ℕ) → (surplus g t s ≡ pos 0) ↔ (inside g t * size s ≡ inside g s * size t)
-
--- above zero exactly when t is denser
-unfoldable pub Surplus-above : Type 0
-Surplus-above = (g : Pairs) (t s : List ℕ) → ltZ (pos 0) (surplus g t s) ≡ ltb (inside g s * size t) (inside g t * size s)
-
--- and below zero exactly when s is
-unfoldable pub Surplus-below : Type 0
-Surplus-below = (g : Pairs) (t s : List ℕ) → ltZ (surplus g t s) (pos 0) ≡ ltb (inside g t * size s) (inside g s * size t)
+-- surplus is zero exactly when the ratios are equal, and otherwise its sign says which group is denser
+unfoldable pub Surplus-signed : Type 0
+Surplus-signed = (g : Pairs) (t s : List ℕ) → Signed g t s (surplus g t s)

@@ -10,25 +10,25 @@ use mathlib.Core.List.{List}
 use Prim.Native.Nat.{ℕ, suc, _*_, _≤_, _<_}
 use native.Mathlib.Omega.{arith}
 use lib.Dec.{leb, eqb, eqb·suc-zero}
-use lib.ListN.{length, take}
+use lib.ListN.{length, getD, take}
 use lib.IntN.{ℤ, pos, _-ℤ_}
 use borrow.Author.Tests.{le-leb, lt-leb}
 use Rattle.theory.specs.Basics.{greatest}
 use Rattle.theory.specs.Lists.{Pairs, is-list}
 use Rattle.theory.specs.Groups.{is-group, inside, size, bytes-good}
 use Rattle.theory.specs.Splits.{shares-good, load, greatest-load}
-use Rattle.theory.specs.Refusals.{cause, refusal}
+use Rattle.theory.specs.Refusals.{cause, refusal, if-taken}
 use Rattle.theory.specs.Check.{loads-good, check-causes, check-number}
 use Rattle.theory.specs.Surplus.{surplus, surplus-causes, surplus-number}
-use Rattle.theory.specs.Promise.{Accepted-optimal, Surplus-zero, Surplus-above, Surplus-below}
+use Rattle.theory.specs.Promise.{Accepted-optimal, Surplus-signed}
 use Rattle.theory.specs.Words.{pairs-in, list-in}
 use Rattle.theory.proofs.Tests.{tests}
 use Rattle.theory.proofs.Tables.{greatest-ext}
 use Rattle.theory.proofs.Duality.{accepted-optimal}
-use Rattle.theory.proofs.Surplus.{surplus-zero, surplus-above, surplus-below}
+use Rattle.theory.proofs.Surplus.{surplus-signed}
 use Rattle.verify.specs.declared.Verdict.{Verdict}
-use Rattle.verify.specs.Lent.{counted, at}
-use Rattle.verify.specs.Answers.{unless-refused, refused-by, Check-says, Surplus-says}
+use Rattle.verify.specs.Counts.{counted}
+use Rattle.verify.specs.Answers.{refused-by, Check-says, Surplus-says}
 use Rattle.verify.proofs.Words.{length-first}
 
 -- ---- the count of members
@@ -62,7 +62,7 @@ long-in n m es ws s h = length-first n s h
 
 -- a refusal yields its number and no other value
 refused : (g : Pairs) (s xs : List ℕ) (k : ℕ) → check-number g s xs ≡ suc k → Check-says g s xs (refused-by (suc k))
-unfolding unless-refused
+unfolding if-taken
 refused g s xs k e = record { number = sym e; p = rw (e, eqb·suc-zero); q = rw (e, eqb·suc-zero); optimal = λ z. absurd (omega arith) }
 
 -- what check has found where all shares are good: the list, the count of members, the inside count and the greatest load
@@ -82,10 +82,10 @@ shares-are q m es ws shares fit b h e = sym (h es) ∙ e
 
 -- the greatest of a buffer that has the loads is the greatest load
 pub top-is : (n m : ℕ) (es ws shares : List ℕ) (q : ℕ) (ls : List ℕ) (top : ℕ) →
-    ((v : ℕ) → at ls v ≡ load (list-in n m es ws) q (take m shares) v) → top ≡ greatest n (at ls) →
+    ((v : ℕ) → getD ls v 0 ≡ load (list-in n m es ws) q (take m shares) v) → top ≡ greatest n (λ (v : ℕ). getD ls v 0) →
     top ≡ greatest-load (list-in n m es ws) q (take m shares)
 unfolding greatest-load list-in
-top-is n m es ws shares q ls top h e = e ∙ greatest-ext n (at ls) (load (list-in n m es ws) q (take m shares)) (λ v l. h v)
+top-is n m es ws shares q ls top h e = e ∙ greatest-ext n (λ (v : ℕ). getD ls v 0) (load (list-in n m es ws) q (take m shares)) (λ v l. h v)
 
 module _ (n m : ℕ) (es ws members shares : List ℕ) where
   abbrev g : Pairs
@@ -131,7 +131,7 @@ module _ (n m : ℕ) (es ws members shares : List ℕ) where
 
     -- so group and split are best: demand 3
     pub accepted : top ≤ p → says (record { number = 0; p = p; q = q })
-    unfolding unless-refused Accepted-optimal
+    unfolding if-taken Accepted-optimal
     accepted l =
         let e = passes l in
         let h = sized q (k .long) (k .is-q) (k .some) in
@@ -168,15 +168,9 @@ module _ (n m : ℕ) (es ws first second : List ℕ) (long-first : n ≤ length 
 
   -- either set is no group
   bad : surplus-number g′ t u ≡ 7 → differs 7 (pos 0)
-  unfolding unless-refused
+  unfolding if-taken
   bad e =
-      record {
-        number = sym e;
-        value = rw e;
-        zero = λ z. absurd (omega arith);
-        above = λ z. absurd (omega arith);
-        below = λ z. absurd (omega arith);
-      }
+      record { number = sym e; value = rw e; signs = λ z. absurd (omega arith) }
 
   pub bad-first : a ≡ 0 → differs 7 (pos 0)
   unfolding surplus-number surplus-causes refusal cause
@@ -189,16 +183,10 @@ module _ (n m : ℕ) (es ws first second : List ℕ) (long-first : n ≤ length 
   -- both are: the difference, and what its sign says
   pub valued : (a ≡ 0 → ⊥) → (b ≡ 0 → ⊥) → (p : ℕ) → p ≡ inside (list-in n m es ws) (take n first) →
       (r : ℕ) → r ≡ inside (list-in n m es ws) (take n second) → (v : ℤ) → v ≡ pos (b * p) -ℤ pos (r * a) → differs 0 v
-  unfolding surplus-number surplus-causes refusal cause unless-refused surplus Surplus-zero Surplus-above Surplus-below
+  unfolding surplus-number surplus-causes refusal cause if-taken surplus Surplus-signed
   valued some-first some-second p is-p r is-r v is-v =
       let i = group-some g′ t long-t (λ z. some-first (is-a ∙ z)) in
       let j = group-some g′ u long-u (λ z. some-second (is-b ∙ z)) in
       let e : surplus-number g′ t u ≡ 0 = rw (i .0, j .0) in
       let d : v ≡ surplus g′ t u = cc in
-      record {
-        number = sym e;
-        value = rw e d;
-        zero = λ z. rw d (surplus-zero g′ t u);
-        above = λ z. rw d (surplus-above g′ t u);
-        below = λ z. rw d (surplus-below g′ t u);
-      }
+      record { number = sym e; value = rw e d; signs = λ z. rw d (surplus-signed g′ t u) }

@@ -15,11 +15,11 @@ use Rattle.theory.specs.Basics.{all}
 use Rattle.theory.specs.Lists.{Pair, weight-in-range}
 use Rattle.theory.specs.Groups.{size, bytes-good, inside}
 use Rattle.theory.specs.Splits.{units, received, shares-good, load-of}
-use Rattle.theory.specs.Words.{pairs-in, list-in}
+use Rattle.theory.specs.Words.{pairs-in, list-in, Held-words, Light}
 use Rattle.theory.proofs.Tests.{tests, no}
 use Rattle.theory.proofs.Lists.{listed}
 use Rattle.theory.proofs.Bounds.{inside-bound, size-le-length}
-use Rattle.verify.specs.Lent.{Lent, Light, counted}
+use Rattle.verify.specs.Counts.{counted}
 use Rattle.verify.proofs.Words.{pair-in-range}
 
 -- nobody receives more of a pair than its units
@@ -49,14 +49,14 @@ units-small w q h k = omega (arith, mul-le-mul-right q h)
 
 -- ---- of a lent list
 
-module _ (n m : ℕ) (es ws : List ℕ) (lent : Lent n m es ws) where
+module _ (n m : ℕ) (es ws : List ℕ) (lent : Held-words n m es ws) where
   pub lent-few : n ≤ 512
   unfolding list-in
-  lent-few = listed (list-in n m es ws) (lent .held) .few
+  lent-few = listed (list-in n m es ws) (lent .listed) .few
 
   pub lent-light : Light m ws
   unfolding Light
-  lent-light j l = pair-in-range n m es ws j (lent .held) l .light
+  lent-light j l = pair-in-range n m es ws j (lent .listed) l .light
 
   -- a count of members is at most n
   pub counted-small : (s : List ℕ) → counted (take n s) ≤ 512
@@ -68,11 +68,11 @@ module _ (n m : ℕ) (es ws : List ℕ) (lent : Lent n m es ws) where
       go false e = omega arith
 
   pub inside-small : (s : List ℕ) → inside (list-in n m es ws) s ≤ 4096000
-  inside-small s = inside-bound (list-in n m es ws) s (lent .held)
+  inside-small s = inside-bound (list-in n m es ws) s (lent .listed)
 
   -- no load is above 4,096 times 1,000 times 512
   pub load-small : (q v : ℕ) (xs : List ℕ) → q ≤ 512 → shares-good q (pairs-in m es ws) xs ≡ true → load-of q v (pairs-in m es ws) xs ≤ 2097152000
   unfolding list-in
   load-small q v xs h good =
-      let g = listed (list-in n m es ws) (lent .held) in
+      let g = listed (list-in n m es ws) (lent .listed) in
       omega (arith, load-le q v (pairs-in m es ws) xs (g .weights) good, mul-le-mul-right (1000 * q) (g .short))

@@ -10,9 +10,10 @@ use native.Mathlib.Omega.{arith}
 use lib.ListN.{length, getD, take, drop}
 use lib.Seq.{getD-take}
 use borrow.Author.Tests.{le-leb, lt-leb}
+use Rattle.theory.specs.Lists.{pair}
 use Rattle.theory.specs.Groups.{is-in, size, bytes-good, holds-pair, inside-of, inside}
-use Rattle.theory.specs.Words.{word-pair, pairs-in, list-in}
-use Rattle.verify.specs.Lent.{Lent, counted, inside-weight}
+use Rattle.theory.specs.Words.{word-pair, pairs-in, list-in, Held-words}
+use Rattle.verify.specs.Counts.{counted, inside-weight}
 use Rattle.verify.proofs.Words.{left-none, length-first, first-left, length-pairs, pairs-left, pair-in-range}
 use Rattle.verify.proofs.Bounds.{inside-small}
 
@@ -68,7 +69,7 @@ pub record Gathering (n m : ℕ) (es ws s : List ℕ) (j count : ℕ) : Type 0 w
   -- with the pairs left it is the whole
   pub sum : count + inside-of (drop j (pairs-in m es ws)) (take n s) ≡ inside-of (pairs-in m es ws) (take n s)
 
-module _ (n m : ℕ) (es ws s : List ℕ) (lent : Lent n m es ws) where
+module _ (n m : ℕ) (es ws s : List ℕ) (lent : Held-words n m es ws) where
   -- the count fits
   pub gathered-small : (j count : ℕ) → Gathering n m es ws s j count → count ≤ 4096000
   unfolding inside list-in
@@ -80,9 +81,9 @@ module _ (n m : ℕ) (es ws s : List ℕ) (lent : Lent n m es ws) where
   -- pair j, with the ends a and b, adds x
   pub gathering-goes-on : (j count a b x : ℕ) → Gathering n m es ws s j count → j < m → a ≡ getD es (2 * j) 0 → b ≡ getD es (2 * j + 1) 0 →
       x ≡ inside-weight s a b (getD ws j 0) → Gathering n m es ws s (j + 1) (count + x)
-  unfolding inside-of holds-pair word-pair inside-weight
+  unfolding inside-of holds-pair word-pair pair inside-weight
   gathering-goes-on j count a b x k l ea eb ex =
-      let r = pair-in-range n m es ws j (lent .held) l in
+      let r = pair-in-range n m es ws j (lent .listed) l in
       let ia : is-in (take n s) (getD es (2 * j) 0) ≡ is-in s a = rw ea (is-in-first n s (getD es (2 * j) 0) (omega arith)) in
       let ib : is-in (take n s) (getD es (2 * j + 1) 0) ≡ is-in s b = rw eb (is-in-first n s (getD es (2 * j + 1) 0) (omega arith)) in
       record { upto = omega arith; sum = omega (arith, rw (pairs-left m es ws j l, ia, ib) at (k .sum)) }

@@ -16,11 +16,10 @@ use lib.Seq.{getD-set-same}
 use borrow.Author.Tests.{le-leb, lt-leb, eq-eqb}
 use Rattle.theory.specs.Basics.{greatest}
 use Rattle.theory.specs.Splits.{units, received, shares-good, load-of, load}
-use Rattle.theory.specs.Words.{word-pair, pairs-in, list-in}
+use Rattle.theory.specs.Words.{word-pair, pairs-in, list-in, Held-words}
 use Rattle.theory.proofs.Tests.{tests}
 use Rattle.theory.proofs.Tables.{greatest-suc}
 use Rattle.theory.proofs.Duality.{received-ends}
-use Rattle.verify.specs.Lent.{Lent, at}
 use Rattle.verify.proofs.Words.{left-none, length-first, first-left, length-pairs, pairs-left, pair-in-range, set-adds, zeros-at}
 use Rattle.verify.proofs.Bounds.{lent-few, units-small, load-small}
 
@@ -99,7 +98,7 @@ pub record Turn (m q : ℕ) (es ws xs ls : List ℕ) (j a b x : ℕ) : Type 0 wh
   pub second : getD (set ls a (getD ls a 0 + x)) b 0 + (getD ws j 0 * q - x) ≤ 2097152000
   pub next : Loading m q es ws xs (both-more ls a b x (getD ws j 0 * q - x)) (j + 1)
 
-module _ (n m q : ℕ) (es ws xs : List ℕ) (lent : Lent n m es ws) (long : m ≤ length xs) (small : q ≤ 512)
+module _ (n m q : ℕ) (es ws xs : List ℕ) (lent : Held-words n m es ws) (long : m ≤ length xs) (small : q ≤ 512)
     (good : shares-good q (pairs-in m es ws) (take m xs) ≡ true) where
   pub loading-starts : Loading m q es ws xs (replicate 512 0) 0
   loading-starts = record { shares = sharing-starts m q ws xs long; long = length-replicate {A = ℕ} 512 0; sum = λ v. omega (arith, zeros-at 512 v) }
@@ -114,7 +113,7 @@ module _ (n m q : ℕ) (es ws xs : List ℕ) (lent : Lent n m es ws) (long : m �
       Loading m q es ws xs (both-more ls a b x (getD ws j 0 * q - x)) (j + 1)
   unfolding load-of received units word-pair list-in
   loading-goes-on ls j a b x k l ea eb ex =
-      let r = pair-in-range n m es ws j (lent .held) l in
+      let r = pair-in-range n m es ws j (lent .listed) l in
       let below : b < length ls = omega (arith, lent-few n m es ws lent) in
       record {
         shares = sharing-goes-on m q ws xs long j (k .shares) l (share-within m q ws xs long es j (k .shares) good l);
@@ -131,7 +130,7 @@ module _ (n m q : ℕ) (es ws xs : List ℕ) (lent : Lent n m es ws) (long : m �
       a ≡ getD es (2 * j) 0 → b ≡ getD es (2 * j + 1) 0 → x ≡ getD xs j 0 → Turn m q es ws xs ls j a b x
   unfolding both-more list-in
   turn ls j a b x k l ea eb ex =
-      let r = pair-in-range n m es ws j (lent .held) l in
+      let r = pair-in-range n m es ws j (lent .listed) l in
       let y = getD ws j 0 * q - x in
       let ks = set ls a (getD ls a 0 + x) in
       let k′ = loading-goes-on ls j a b x k l ea eb ex in
@@ -156,7 +155,7 @@ module _ (n m q : ℕ) (es ws xs : List ℕ) (lent : Lent n m es ws) (long : m �
 -- `top` is the greatest of the first v
 pub record Climbing (n : ℕ) (ls : List ℕ) (v top : ℕ) : Type 0 where
   pub upto : v ≤ n
-  pub is-top : top ≡ greatest v (at ls)
+  pub is-top : top ≡ greatest v (λ (i : ℕ). getD ls i 0)
 
 module _ (n : ℕ) (ls : List ℕ) where
   pub climbing-starts : Climbing n ls 0 0
@@ -164,7 +163,7 @@ module _ (n : ℕ) (ls : List ℕ) where
   climbing-starts = record { upto = omega arith; is-top = refl }
 
   pub climbing-goes-on : (v top t : ℕ) → Climbing n ls v top → v < n → t ≡ max top (getD ls v 0) → Climbing n ls (v + 1) t
-  climbing-goes-on v top t k l e = record { upto = omega arith; is-top = rw add-one (omega (arith, greatest-suc v (at ls))) }
+  climbing-goes-on v top t k l e = record { upto = omega arith; is-top = rw add-one (omega (arith, greatest-suc v (λ (i : ℕ). getD ls i 0))) }
 
-  pub climbing-ends : (v top : ℕ) → Climbing n ls v top → n ≤ v → top ≡ greatest n (at ls)
+  pub climbing-ends : (v top : ℕ) → Climbing n ls v top → n ≤ v → top ≡ greatest n (λ (i : ℕ). getD ls i 0)
   climbing-ends v top k l = let e : v ≡ n = omega arith in rw e at (k .is-top)

@@ -1,27 +1,20 @@
 -- Document 01, "Check" and "Surplus": what the two calls answer of a held list, once 13 and 12 do not hold.
---   unless-refused, refused-by    a refusal yields its number and no other value
+--   refused-by        a refusal yields its number and no other value
 --   Check-says        check's answer, with demand 3 of whatever it accepts
 --   Surplus-says      surplus's answer, with what its sign says
 -- Assumes nothing: these are definitions.
 use mathlib.Core.Path.{_≡_}
-use mathlib.Core.Bool.{cond}
 use mathlib.Core.List.{List}
-use mathlib.Core.Logic.{_↔_}
-use Prim.Native.Nat.{ℕ, _*_}
-use lib.Dec.{ltb, eqb}
+use Prim.Native.Nat.{ℕ}
 use lib.IntN.{pos}
-use lib.Signed.{ltZ}
 use Rattle.theory.specs.Lists.{Pairs}
 use Rattle.theory.specs.Groups.{inside, size}
+use Rattle.theory.specs.Refusals.{if-taken}
 use Rattle.theory.specs.Check.{check-number}
-use Rattle.theory.specs.Surplus.{surplus, surplus-number}
+use Rattle.theory.specs.Surplus.{surplus, Signed, surplus-number}
 use Rattle.theory.specs.Promise.{Optimal}
 use Rattle.verify.specs.declared.Verdict.{Verdict}
 use Rattle.verify.specs.declared.Difference.{Difference}
-
--- the value where nothing is refused, else `none`
-unfoldable pub unless-refused : {A : Type 0} → (number : ℕ) → (value none : A) → A
-unless-refused k x z = cond (eqb k 0) x z
 
 -- check's answer where it refuses by number k
 abbrev pub refused-by : (k : ℕ) → Verdict
@@ -32,8 +25,8 @@ pub record Check-says (g : Pairs) (s xs : List ℕ) (v : Verdict) : Type 0 where
   -- 7, 8, 9, or 0 where it accepts
   pub number : v .number ≡ check-number g s xs
   -- P and Q of that group, counted by check itself
-  pub p : v .p ≡ unless-refused (check-number g s xs) (inside g s) 0
-  pub q : v .q ≡ unless-refused (check-number g s xs) (size s) 0
+  pub p : v .p ≡ if-taken (check-number g s xs) (inside g s) 0
+  pub q : v .q ≡ if-taken (check-number g s xs) (size s) 0
   -- demand 3: what it accepts is the best of all groups and of all splits
   pub optimal : v .number ≡ 0 → Optimal g s xs (v .p) (v .q)
 
@@ -41,10 +34,6 @@ pub record Check-says (g : Pairs) (s xs : List ℕ) (v : Verdict) : Type 0 where
 pub record Surplus-says (g : Pairs) (t s : List ℕ) (d : Difference) : Type 0 where
   -- 7, or 0
   pub number : d .number ≡ surplus-number g t s
-  pub value : d .value ≡ unless-refused (surplus-number g t s) (surplus g t s) (pos 0)
-  -- zero exactly when the ratios are equal
-  pub zero : d .number ≡ 0 → (d .value ≡ pos 0) ↔ (inside g t * size s ≡ inside g s * size t)
-  -- above zero exactly when t is the denser
-  pub above : d .number ≡ 0 → ltZ (pos 0) (d .value) ≡ ltb (inside g s * size t) (inside g t * size s)
-  -- and below zero exactly when s is
-  pub below : d .number ≡ 0 → ltZ (d .value) (pos 0) ≡ ltb (inside g t * size s) (inside g s * size t)
+  pub value : d .value ≡ if-taken (surplus-number g t s) (surplus g t s) (pos 0)
+  -- what its sign says
+  pub signs : d .number ≡ 0 → Signed g t s (d .value)

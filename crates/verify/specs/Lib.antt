@@ -1,3 +1,3 @@
 -- What the contracts of check and surplus cite; each file opens with what it gives.
-pub mod Lent
+pub mod Counts
 pub mod Answers

@@ -8,13 +8,13 @@ ghost use mathlib.Core.Path.{_≡_};
 ghost use mathlib.Core.Bool.{true};
 ghost use mathlib.Core.List.{List};
 ghost use Prim.Native.Nat.{ℕ, _*_, _≤_, _<_};
-ghost use lib.ListN.{length, take};
+ghost use lib.ListN.{length, getD, take};
 ghost use lib.IntN.{pos, _-ℤ_};
 ghost use Rattle.theory.specs.Basics.{greatest};
 ghost use Rattle.theory.specs.Groups.{inside};
 ghost use Rattle.theory.specs.Splits.{shares-good, load};
-ghost use Rattle.theory.specs.Words.{list-in, pairs-in};
-ghost use Rattle.verify.specs.Lent.{Lent, Light, counted, inside-weight, at};
+ghost use Rattle.theory.specs.Words.{list-in, pairs-in, Held-words, Light};
+ghost use Rattle.verify.specs.Counts.{counted, inside-weight};
 ghost use Rattle.verify.specs.Answers.{refused-by, Check-says, Surplus-says};
 
 // Check's answer: 0 and the group's inside count p and size q, or a refusal number and zeros.
@@ -38,7 +38,7 @@ type Share = u16;
 // The smaller end's units of pair j.
 fn share_at(shares: &[Share], j: usize) -> u32
     requires { ⌜ j < length (now shares) ⌝ }
-    ensures { λ r. ⌜ r ≡ at (now (shares .entry)) j ⌝ }
+    ensures { λ r. ⌜ r ≡ getD (now (shares .entry)) j 0 ⌝ }
 {
     shares[j] as u32
 }
@@ -46,7 +46,7 @@ fn share_at(shares: &[Share], j: usize) -> u32
 // The module at a slot: pair j has slots 2j and 2j + 1.
 fn end_at(ends: &[u32], slot: usize) -> usize
     requires { ⌜ slot < length (now ends) ⌝ }
-    ensures { λ r. ⌜ r ≡ at (now (ends .entry)) slot ⌝ }
+    ensures { λ r. ⌜ r ≡ getD (now (ends .entry)) slot 0 ⌝ }
 {
     ends[slot] as usize
 }
@@ -86,7 +86,7 @@ fn inside_weight(members: &[u8], a: usize, b: usize, weight: u32) -> u32
 
 // The inside count of the group of the first n bytes.
 fn inside_count(n: usize, m: usize, ends: &[u32], weights: &[u32], members: &[u8]) -> u32
-    requires { ⌜ Lent n m (now ends) (now weights) ⌝ }
+    requires { ⌜ Held-words n m (now ends) (now weights) ⌝ }
     requires { ⌜ n ≤ length (now members) ⌝ }
     ensures { λ r. ⌜ r ≡ inside (list-in n m (now (ends .entry)) (now (weights .entry))) (take n (now (members .entry))) ⌝ }
 {
@@ -127,11 +127,11 @@ fn loads_of(
     shares: &[Share],
     q: u32,
 ) -> [u32; 512]
-    requires { ⌜ Lent n m (now ends) (now weights) ⌝ }
+    requires { ⌜ Held-words n m (now ends) (now weights) ⌝ }
     requires { ⌜ m ≤ length (now shares) ⌝ }
     requires { ⌜ q ≤ 512 ⌝ }
     requires { ⌜ shares-good q (pairs-in m (now ends) (now weights)) (take m (now shares)) ≡ true ⌝ }
-    ensures { λ r. ⌜ ((v : ℕ) → at r v ≡ load (list-in n m (now (ends .entry)) (now (weights .entry))) q (take m (now (shares .entry))) v) ⌝ }
+    ensures { λ r. ⌜ ((v : ℕ) → getD r v 0 ≡ load (list-in n m (now (ends .entry)) (now (weights .entry))) q (take m (now (shares .entry))) v) ⌝ }
 {
     let mut loads = [0u32; 512];
     let mut j: usize = 0;
@@ -150,7 +150,7 @@ fn loads_of(
 // The greatest of the first n loads.
 fn greatest_of(n: usize, loads: &[u32]) -> u32
     requires { ⌜ n ≤ length (now loads) ⌝ }
-    ensures { λ r. ⌜ r ≡ greatest n (at (now (loads .entry))) ⌝ }
+    ensures { λ r. ⌜ r ≡ greatest n (λ (v : ℕ). getD (now (loads .entry)) v 0) ⌝ }
 {
     let mut top: u32 = 0;
     let mut v: usize = 0;
@@ -189,7 +189,7 @@ pub fn check_words(
     members: &[u8],
     shares: &[Share],
 ) -> Verdict
-    requires { ⌜ Lent n m (now ends) (now weights) ⌝ }
+    requires { ⌜ Held-words n m (now ends) (now weights) ⌝ }
     requires { ⌜ n ≤ length (now members) ⌝ }
     requires { ⌜ m ≤ length (now shares) ⌝ }
     ensures { λ r. ⌜ Check-says (list-in n m (now (ends .entry)) (now (weights .entry))) (take n (now (members .entry))) (take m (now (shares .entry))) r ⌝ }
@@ -218,7 +218,7 @@ pub fn surplus_words(
     first: &[u8],
     second: &[u8],
 ) -> Difference
-    requires { ⌜ Lent n m (now ends) (now weights) ⌝ }
+    requires { ⌜ Held-words n m (now ends) (now weights) ⌝ }
     requires { ⌜ n ≤ length (now first) ⌝ }
     requires { ⌜ n ≤ length (now second) ⌝ }
     ensures { λ r. ⌜ Surplus-says (list-in n m (now (ends .entry)) (now (weights .entry))) (take n (now (first .entry))) (take n (now (second .entry))) r ⌝ }

@@ -3,7 +3,7 @@ use native.Mathlib.Omega.{arith}
 use mathlib.Core.Path.{_≡_, _∙_, ap}
 use Prim.Native.Nat.{ℕ, _*_, _-_, _≤_}
 use lib.ListN.{length}
-use Rattle.peel.specs.Peel.{Held}
+use Rattle.theory.specs.Words.{Held-words as Held}
 use Rattle.peel.proofs.Words.{few-pairs, good-pair}
 use Rattle.densest.proofs.Words.{list-ends}
 use Rattle.densest.proofs.Counts.{counted, counted-none, counted-next, counted-all, pick-le}

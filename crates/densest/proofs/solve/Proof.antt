@@ -15,32 +15,34 @@ unfolding list-in
 few s = listed (list-in (s .args .n) (s .args .m) (s .args .ends .now) (s .args .weights .now)) (s .pre .0 .listed) .few
 
 array-borrow-prefix-scope : tie.Need-array-borrow-prefix-scope
-array-borrow-prefix-scope c = few (c .before .before .before .before)
+array-borrow-prefix-scope c = few (c .before .before .before .before .before)
 
 slice-aggregate-solve-in : tie.Need-slice-aggregate-solve-in
-slice-aggregate-solve-in c = sym (length-take-le (c .before .before .before .before .before .args .n) (replicate {A = ℕ} 512 0) (few (c .before .before .before .before .before)))
+slice-aggregate-solve-in c = let s = c .before .before .before .before .before .before in sym (length-take-le (s .args .n) (replicate {A = ℕ} 512 0) (few s))
 
 slice-relend-prefix-solve-in : tie.Need-slice-relend-prefix-solve-in
 slice-relend-prefix-solve-in c = search needs
 
 slice-aggregate-solve-in-2 : tie.Need-slice-aggregate-solve-in-2
-slice-aggregate-solve-in-2 c = sym (length-take-le (c .before .before .before .before .before .before .args .n) (c .before .before .before .before .before .before .args .members .now) (c .before .before .before .before .before .before .pre .1 .0))
+slice-aggregate-solve-in-2 c = let s = c .before .before .before .before .before .before .before in sym (length-take-le (s .args .n) (s .args .members .now) (s .pre .1 .0))
 
 slice-relend-prefix-solve-in-2 : tie.Need-slice-relend-prefix-solve-in-2
 slice-relend-prefix-solve-in-2 c = search needs
 
 slice-aggregate-solve-in-3 : tie.Need-slice-aggregate-solve-in-3
-slice-aggregate-solve-in-3 c = sym (length-take-le (c .before .before .before .before .before .before .before .args .m) (c .before .before .before .before .before .before .before .args .shares .now) (c .before .before .before .before .before .before .before .pre .1 .1))
+slice-aggregate-solve-in-3 c = let s = c .before .before .before .before .before .before .before .before .before in sym (length-take-le (s .args .m) (s .args .shares .now) (s .pre .1 .2))
 
 solve-in-requires : tie.Need-solve-in-requires
 solve-in-requires c κs =
-    let k = c .before .before .before .before .before .before .before .pre in
-    let a = c .before .before .before .before .before .before .before .args in (
+    let s = c .before .before .before .before .before .before .before .before .before in
+    let k = s .pre in
+    let a = s .args in (
       k .0,
       (
-        length-take-le (a .n) (replicate {A = ℕ} 512 0) (few (c .before .before .before .before .before .before .before)),
+        length-take-le (a .n) (replicate {A = ℕ} 512 0) (few s),
         length-take-le (a .n) (a .members .now) (k .1 .0),
-        length-take-le (a .m) (a .shares .now) (k .1 .1),
+        k .1 .1,
+        length-take-le (a .m) (a .shares .now) (k .1 .2),
       ),
     )
 
@@ -50,13 +52,18 @@ same-length c = search needs
 same-length-2 : tie.Need-same-length-2
 same-length-2 c = search needs
 
+same-length-3 : tie.Need-same-length-3
+same-length-3 c = search needs
+
 returns : tie.Need-returns
 returns c =
-    let k = c .before .before .before .before .before .before .before .before .before .before .before .before .before .pre in
-    let a = c .before .before .before .before .before .before .before .before .before .before .before .before .before .args in
-    solves-of (a .n) (a .m) (a .ends .now) (a .weights .now) (a .members .now) (a .shares .now) (c .before .before .before .before .before .solve-in .last .1 .1 .1 .1 .1 .0) (c .before .before .before .before .before .solve-in .last .1 .1 .1 .1 .1 .1 .0) _
-    (k .1 .0) (k .1 .1) (c .before .before .before .before .before .solve-in .kept .1 .1 .1 .1 .1 .0 ∙ length-take-le (a .n) (a .members .now) (k .1 .0))
-    (c .before .before .before .before .before .solve-in .kept .1 .1 .1 .1 .1 .1 .0 ∙ length-take-le (a .m) (a .shares .now) (k .1 .1)) (c .before .before .before .before .before .solve-in .ensures)
+    let i = c .before .before .before .before .before .before .before .solve-in in
+    let s = c .before .before .before .before .before .before .before .before .before .before .before .before .before .before .before .before .before in
+    let k = s .pre in
+    let a = s .args in
+    solves-of (a .n) (a .m) (a .ends .now) (a .weights .now) (a .members .now) (a .cores .now) (a .shares .now) (i .last .1 .1 .1 .1 .1 .0) _
+    (i .last .1 .1 .1 .1 .1 .1 .1 .0) _ (k .1 .0) (k .1 .2) (i .kept .1 .1 .1 .1 .1 .0 ∙ length-take-le (a .n) (a .members .now) (k .1 .0))
+    (i .kept .1 .1 .1 .1 .1 .1 .1 .0 ∙ length-take-le (a .m) (a .shares .now) (k .1 .2)) (i .ensures .0) (i .ensures .1)
 
 pub solve-spec : {M : Type 1} → statement M
 solve-spec =
@@ -71,4 +78,5 @@ solve-spec =
     solve-in-requires
     same-length
     same-length-2
+    same-length-3
     returns)

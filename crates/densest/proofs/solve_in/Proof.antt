@@ -17,10 +17,10 @@ use Rattle.densest.proofs.solve_in.Tie as tie
 
 -- the places of the calls, each from the next
 abbrev begin : tie.After-peel → tie.Start
-begin c = c .before .before .before .before .before .before .before .before .before
+begin c = c .before .before .before .before .before .before .before .before .before .before
 
 abbrev peeled : tie.After-links → tie.After-peel
-peeled c = c .before .before .before .before .before .before
+peeled c = c .before .before .before .before .before .before .before
 
 abbrev linked : tie.After-search → tie.After-links
 linked c = c .before .before .before .before .before .before .before .before .before
@@ -40,7 +40,10 @@ unfolding list-in
 few s = listed (list-of s) (s .pre .0 .listed) .few
 
 cored : (c : tie.After-peel) → Cored (list-of (begin c)) (c .peel .last .1 .1 .1 .1 .1 .1 .0)
-cored c = peeled-cored (list-of (begin c)) (begin c .pre .0 .listed) _ _ _ _ _ _ _ (c .peel .ensures) (c .peel .kept .1 .1 .1 .1 .1 .1 .0)
+unfolding list-in
+cored c =
+    peeled-cored (list-of (begin c)) (begin c .pre .0 .listed) _ _ _ _ _ _ _ (c .peel .ensures)
+    (omega (arith, c .peel .kept .1 .1 .1 .1 .1 .1 .0, begin c .pre .1 .2))
 
 links-long : (c : tie.After-links) → Linked (begin (peeled c) .args .n) (begin (peeled c) .args .m) (c .links .last .1 .1 .1 .0) (c .links .last .1 .1 .1 .1 .0)
 links-long c =
@@ -60,11 +63,8 @@ slice-aggregate-peel c = search needs
 slice-aggregate-peel-2 : tie.Need-slice-aggregate-peel-2
 slice-aggregate-peel-2 c = search needs
 
-slice-aggregate-peel-3 : tie.Need-slice-aggregate-peel-3
-slice-aggregate-peel-3 c = search needs
-
 peel-requires : tie.Need-peel-requires
-peel-requires c κs = let k = c .before .before .before .before .before .before .before .before .pre .0 in (k, peelable-zeros _ _ _ _ k)
+peel-requires c κs = let q = c .before .before .before .before .before .before .before .before .before .pre in (q .0, peelable-zeros _ _ _ _ _ (q .0) (q .1 .2))
 
 slice-aggregate-links : tie.Need-slice-aggregate-links
 slice-aggregate-links c = search needs
@@ -74,7 +74,7 @@ slice-aggregate-links-2 c = search needs
 
 links-requires : tie.Need-links-requires
 links-requires c κs =
-    let s = begin (c .before .before .before .before .before) in
+    let s = begin (c .before .before .before .before .before .before) in
     let f = few-pairs (s .args .n) (s .args .m) (s .args .ends .now) (s .args .weights .now) (s .pre .0 .listed) in
     (list-ends _ _ _ _ (s .pre .0 .listed) (s .pre .0 .ends-long), (few s, omega arith))
 
@@ -86,9 +86,6 @@ slice-aggregate-search-2 c = search needs
 
 slice-aggregate-search-3 : tie.Need-slice-aggregate-search-3
 slice-aggregate-search-3 c = search needs
-
-slice-aggregate-search-4 : tie.Need-slice-aggregate-search-4
-slice-aggregate-search-4 c = search needs
 
 search-requires : tie.Need-search-requires
 search-requires c κs =
@@ -110,9 +107,6 @@ slice-aggregate-round-2 c = search needs
 
 slice-aggregate-round-3 : tie.Need-slice-aggregate-round-3
 slice-aggregate-round-3 c = search needs
-
-slice-aggregate-round-4 : tie.Need-slice-aggregate-round-4
-slice-aggregate-round-4 c = search needs
 
 round-requires : tie.Need-round-requires
 round-requires c κs =
@@ -141,7 +135,7 @@ write-shares-requires c κs =
         bounded (searched r) .small,
         (
           (scope-long r, omega (arith, few s, peeled (linked (searched r)) .peel .kept .1 .1 .1 .1 .1 .1 .1 .0)),
-          (r .round .ensures .split .long, omega (arith, s .pre .1 .2)),
+          (r .round .ensures .split .long, omega (arith, s .pre .1 .3)),
         ),
       ),
     )
@@ -159,7 +153,10 @@ same-length-2 : tie.Need-same-length-2
 same-length-2 c = search needs
 
 same-length-3 : tie.Need-same-length-3
-same-length-3 c = search needs
+same-length-3 c = peeled (linked (searched (c .before .before .before .before .before .before .before .before .before .before .before .before .before .before .before))) .peel .kept .1 .1 .1 .1 .1 .1 .0
+
+same-length-4 : tie.Need-same-length-4
+same-length-4 c = search needs
 
 returns : tie.Need-returns
 unfolding list-in
@@ -167,10 +164,12 @@ returns c =
     let w = c .before .before .before .before .before .write-shares in
     let r = c .before .before .before .before .before .before .before .before .before .before .before .before .before .before .before in
     let p = peeled (linked (searched r)) in
-    let s = begin p in
-    solved-of (s .args .n) (s .args .m) (s .args .ends .now) (s .args .weights .now) (s .pre .0) _ _ _ _ (searched r .search .ensures) _
-    (p .peel .last .1 .1 .1 .1 .1 .1 .1 .0) _ _ (w .last .1 .1 .1 .1 .1 .1 .1 .1 .0) _ _ (r .round .ensures) (peeled-by-place (list-of s) (s .pre .0 .listed) _ _ _ _ _ _ _ (p .peel .ensures))
-    (w .kept .1 .1 .1 .1 .1 .1 .1 .1 .0 ∙ s .pre .1 .2) (w .ensures) refl refl (c .before .before .rounded-up .ensures) (c .group-size .ensures)
+    let s = begin p in (
+      p .peel .ensures .cores-are,
+      solved-of (s .args .n) (s .args .m) (s .args .ends .now) (s .args .weights .now) (s .pre .0) _ _ _ _ (searched r .search .ensures) _
+          (p .peel .last .1 .1 .1 .1 .1 .1 .1 .0) _ _ (w .last .1 .1 .1 .1 .1 .1 .1 .1 .0) _ _ (r .round .ensures) (peeled-by-place (list-of s) (s .pre .0 .listed) _ _ _ _ _ _ _ (p .peel .ensures))
+          (w .kept .1 .1 .1 .1 .1 .1 .1 .1 .0 ∙ s .pre .1 .3) (w .ensures) refl refl (c .before .before .rounded-up .ensures) (c .group-size .ensures),
+    )
 
 pub solve-in-spec : {M : Type 1} → statement M
 solve-in-spec =
@@ -178,7 +177,6 @@ solve-in-spec =
     (tie.spec
     slice-aggregate-peel
     slice-aggregate-peel-2
-    slice-aggregate-peel-3
     peel-requires
     slice-aggregate-links
     slice-aggregate-links-2
@@ -186,12 +184,10 @@ solve-in-spec =
     slice-aggregate-search
     slice-aggregate-search-2
     slice-aggregate-search-3
-    slice-aggregate-search-4
     search-requires
     slice-aggregate-round
     slice-aggregate-round-2
     slice-aggregate-round-3
-    slice-aggregate-round-4
     round-requires
     slice-aggregate-write-shares
     slice-aggregate-write-shares-2
@@ -201,4 +197,5 @@ solve-in-spec =
     same-length
     same-length-2
     same-length-3
+    same-length-4
     returns)

@@ -4,7 +4,7 @@ use native.Mathlib.Nat.{mul-le-mul-left, mul-le-mul-right}
 use mathlib.Core.Path.{_≡_, refl}
 use Prim.Native.Nat.{ℕ, _*_, _-_, _≤_, _<_}
 use lib.ListN.{length, getD, length-set}
-use Rattle.peel.specs.Peel.{Held}
+use Rattle.theory.specs.Words.{Held-words as Held}
 use Rattle.slots.proofs.Choice.{stored-more}
 use Rattle.densest.specs.Search.{sheet-share}
 use Rattle.peel.proofs.Words.{few-pairs, good-pair}

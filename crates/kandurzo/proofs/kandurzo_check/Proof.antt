@@ -34,7 +34,7 @@ use Rattle.records.specs.declared.Pair.{Pair}
 use Rattle.records.specs.declared.Head.{Head}
 use Rattle.records.proofs.Plain.{Plain, Fits, typed-as, plain-record, plain-byte, plain-half, plain-word, plain-count, plain-truth}
 use Rattle.records.proofs.Rows.{Row, lend-mut, lend-shr}
-use Rattle.records.proofs.Calls.{Arg, plain as by-value, loan, bound, calls-outright}
+use Rattle.records.proofs.Calls.{Arg, plain as by-value, loan, bound, calls-outright, calls-rows}
 use Rattle.records.proofs.Frame.{empty, holds as full, num, fit-slice, var, part-of, ptr-of, slice-again, slice-again-as, sets, lands-in, leaves}
 use Rattle.records.proofs.Entry.{Par, plain, held, hold-mut, hold-shr, entry, passed, begins, ends}
 use Rattle.records.proofs.Signs.{Kinds, record-kind, mut-kind, shr-kind, stays, meets-by}
@@ -58,8 +58,7 @@ use Rattle.kandurzo.proofs.Gates.{gate-open, work-in, through-count, th
 use Rattle.verify.specs.declared.Verdict.{Verdict}
 use Rattle.verify.proofs.Verdict as D
 use Rattle.verify.proofs.Verdict.Laws as D′
-use Rattle.kandurzo.specs.Judging.{check-short, Check-call}
-use Rattle.kandurzo.specs.Judged.{check-verdict, work-after}
+use Rattle.kandurzo.specs.Judging.{check-short, Check-call, Check-on}
 use Rattle.kandurzo.proofs.Judgements.{check-enough, check-call}
 use Rattle.kandurzo.proofs.judging.check_gate as gate
 use Rattle.kandurzo.proofs.judging.check_gate.Symbol as gate-def
@@ -105,16 +104,9 @@ module _ (h : Head) (ps : List Pair) (ms xs ws : List ℕ) where
   unfolding gate-of gate-number work-in
   asked = (work-in-words h ps short ws long, (λ z. check-enough h ps ms xs ws (gate-open h ps short z .1) .0), λ z. check-enough h ps ms xs ws (gate-open h ps short z .1) .1)
 
-  -- the verdict, and what is left of the work buffer
-  abbrev r₀ : Verdict
-  r₀ = check-verdict h (gt .number) ms xs us
-
-  abbrev us′ : List ℕ
-  us′ = work-after (gt .number) us
-
-  says : Check-call h ps ms xs ws r₀ us′
+  says : {v : Verdict} {us′ : List ℕ} → Check-on h (gt .number) ms xs us v us′ → Check-call h ps ms xs ws v us′
   unfolding gate-of gate-number work-in
-  says = check-call h ps ms xs ws
+  says on = check-call h ps ms xs ws on
 
 -- the contracts that the walk cites
 module _ {M : Type 1} (𝓤 : URA M) (H : Heap 𝓤) (A : Atoms 𝓤) (mem : Memory → SProp 𝓤) (run : Routine → Fun 𝓤) (C : Calls 𝓤 H) where
@@ -173,12 +165,6 @@ module _ {M : Type 1} (𝓤 : URA M) (H : Heap 𝓤) (A : Atoms 𝓤) (W : Given
     check-args fits s₁ s₂ = by-value N.the-row (plain-head W) h is-head ∷ by-value u32 (plain-word W) (g₀ .number) (refl, fits)
         ∷ loan (lend-shr (byte-row s₁ b₁ o₁) ms room₁) ∷ loan (lend-shr (half-row s₂ b₂ o₂) xs room₂) ∷ loan (lend-mut (word-row W fullShare b₃ o₃) us₀ room-us) ∷ []
 
-    abbrev v₀ : Verdict
-    v₀ = r₀ h ps ms xs ws
-
-    abbrev us₁ : List ℕ
-    us₁ = us′ h ps ms xs ws
-
     walk : ent 𝓤 (onEntry 𝓤 H A f.signature (κ₀, (κ₁, (κ₂, (κ₃, tt)))) (q₀, (q₁, (q₂, (q₃, tt)))) (entry pars .3) (entry pars .4)) (WpFn 𝓤 H (𝓣 .C) (𝓣 .Λ) code.function (passed pars) Post)
     walk = begins (𝓣 .C) (𝓣 .Λ) code.function Post pars (λ bs. (typed-as (plain-head W) h is-head, (fit-slice (room₀ .0), (fit-slice (room₁ .0), (fit-slice (room₂ .0), (fit-slice (room₃ .0), tt)))))) (λ bs os.
         -- let agreed = agree(head, list)
@@ -196,14 +182,14 @@ module _ {M : Type 1} (𝓤 : URA M) (H : Heap 𝓤) (A : Atoms 𝓤) (W : Given
         -- check_on_words(head, gate.number, members, shares, work)
         sets ! (5 + 14) empty (ptr-of ! (5 + 5) refl refl) (tt, tt) $ sets ! (5 + 15) empty (slice-again-as ! (5 + 14) (5 + 5) (length us₀) same refl refl refl) (fit-slice (room-us .0)) $
         move ! (2 ∷ 3 ∷ 1 ∷ []) $
-        calls-outright ! fm (check-args (parts g-fits .0) (os .1 .0) (os .1 .1 .0)) D.the-row plain-verdict (fact 𝓤 (On-words h (g₀ .number) us₀ × (g₀ .number ≡ 0 → h .n ≤ length ms) × (g₀ .number ≡ 0 → h .m ≤ length xs)))
-        (λ r zs. (r ≡ v₀) × (zs .1 .1 .1 .1 .0 ≡ us₁)) refl (factI 𝓤 _ (emp 𝓤) (asked h ps ms xs ws))
-        (λ ks. known-check (bound (check-args (parts g-fits .0) (os .1 .0) (os .1 .1 .0)) ks, tt)) v₀ (tt, (tt, (tt, (tt, (us₁, tt))))) (λ r zs e. (e .0, λ i. (tt, (tt, (tt, (tt, (e .1 i, tt)))))))
-        (and-then ! (var ! (5 + 1) refl) (and-then ! (part-of ! (5 + 7) 0 refl refl refl) (and-then ! (var ! (5 + 3) refl) (and-then ! (var ! (5 + 4) refl) (and-then ! (var ! (5 + 15) refl) (no-more !)))))) (λ v-fits sized.
-        lands-in ! (5 + 0) empty (typed-as plain-verdict v₀ v-fits) $ move ! (3 ∷ []) $
+        calls-rows ! fm (check-args (parts g-fits .0) (os .1 .0) (os .1 .1 .0)) D.the-row plain-verdict (fact 𝓤 (On-words h (g₀ .number) us₀ × (g₀ .number ≡ 0 → h .n ≤ length ms) × (g₀ .number ≡ 0 → h .m ≤ length xs)))
+        (λ v zs. Check-on h (g₀ .number) ms xs us₀ v (zs .1 .1 .1 .1 .0)) refl (factI 𝓤 _ (emp 𝓤) (asked h ps ms xs ws))
+        (λ ks. known-check (bound (check-args (parts g-fits .0) (os .1 .0) (os .1 .1 .0)) ks, tt))
+        (and-then ! (var ! (5 + 1) refl) (and-then ! (part-of ! (5 + 7) 0 refl refl refl) (and-then ! (var ! (5 + 3) refl) (and-then ! (var ! (5 + 4) refl) (and-then ! (var ! (5 + 15) refl) (no-more !)))))) (λ v zs v-fits sized said.
+        lands-in ! (5 + 0) empty (typed-as plain-verdict v v-fits) $ move ! (3 ∷ []) $
         leaves ! 5 (λ j. true) _ refl (look ! (5 + 0) refl) $
-        by ! (ends pars os (tt, (tt, (tt, (tt, (us₁, tt))))) (tt, (tt, (tt, (tt, (sized .1 .1 .0 ∙ same, tt))))) D.the-row plain-verdict v₀ v-fits (fact 𝓤 _) (factI 𝓤 _ _ (says h ps ms xs ws))
-        (ends-at 𝓤 H A f.ended (stays f.ended kinds) (f.clauses 𝓤 H A mem run) W (entry pars, tt) _ v₀ (tt, (tt, (tt, (tt, (us₁, tt))))) (tt, (tt, (tt, (tt, (sized .1 .1 .0 ∙ same, tt))))))))))
+        by ! (ends pars os (tt, (tt, zs .1 .1)) (tt, (tt, (tt, (tt, (sized .1 .1 .0 ∙ same, tt))))) D.the-row plain-verdict v v-fits (fact 𝓤 _) (factI 𝓤 _ _ (says h ps ms xs ws said))
+        (ends-at 𝓤 H A f.ended (stays f.ended kinds) (f.clauses 𝓤 H A mem run) W (entry pars, tt) _ v (tt, (tt, zs .1 .1)) (tt, (tt, (tt, (tt, (sized .1 .1 .0 ∙ same, tt))))))))))
 
   meets : Meets 𝓤 H A f.signature (WpFn 𝓤 H (𝓣 .C) (𝓣 .Λ) code.function) (f.spec 𝓤 H A mem run)
   meets = meets-by f.ended kinds 𝓤 H A W (f.clauses 𝓤 H A mem run) 𝓣 code.function (λ κs qs bounds a g are. via 𝓤 _ (fst∗ 𝓤 _ (emp 𝓤))

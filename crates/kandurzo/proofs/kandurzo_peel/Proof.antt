@@ -57,10 +57,9 @@ use Rattle.kandurzo.specs.Gate.{gate-number, records-through, gate-of, O
 use Rattle.kandurzo.proofs.Gates.{gate-open, work-in, through-count, through-room, length-work-in, work-in-words}
 use Rattle.theory.specs.Leaving.{leaving}
 use Rattle.theory.specs.Cores.{core-numbers}
-use Rattle.kandurzo.specs.Listing.{if-taken}
+use Rattle.theory.specs.Refusals.{if-taken}
 use Rattle.kandurzo.specs.Edits.{word-list}
-use Rattle.kandurzo.specs.Buffers.{in-front}
-use Rattle.kandurzo.specs.Judged.{work-after}
+use Rattle.kandurzo.specs.Buffers.{in-front, work-left}
 use Rattle.kandurzo.specs.Peeling.{peel-short, Peel-on, Peel-call}
 use Rattle.kandurzo.proofs.Peels.{peel-enough, peel-call}
 use Rattle.kandurzo.proofs.peeling.peel_gate as gate
@@ -115,7 +114,7 @@ module _ (h : Head) (ps : List Pair) (xs cs ws : List ℕ) where
   cs′ = if-taken (gt .number) (in-front (core-numbers (word-list h us)) cs) cs
 
   abbrev us′ : List ℕ
-  us′ = work-after (gt .number) us
+  us′ = work-left (gt .number) us
 
   says : Peel-call h ps xs cs ws (gt .number) xs′ cs′ us′
   unfolding gate-of gate-number work-in

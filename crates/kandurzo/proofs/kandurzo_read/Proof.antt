@@ -46,7 +46,8 @@ use Rattle.records.proofs.copy_in.Symbol.{name as #records·copy-in}
 use Rattle.records.proofs.copy_in.Met as copy-in-thm
 use Rattle.kandurzo.specs.declared.Changed.{Changed}
 use Rattle.kandurzo.specs.declared.Edit.{Edit}
-use Rattle.kandurzo.specs.Reading.{Read-call, cleared, Read-on}
+use Rattle.kandurzo.specs.Reading.{Read-call, Read-on}
+use Rattle.kandurzo.specs.Buffers.{work-left}
 use Rattle.kandurzo.proofs.Readings.{read-enough, read-long, read-says}
 use Rattle.kandurzo.proofs.Changed as D
 use Rattle.kandurzo.proofs.Changed.Laws as D′
@@ -139,17 +140,17 @@ module _ {M : Type 1} (𝓤 : URA M) (H : Heap 𝓤) (A : Atoms 𝓤) (W : Given
         -- clear_words(answer.number, work)
         sets ! (4 + 13) empty (ptr-of ! (4 + 3) refl refl) (tt, tt) $ sets ! (4 + 14) empty (slice-again-as ! (4 + 13) (4 + 3) (length us) same refl refl refl) (fit-slice (room-as us same .0)) $
         move ! (1 ∷ []) $
-        calls-outright ! fm (clear-args e (parts e e-fits .0) us same) unit (plain-none W) (fact 𝓤 ((e .number ≡ 12 → ⊥) → 16384 ≤ length us)) (λ r vs. vs .1 .0 ≡ cleared (e .number) us) refl
-        (factI 𝓤 _ (emp 𝓤) (read-long bytes ps ws us e on same)) (λ ks. known-clear (bound (clear-args e (parts e e-fits .0) us same) ks, tt)) tt (tt, (cleared (e .number) us, tt)) (λ r vs s. (refl, λ i. (tt, (s i, tt))))
+        calls-outright ! fm (clear-args e (parts e e-fits .0) us same) unit (plain-none W) (fact 𝓤 ((e .number < 13) × ((e .number ≡ 12 → ⊥) → 16384 ≤ length us))) (λ r vs. vs .1 .0 ≡ work-left (e .number) us) refl
+        (factI 𝓤 _ (emp 𝓤) (read-long bytes ps ws us e on same)) (λ ks. known-clear (bound (clear-args e (parts e e-fits .0) us same) ks, tt)) tt (tt, (work-left (e .number) us, tt)) (λ r vs s. (refl, λ i. (tt, (s i, tt))))
         (and-then ! (part-of ! (4 + 4) 0 refl refl refl) (and-then ! (var ! (4 + 14) refl) (no-more !))) (λ _ kept.
         lands-in ! (4 + 8) full (tt, tt) $
         -- Changed { .. }
         sets ! (4 + 0) empty (agg ! (and-then ! (part-of ! (4 + 4) 0 refl refl refl) (and-then ! (part-of ! (4 + 4) 1 refl refl refl) (no-more !)))) (typed-as plain-changed (answer e) (answer-fits e e-fits)) $
         move ! (2 ∷ 1 ∷ 0 ∷ []) $
         leaves ! 4 (λ j. true) _ refl (look ! (4 + 0) refl) $
-        by ! (ends pars os (tt, (put-back ps us (e .count), (cleared (e .number) us, tt))) (tt, (length-put-back ps us (e .count) (back .0), (kept .0 ∙ same, tt))) D.the-row plain-changed (answer e) (answer-fits e e-fits)
-        (fact 𝓤 (Read-call bytes ps ws (answer e) (put-back ps us (e .count)) (cleared (e .number) us))) (factI 𝓤 _ _ (read-says bytes ps ws us e on))
-        (ends-at 𝓤 H A f.ended (stays f.ended kinds) (f.clauses 𝓤 H A mem run) W (entry pars, tt) (plain-changed .val (answer e)) (answer e) (tt, (put-back ps us (e .count), (cleared (e .number) us, tt)))
+        by ! (ends pars os (tt, (put-back ps us (e .count), (work-left (e .number) us, tt))) (tt, (length-put-back ps us (e .count) (back .0), (kept .0 ∙ same, tt))) D.the-row plain-changed (answer e) (answer-fits e e-fits)
+        (fact 𝓤 (Read-call bytes ps ws (answer e) (put-back ps us (e .count)) (work-left (e .number) us))) (factI 𝓤 _ _ (read-says bytes ps ws us e on))
+        (ends-at 𝓤 H A f.ended (stays f.ended kinds) (f.clauses 𝓤 H A mem run) W (entry pars, tt) (plain-changed .val (answer e)) (answer e) (tt, (put-back ps us (e .count), (work-left (e .number) us, tt)))
         (tt, (length-put-back ps us (e .count) (back .0), (kept .0 ∙ same, tt))))))))
 
   meets : Meets 𝓤 H A f.signature (WpFn 𝓤 H (𝓣 .C) (𝓣 .Λ) code.function) (f.spec 𝓤 H A mem run)

@@ -27,10 +27,11 @@ use denote.Triple.Spec.{Meets, tripleOf}
 use denote.Triple.Statement.{Triple}
 use denote.Triple.Table.{entered, cited}
 use denote.Triple.Walked.{walkOf, ends-at}
+use Rattle.theory.specs.Refusals.{if-taken}
 use Rattle.records.specs.declared.Pair.{Pair}
 use Rattle.records.specs.declared.Head.{Head}
 use Rattle.kandurzo.specs.declared.Changed.{Changed}
-use Rattle.kandurzo.specs.Listing.{if-taken, head-of, changed-to, remove-number, removed, Remove-says}
+use Rattle.kandurzo.specs.Listing.{head-of, changed-to, remove-number, removed, Remove-says}
 use Rattle.records.proofs.Plain.{Plain, Fits, typed-as, plain-record, plain-word}
 use Rattle.records.proofs.Rows.{lend-mut}
 use Rattle.records.proofs.Calls.{Arg, plain as by-value, loan, bound, calls-outright}

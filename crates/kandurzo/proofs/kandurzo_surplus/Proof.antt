@@ -35,7 +35,7 @@ use Rattle.records.specs.declared.Pair.{Pair}
 use Rattle.records.specs.declared.Head.{Head}
 use Rattle.records.proofs.Plain.{Plain, Fits, typed-as, plain-record, plain-byte, plain-word, plain-count, plain-truth}
 use Rattle.records.proofs.Rows.{Row, lend-mut, lend-shr}
-use Rattle.records.proofs.Calls.{Arg, plain as by-value, loan, bound, calls-outright}
+use Rattle.records.proofs.Calls.{Arg, plain as by-value, loan, bound, calls-outright, calls-rows}
 use Rattle.records.proofs.Frame.{env, block, empty, holds as full, num, fit-slice, var, part-of, array-slice, sets, lands-in, leaves}
 use Rattle.records.proofs.Entry.{Par, plain, held, hold-shr, entry, passed, begins, ends}
 use Rattle.records.proofs.Signs.{Kinds, record-kind, shr-kind, stays, meets-by}
@@ -60,8 +60,7 @@ use Rattle.kandurzo.proofs.Gates.{gate-open, work-in, through-count, th
 use Rattle.verify.specs.declared.Difference.{Difference}
 use Rattle.verify.proofs.Difference as D
 use Rattle.verify.proofs.Difference.Laws as D′
-use Rattle.kandurzo.specs.Judging.{surplus-short, Surplus-call}
-use Rattle.kandurzo.specs.Judged.{surplus-difference, work-after}
+use Rattle.kandurzo.specs.Judging.{surplus-short, Surplus-call, Surplus-on}
 use Rattle.kandurzo.proofs.Judgements.{surplus-enough, surplus-call}
 use Rattle.kandurzo.proofs.judging.surplus_gate as gate
 use Rattle.kandurzo.proofs.judging.surplus_gate.Symbol as gate-def
@@ -116,16 +115,9 @@ module _ (h : Head) (ps : List Pair) (ts ss : List ℕ) where
   unfolding gate-of gate-number work-in
   asked = (work-in-words h ps short zs long, (λ z. surplus-enough h ps ts ss zs (gate-open h ps short z .1) .0), λ z. surplus-enough h ps ts ss zs (gate-open h ps short z .1) .1)
 
-  -- the difference, and what is left of the words
-  abbrev r₀ : Difference
-  r₀ = surplus-difference h (gt .number) ts ss us
-
-  abbrev us′ : List ℕ
-  us′ = work-after (gt .number) us
-
-  says : Surplus-call h ps ts ss r₀
+  says : {d : Difference} → Surplus-on h (gt .number) ts ss us d → Surplus-call h ps ts ss d
   unfolding gate-of gate-number work-in
-  says = surplus-call h ps ts ss zs long
+  says on = surplus-call h ps ts ss zs long on
 
 -- the contracts that the walk cites
 module _ {M : Type 1} (𝓤 : URA M) (H : Heap 𝓤) (A : Atoms 𝓤) (mem : Memory → SProp 𝓤) (run : Routine → Fun 𝓤) (C : Calls 𝓤 H) where
@@ -167,12 +159,6 @@ module _ {M : Type 1} (𝓤 : URA M) (H : Heap 𝓤) (A : Atoms 𝓤) (W : Given
     abbrev us₀ : List ℕ
     us₀ = us h ps ts ss
 
-    abbrev us₁ : List ℕ
-    us₁ = us′ h ps ts ss
-
-    abbrev d₀ : Difference
-    d₀ = r₀ h ps ts ss
-
     abbrev room-zs : Room u32 (length zs₀)
     room-zs = room-words h ps ts ss zs₀ (length-zs h ps ts ss)
 
@@ -210,15 +196,15 @@ module _ {M : Type 1} (𝓤 : URA M) (H : Heap 𝓤) (A : Atoms 𝓤) (W : Given
         -- surplus_on_words(head, gate.number, &mut words, first, second)
         sets ! (5 + 13) empty (addr ! (from ! (stop !))) (tt, tt) $ sets ! (5 + 14) empty (array-slice ! (5 + 13) (length us₀) refl (lit< tt) (length-us h ps ts ss)) (fit-slice (room-us .0)) $
         move ! (1 ∷ 2 ∷ 3 ∷ []) $
-        calls-outright ! fm (surplus-args at (parts g-fits .0) (os .1 .0) (os .1 .1 .0)) D.the-row plain-difference (fact 𝓤 (On-words h (g₀ .number) us₀ × (g₀ .number ≡ 0 → h .n ≤ length ts) × (g₀ .number ≡ 0 → h .n ≤ length ss)))
-        (λ r l. (r ≡ d₀) × (l .1 .1 .0 ≡ us₁)) refl (factI 𝓤 _ (emp 𝓤) (asked h ps ts ss))
-        (λ ks. known-surplus (bound (surplus-args at (parts g-fits .0) (os .1 .0) (os .1 .1 .0)) ks, tt)) d₀ (tt, (tt, (us₁, (tt, (tt, tt))))) (λ r l e. (e .0, λ i. (tt, (tt, (e .1 i, (tt, (tt, tt)))))))
-        (and-then ! (var ! (5 + 1) refl) (and-then ! (part-of ! (5 + 7) 0 refl refl refl) (and-then ! (var ! (5 + 14) refl) (and-then ! (var ! (5 + 3) refl) (and-then ! (var ! (5 + 4) refl) (no-more !)))))) (λ d-fits sized.
-        lands-in ! (5 + 0) empty (typed-as plain-difference d₀ d-fits) $
-        closes-array ! (4 + 6) u32 (plain-word W) 16384 at us₁ (sized .0 ∙ length-us h ps ts ss) $ move ! (2 ∷ []) $
+        calls-rows ! fm (surplus-args at (parts g-fits .0) (os .1 .0) (os .1 .1 .0)) D.the-row plain-difference (fact 𝓤 (On-words h (g₀ .number) us₀ × (g₀ .number ≡ 0 → h .n ≤ length ts) × (g₀ .number ≡ 0 → h .n ≤ length ss)))
+        (λ d l. Surplus-on h (g₀ .number) ts ss us₀ d) refl (factI 𝓤 _ (emp 𝓤) (asked h ps ts ss))
+        (λ ks. known-surplus (bound (surplus-args at (parts g-fits .0) (os .1 .0) (os .1 .1 .0)) ks, tt))
+        (and-then ! (var ! (5 + 1) refl) (and-then ! (part-of ! (5 + 7) 0 refl refl refl) (and-then ! (var ! (5 + 14) refl) (and-then ! (var ! (5 + 3) refl) (and-then ! (var ! (5 + 4) refl) (no-more !)))))) (λ d l d-fits sized said.
+        lands-in ! (5 + 0) empty (typed-as plain-difference d d-fits) $
+        closes-array ! (4 + 6) u32 (plain-word W) 16384 at (l .1 .1 .0) (sized .0 ∙ length-us h ps ts ss) $ move ! (2 ∷ []) $
         leaves ! 4 (λ j. not (eqb j 6)) _ refl (look ! (4 + 0) refl) $
-        by ! (ends pars os (tt, (tt, (tt, (tt, tt)))) (tt, (tt, (tt, (tt, tt)))) D.the-row plain-difference d₀ d-fits (fact 𝓤 _) (factI 𝓤 _ _ (says h ps ts ss))
-        (ends-at 𝓤 H A f.ended (stays f.ended kinds) (f.clauses 𝓤 H A mem run) W (entry pars, tt) _ d₀ (tt, (tt, (tt, (tt, tt)))) (tt, (tt, (tt, (tt, tt)))))))))
+        by ! (ends pars os (tt, (tt, (tt, (tt, tt)))) (tt, (tt, (tt, (tt, tt)))) D.the-row plain-difference d d-fits (fact 𝓤 _) (factI 𝓤 _ _ (says h ps ts ss said))
+        (ends-at 𝓤 H A f.ended (stays f.ended kinds) (f.clauses 𝓤 H A mem run) W (entry pars, tt) _ d (tt, (tt, (tt, (tt, tt)))) (tt, (tt, (tt, (tt, tt)))))))))
 
   meets : Meets 𝓤 H A f.signature (WpFn 𝓤 H (𝓣 .C) (𝓣 .Λ) code.function) (f.spec 𝓤 H A mem run)
   meets = meets-by f.ended kinds 𝓤 H A W (f.clauses 𝓤 H A mem run) 𝓣 code.function (λ κs qs bounds a g are. via 𝓤 _ (fst∗ 𝓤 _ (emp 𝓤))

@@ -29,7 +29,7 @@ mul-words : tie.Need-mul-words
 mul-words c = let h = held c in omega arith
 
 slice-aggregate-pairs : tie.Need-slice-aggregate-pairs
-slice-aggregate-pairs c = sym (length-take-le _ _ (held (c .before) .ends-long))
+slice-aggregate-pairs c = sym (length-take-le _ _ (held (c .before) .words .ends-long))
 
 slice-aggregate-peel : tie.Need-slice-aggregate-peel
 slice-aggregate-peel c = search needs
@@ -43,7 +43,7 @@ slice-aggregate-peel-3 c = search needs
 peel-requires : tie.Need-peel-requires
 peel-requires c κs =
     let h = held (c .before .before .before .before) in (
-      record { listed = h .listed; ends-long = h .ends-long; weights-long = h .weights-long },
+      h .words,
       record { some = omega arith; few = h .some; order-long = h .few; cores-long = h .few; place-long = h .few },
     )
 

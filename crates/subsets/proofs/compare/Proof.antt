@@ -32,7 +32,7 @@ held c =
 few : (c : tie.Else1) → c .before .before .before .before .before .args .m ≤ 4096
 few c =
     let a = c .before .before .before .before .before .args in
-    pairs-few (c .before .before .wide .result) (a .m) (a .ends .now) (a .weights .now) (held c .listed)
+    pairs-few (c .before .before .wide .result) (a .m) (a .ends .now) (a .weights .now) (held c .words .listed)
 
 wide-requires : tie.Need-wide-requires
 wide-requires c κs = search needs
@@ -47,7 +47,7 @@ mul-words : tie.Need-mul-words
 mul-words c = let h = held c in omega arith
 
 slice-aggregate-pairs : tie.Need-slice-aggregate-pairs
-slice-aggregate-pairs c = sym (length-take-le _ _ (held (c .before) .ends-long))
+slice-aggregate-pairs c = sym (length-take-le _ _ (held (c .before) .words .ends-long))
 
 slice-aggregate-solve : tie.Need-slice-aggregate-solve
 slice-aggregate-solve c = search needs
@@ -55,17 +55,23 @@ slice-aggregate-solve c = search needs
 slice-aggregate-solve-2 : tie.Need-slice-aggregate-solve-2
 slice-aggregate-solve-2 c = search needs
 
+slice-aggregate-solve-3 : tie.Need-slice-aggregate-solve-3
+slice-aggregate-solve-3 c = search needs
+
 solve-requires : tie.Need-solve-requires
 solve-requires c κs =
-    let e = c .before .before .before in
+    let e = c .before .before .before .before in
     let h = held e in
-    (record { listed = h .listed; ends-long = h .ends-long; weights-long = h .weights-long }, (h .few, few e))
+    (h .words, (h .few, h .few, few e))
 
 slice-aggregate-alter : tie.Need-slice-aggregate-alter
 slice-aggregate-alter c = search needs
 
 slice-aggregate-alter-2 : tie.Need-slice-aggregate-alter-2
 slice-aggregate-alter-2 c = search needs
+
+slice-aggregate-alter-3 : tie.Need-slice-aggregate-alter-3
+slice-aggregate-alter-3 c = search needs
 
 alter-requires : tie.Need-alter-requires
 alter-requires c κs = search needs
@@ -87,15 +93,18 @@ slice-aggregate-check-words-2 c = search needs
 
 check-words-requires : tie.Need-check-words-requires
 check-words-requires c κs =
-    let altered = c .before .before .before .before .before .before .before in
-    let e = altered .before .before .before .before .before .before .before .before .before .before in
+    let altered = c .before .before .before .before .before .before .before .before .before in
+    let e = altered .before .before .before .before .before .before .before .before .before .before .before .before in
     let h = held e in (
-      record { held = h .listed; ends-enough = h .ends-long; weights-enough = h .weights-long },
+      h .words,
       (omega (arith, h .few, slice-aggregate-check-words (c .before)), omega (arith, few e, slice-aggregate-check-words-2 c)),
     )
 
 slice-aggregate-agrees : tie.Need-slice-aggregate-agrees
 slice-aggregate-agrees c = search needs
+
+slice-aggregate-agrees-2 : tie.Need-slice-aggregate-agrees-2
+slice-aggregate-agrees-2 c = search needs
 
 agrees-requires : tie.Need-agrees-requires
 agrees-requires c κs = search needs
@@ -117,9 +126,11 @@ compare-spec =
     slice-aggregate-pairs
     slice-aggregate-solve
     slice-aggregate-solve-2
+    slice-aggregate-solve-3
     solve-requires
     slice-aggregate-alter
     slice-aggregate-alter-2
+    slice-aggregate-alter-3
     alter-requires
     slice-aggregate-copy-shares
     slice-aggregate-copy-shares-2
@@ -128,6 +139,7 @@ compare-spec =
     slice-aggregate-check-words-2
     check-words-requires
     slice-aggregate-agrees
+    slice-aggregate-agrees-2
     agrees-requires
     returns-2
     returns-3)

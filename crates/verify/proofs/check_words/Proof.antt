@@ -23,7 +23,7 @@ shares-fit-requires : tie.Need-shares-fit-requires
 shares-fit-requires c κs =
     let s = c .before .before .before .before .before .before in
     let h = s .pre in (
-      (h .0 .weights-enough, h .1 .1),
+      (h .0 .weights-long, h .1 .1),
       (lent-light _ _ _ _ (h .0), omega (arith, c .before .group-size .ensures, counted-small _ _ _ _ (h .0) (s .args .members .now))),
     )
 
@@ -74,7 +74,7 @@ weighed c =
     let s = c .before .before .before .before .before .before .before .before .before .before .before .before in
     let k = c .before .before .before .before in
     record {
-      held = s .pre .0 .held;
+      held = s .pre .0 .listed;
       long = s .pre .1 .0;
       is-q = k .before .before .before .group-size .ensures;
       some = k .before .before .if1 .left;

@@ -39,7 +39,7 @@ shared-slice-read-inside-weight c = omega arith
 inside-weight-requires : tie.Need-inside-weight-requires Inv-loop μ-loop
 inside-weight-requires c κs =
     let at = c .before .before .before .before in
-    let r = pair-in-range _ _ _ _ (at .loop .j) (at .before .before .before .before .pre .0 .held) (omega arith) in
+    let r = pair-in-range _ _ _ _ (at .loop .j) (at .before .before .before .before .pre .0 .listed) (omega arith) in
     (omega arith, omega arith)
 
 loop-again : tie.Need-loop-again Inv-loop μ-loop

@@ -1,7 +1,7 @@
 -- `verify::shares_fit` meets its contract. The loop keeps `Sharing`. Assumes nothing.
 use Prim.Native.Nat.{_-_}
 use native.Mathlib.Omega.{arith}
-use Rattle.verify.specs.Lent.{Light}
+use Rattle.theory.specs.Words.{Light}
 use Rattle.verify.proofs.Bounds.{units-small}
 use Rattle.verify.proofs.Loading.{Sharing, sharing-starts, sharing-goes-on, sharing-bad, sharing-ends}
 use Rattle.verify.proofs.shares_fit.Statement.{statement}

@@ -32,7 +32,7 @@ mul-words : tie.Need-mul-words
 mul-words c = let h = held c in omega arith
 
 slice-aggregate-pairs : tie.Need-slice-aggregate-pairs
-slice-aggregate-pairs c = sym (length-take-le _ _ (held (c .before) .ends-long))
+slice-aggregate-pairs c = sym (length-take-le _ _ (held (c .before) .words .ends-long))
 
 not-held-requires-2 : tie.Need-not-held-requires-2
 not-held-requires-2 c κs = search needs
@@ -49,7 +49,7 @@ returns-3 c = search needs
 surplus-words-requires : tie.Need-surplus-words-requires
 surplus-words-requires c κs =
     let h = held (c .before .before .before) in
-    (record { held = h .listed; ends-enough = h .ends-long; weights-enough = h .weights-long }, (c .before .if2 .left, c .if3 .left))
+    (h .words, (c .before .if2 .left, c .if3 .left))
 
 agrees-requires : tie.Need-agrees-requires
 agrees-requires c κs = search needs

@@ -1,5 +1,5 @@
 -- `fill` meets its contract: the words before j are as they will be. Assumes nothing.
-use mathlib.Core.Path.{_≡_, sym}
+use mathlib.Core.Path.{sym}
 use Prim.Native.Nat.{_-_}
 use native.Mathlib.Omega.{arith}
 use Rattle.kandurzo.specs.Buffers.{filled}

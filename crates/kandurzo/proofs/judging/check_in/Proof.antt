@@ -6,7 +6,7 @@ use borrow.Author.Needs.{needs}
 use lib.ListN.{length, take, drop, length-drop}
 use lib.Seq.{length-take-le}
 use denote.Ref.{now}
-use Rattle.kandurzo.specs.Judged.{ends-part, weights-part}
+use Rattle.kandurzo.specs.Gate.{ends-part, weights-part}
 use Rattle.kandurzo.proofs.judging.check_in.Statement.{statement}
 use Rattle.kandurzo.proofs.judging.check_in.Tie as tie
 
@@ -43,7 +43,7 @@ check-words-requires c κs =
     let ends : length (take (2 * a .m) (now (a .work))) ≡ 2 * a .m = length-take-le (2 * a .m) (now (a .work)) (omega (arith, c .before .before .before .before .before .pre)) in
     let weights : length (take (a .m) (drop 8192 (now (a .work)))) ≡ a .m =
     length-take-le (a .m) (drop 8192 (now (a .work))) (omega (arith, c .before .before .before .before .before .pre, length-drop 8192 (now (a .work)))) in (
-      rw (none, same) (record { held = c .before .before .before .before .before .pre .0; ends-enough = omega (arith, ends); weights-enough = omega (arith, weights) }),
+      rw (none, same) (record { listed = c .before .before .before .before .before .pre .0; ends-long = omega (arith, ends); weights-long = omega (arith, weights) }),
       (c .before .before .before .before .before .pre .1 .1 .1 .0, c .before .before .before .before .before .pre .1 .1 .1 .1),
     )
 

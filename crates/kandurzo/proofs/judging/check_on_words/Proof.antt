@@ -1,23 +1,16 @@
 -- `check_on_words` meets its contract: nothing behind a shut gate; else the list in the parts, and zeros in the end. Assumes nothing.
-use mathlib.Core.Path.{_≡_, refl, sym, ap, _∙_}
-use Prim.Native.Nat.{ℕ}
-use mathlib.Core.List.{List}
+use mathlib.Core.Path.{refl, ap, _∙_}
 use native.Mathlib.Omega.{arith}
 use borrow.Author.Needs.{needs}
-use borrow.Author.Tests.{eq-eqb, ne-eqb}
 use lib.ListN.{length}
 use denote.Ref.{now}
-use Rattle.kandurzo.specs.Listing.{if-taken}
 use Rattle.kandurzo.specs.Buffers.{filled}
-use Rattle.kandurzo.specs.Judged.{check-verdict, work-after}
-use Rattle.kandurzo.proofs.Parts.{few, room, length-weighed, parts-list, parts-held, weighed-cleared}
-use Rattle.kandurzo.proofs.Verdicts.{verdict-is}
+use Rattle.kandurzo.proofs.Parts.{few, room, length-weighed, parts-list, parts-held, weighed-cleared, shut-left}
 use Rattle.kandurzo.proofs.judging.check_on_words.Statement.{statement}
 use Rattle.kandurzo.proofs.judging.check_on_words.Tie as tie
 
 returns : tie.Need-returns
-unfolding check-verdict work-after if-taken
-returns c = let n = ne-eqb _ 0 (c .if1 .taken) in (sym (rw n), sym (rw n))
+returns c = let n = c .if1 .taken in record { judged = λ z. absurd (n z); refused = λ _. refl; left = shut-left _ _ _ (c .before .before .before .before .pre .0) n }
 
 cast-n : tie.Need-cast-n
 cast-n c = search needs
@@ -62,16 +55,16 @@ same-length : tie.Need-same-length
 same-length c = search needs
 
 returns-2 : tie.Need-returns-2
-unfolding check-verdict work-after if-taken
 returns-2 c =
     let a = c .before .before .before .before .before .before .before .before .before .before .before .before .before .before .before .before .args in
     let h = c .before .before .before .before .before .before .before .before .before .before .before .before .before .before .before .before .pre in
-    let y = c .before .before .before .before .before .before .before .before .before .before .before .before .if1 .left in
-    let z = eq-eqb _ 0 y in
-    let w = c .before .before .before .before .before .before .before .before .fill .ensures in (
-      verdict-is _ _ _ (rw (w, parts-list (a .head) (a .gate) (now (a .work)) (h .0) y) at (c .before .before .before .before .check-in .ensures)) ∙ sym (rw z),
-      c .before .before .fill2 .ensures ∙ ap (filled 0 16384 0) w ∙ weighed-cleared (a .head) (a .gate) (now (a .work)) (h .0) y ∙ sym (rw z),
-    )
+    let z = c .before .before .before .before .before .before .before .before .before .before .before .before .if1 .left in
+    let w = c .before .before .before .before .before .before .before .before .fill .ensures in
+    record {
+      judged = λ _. rw (w, parts-list (a .head) (a .gate) (now (a .work)) (h .0) z) at (c .before .before .before .before .check-in .ensures);
+      refused = λ n. absurd (n z);
+      left = c .before .before .fill2 .ensures ∙ ap (filled 0 16384 0) w ∙ weighed-cleared (a .head) (a .gate) (now (a .work)) (h .0) z;
+    }
 
 pub check-on-words-spec : {M : Type 1} → statement M
 check-on-words-spec =

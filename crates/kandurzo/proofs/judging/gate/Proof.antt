@@ -1,7 +1,6 @@
 -- `gate` meets its contract. Assumes nothing.
 use borrow.Author.Needs.{needs}
-use Rattle.theory.specs.Refusals.{cause, refusal}
-use Rattle.kandurzo.specs.Listing.{if-taken}
+use Rattle.theory.specs.Refusals.{cause, refusal, if-taken}
 use Rattle.kandurzo.specs.Gate.{gate-causes, records-through, gate-of}
 use Rattle.kandurzo.proofs.judging.gate.Statement.{statement}
 use Rattle.kandurzo.proofs.judging.gate.Tie as tie

@@ -1,23 +1,15 @@
--- `surplus_on_words` meets its contract: nothing behind a shut gate; else the list in the parts, and zeros in the end. Assumes nothing.
-use mathlib.Core.Path.{_≡_, refl, sym, ap, _∙_}
-use Prim.Native.Nat.{ℕ}
-use mathlib.Core.List.{List}
+-- `surplus_on_words` meets its contract: nothing behind a shut gate; else the list in the parts. Assumes nothing.
+use mathlib.Core.Path.{refl, ap}
 use native.Mathlib.Omega.{arith}
 use borrow.Author.Needs.{needs}
-use borrow.Author.Tests.{eq-eqb, ne-eqb}
 use lib.ListN.{length}
 use denote.Ref.{now}
-use Rattle.kandurzo.specs.Listing.{if-taken}
-use Rattle.kandurzo.specs.Buffers.{filled}
-use Rattle.kandurzo.specs.Judged.{surplus-difference, work-after}
-use Rattle.kandurzo.proofs.Parts.{few, room, length-weighed, parts-list, parts-held, weighed-cleared}
-use Rattle.kandurzo.proofs.Verdicts.{difference-is}
+use Rattle.kandurzo.proofs.Parts.{few, room, length-weighed, parts-list, parts-held}
 use Rattle.kandurzo.proofs.judging.surplus_on_words.Statement.{statement}
 use Rattle.kandurzo.proofs.judging.surplus_on_words.Tie as tie
 
 returns : tie.Need-returns
-unfolding surplus-difference work-after if-taken
-returns c = let n = ne-eqb _ 0 (c .if1 .taken) in (sym (rw n), sym (rw n))
+returns c = let n = c .if1 .taken in record { judged = λ z. absurd (n z); refused = λ _. refl }
 
 cast-n : tie.Need-cast-n
 cast-n c = search needs
@@ -51,27 +43,19 @@ surplus-in-requires c κs =
       ),
     )
 
-fill-requires-2 : tie.Need-fill-requires-2
-fill-requires-2 c κs =
-    let a = c .before .before .before .before .before .before .before .before .before .before .before .before .before .args in
-    let h = c .before .before .before .before .before .before .before .before .before .before .before .before .before .pre in
-    let z = c .before .before .before .before .before .before .before .before .before .if1 .left in
-    (omega arith, omega (arith, ap length (c .before .before .before .before .before .fill .ensures), length-weighed (a .head) (a .gate) (now (a .words)) (h .0) z, h .0 .long z))
-
 same-length : tie.Need-same-length
 same-length c = search needs
 
 returns-2 : tie.Need-returns-2
-unfolding surplus-difference work-after if-taken
 returns-2 c =
-    let a = c .before .before .before .before .before .before .before .before .before .before .before .before .before .before .before .before .args in
-    let h = c .before .before .before .before .before .before .before .before .before .before .before .before .before .before .before .before .pre in
-    let y = c .before .before .before .before .before .before .before .before .before .before .before .before .if1 .left in
-    let z = eq-eqb _ 0 y in
-    let w = c .before .before .before .before .before .before .before .before .fill .ensures in (
-      difference-is _ _ _ (rw (w, parts-list (a .head) (a .gate) (now (a .words)) (h .0) y) at (c .before .before .before .before .surplus-in .ensures)) ∙ sym (rw z),
-      c .before .before .fill2 .ensures ∙ ap (filled 0 16384 0) w ∙ weighed-cleared (a .head) (a .gate) (now (a .words)) (h .0) y ∙ sym (rw z),
-    )
+    let a = c .before .before .before .before .before .before .before .before .before .before .before .before .args in
+    let h = c .before .before .before .before .before .before .before .before .before .before .before .before .pre in
+    let z = c .before .before .before .before .before .before .before .before .if1 .left in
+    let w = c .before .before .before .before .fill .ensures in
+    record {
+      judged = λ _. rw (w, parts-list (a .head) (a .gate) (now (a .words)) (h .0) z) at (c .surplus-in .ensures);
+      refused = λ n. absurd (n z);
+    }
 
 pub surplus-on-words-spec : {M : Type 1} → statement M
 surplus-on-words-spec =
@@ -83,6 +67,5 @@ surplus-on-words-spec =
     add-fill
     fill-requires
     surplus-in-requires
-    fill-requires-2
     same-length
     returns-2)

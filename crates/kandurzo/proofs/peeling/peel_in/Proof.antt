@@ -8,15 +8,13 @@ use lib.Seq.{length-take-le}
 use denote.Ref.{now}
 use Rattle.theory.specs.Lists.{Pairs}
 use Rattle.theory.specs.Leaving.{leaving}
-use Rattle.theory.specs.Cores.{core-number, core-numbers}
 use Rattle.theory.specs.Words.{list-in}
 use Rattle.theory.specs.Promise.{Leaving-steps}
-use Rattle.theory.proofs.Tables.{length-table, table-at}
 use Rattle.theory.proofs.Lists.{listed}
 use Rattle.theory.proofs.Leaving.{leaving-steps}
 use Rattle.theory.proofs.Bounds.{leaving-below}
-use Rattle.kandurzo.specs.Judged.{ends-part, weights-part}
-use Rattle.kandurzo.proofs.Peels.{narrowed, narrow-long, narrow-fits}
+use Rattle.kandurzo.specs.Gate.{ends-part, weights-part}
+use Rattle.kandurzo.proofs.Peels.{narrowed, narrow-long, narrow-fits, cores-long, cores-fit, cores-narrowed, cores-in-front}
 use Rattle.kandurzo.proofs.peeling.peel_in.Statement.{statement}
 use Rattle.kandurzo.proofs.peeling.peel_in.Tie as tie
 
@@ -103,14 +101,7 @@ narrow-requires-2 c κs =
     let same : 8192 + a .m - 8192 ≡ a .m = omega arith in
     let done = rw (none, same) at (c .before .before .before .before .before .before .before .before .before .before .peel .ensures) in
     let g : Pairs = (list-in (a .n) (a .m) (ends-part (a .m) (now (a .work))) (weights-part (a .m) (now (a .work)))) in
-    let long : length (core-numbers g) ≡ a .n = unfold core-numbers in (length-table (a .n) _) in (
-      narrow-long (a .n) (core-numbers g) _ _ long (done .cores-are),
-      (
-        h .1 .1 .1 .1 .0,
-        narrow-fits (a .n) (core-numbers g) _ _ long (done .cores-are) 65536
-            (λ i b. unfold core-numbers in rw (table-at (a .n) (core-number g) i 0 b) (h .1 .1 .1 .1 .1 i)),
-      ),
-    )
+    (cores-long g _ _ (done .cores-are), (h .1 .1 .1 .1 .0, cores-fit g _ _ (done .cores-are) (h .1 .1 .1 .1 .1)))
 
 same-length : tie.Need-same-length
 same-length c = search needs
@@ -127,7 +118,7 @@ returns c =
     let done = rw (none, same) at (c .before .before .before .before .before .before .before .before .before .before .before .before .before .peel .ensures) in
     let g : Pairs = (list-in (a .n) (a .m) (ends-part (a .m) (now (a .work))) (weights-part (a .m) (now (a .work)))) in (
       (c .before .before .before .before .before .before .before .narrow .ensures ∙ narrowed (a .n) (leaving g) _ _ (unfold Leaving-steps in (leaving-steps g .0)) (done .order-is) (now (a .order))),
-      (c .before .before .narrow2 .ensures ∙ narrowed (a .n) (core-numbers g) _ _ (unfold core-numbers in (length-table (a .n) _)) (done .cores-are) (now (a .cores))),
+      (c .before .before .narrow2 .ensures ∙ cores-narrowed g _ _ (done .cores-are) (now (a .cores)) ∙ cores-in-front g (now (a .cores))),
     )
 
 pub peel-in-spec : {M : Type 1} → statement M

@@ -1,21 +1,20 @@
 -- `peel_on_words` meets its contract: nothing behind a shut gate; else the list in the parts, and zeros in the end. Assumes nothing.
-use mathlib.Core.Path.{_≡_, refl, sym, ap, _∙_}
+use mathlib.Core.Path.{sym, ap, _∙_}
 use native.Mathlib.Omega.{arith}
 use borrow.Author.Needs.{needs}
 use borrow.Author.Tests.{eq-eqb, ne-eqb}
 use lib.ListN.{length}
 use denote.Ref.{now}
-use Rattle.kandurzo.specs.Listing.{if-taken}
+use Rattle.theory.specs.Refusals.{if-taken}
 use Rattle.kandurzo.specs.Buffers.{filled}
-use Rattle.kandurzo.specs.Judged.{work-after}
-use Rattle.kandurzo.proofs.Parts.{few, room, length-weighed, parts-list, parts-held, weighed-cleared}
+use Rattle.kandurzo.proofs.Parts.{few, room, length-weighed, parts-list, parts-held, weighed-cleared, shut-left}
 use Rattle.kandurzo.proofs.Peels.{core-numbers-few}
 use Rattle.kandurzo.proofs.peeling.peel_on_words.Statement.{statement}
 use Rattle.kandurzo.proofs.peeling.peel_on_words.Tie as tie
 
 returns : tie.Need-returns
-unfolding work-after if-taken
-returns c = let n = ne-eqb _ 0 (c .if1 .taken) in record { order-is = sym (rw n); cores-are = sym (rw n); left = sym (rw n) }
+unfolding if-taken
+returns c = let n = ne-eqb _ 0 (c .if1 .taken) in record { order-is = sym (rw n); cores-are = sym (rw n); left = shut-left _ _ _ (c .before .before .before .before .pre .0) (c .if1 .taken) }
 
 cast-n : tie.Need-cast-n
 cast-n c = search needs
@@ -72,7 +71,7 @@ same-length-3 : tie.Need-same-length-3
 same-length-3 c = search needs
 
 returns-2 : tie.Need-returns-2
-unfolding work-after if-taken
+unfolding if-taken
 returns-2 c =
     let a = c .before .before .before .before .before .before .before .before .before .before .before .before .before .before .before .before .before .before .before .before .before .before .args in
     let h = c .before .before .before .before .before .before .before .before .before .before .before .before .before .before .before .before .before .before .before .before .before .before .pre in
@@ -83,7 +82,7 @@ returns-2 c =
     record {
       order-is = done .0 ∙ sym (rw z);
       cores-are = done .1 ∙ sym (rw z);
-      left = c .before .before .fill2 .ensures ∙ ap (filled 0 16384 0) w ∙ weighed-cleared (a .head) (a .gate) (now (a .work)) (h .0) y ∙ sym (rw z);
+      left = c .before .before .fill2 .ensures ∙ ap (filled 0 16384 0) w ∙ weighed-cleared (a .head) (a .gate) (now (a .work)) (h .0) y;
     }
 
 pub peel-on-words-spec : {M : Type 1} → statement M

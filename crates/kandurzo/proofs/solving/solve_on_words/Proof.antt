@@ -1,17 +1,14 @@
 -- `solve_on_words` meets its contract: nothing behind a shut gate; else the list in the parts, and zeros in the end. Assumes nothing.
-use mathlib.Core.Path.{_≡_, refl, sym, ap, _∙_}
+use mathlib.Core.Path.{refl, sym, ap, _∙_}
 use native.Mathlib.Omega.{arith}
 use borrow.Author.Needs.{needs}
-use borrow.Author.Tests.{eq-eqb, ne-eqb}
 use lib.ListN.{length}
 use denote.Ref.{now}
 use Rattle.kandurzo.specs.declared.Solved.{Solved}
-use Rattle.kandurzo.specs.Listing.{if-taken}
 use Rattle.kandurzo.specs.Buffers.{filled}
-use Rattle.kandurzo.specs.Judged.{work-after}
 use Rattle.kandurzo.specs.Solving.{declined}
-use Rattle.kandurzo.proofs.Parts.{few, room, length-weighed, parts-list, parts-held, weighed-cleared}
-use Rattle.kandurzo.proofs.Solves.{narrow-ones}
+use Rattle.kandurzo.proofs.Parts.{few, room, length-weighed, parts-list, parts-held, weighed-cleared, shut-left}
+use Rattle.kandurzo.proofs.Solves.{ones-fit}
 use Rattle.kandurzo.proofs.solving.solve_on_words.Statement.{statement}
 use Rattle.kandurzo.proofs.solving.solve_on_words.Tie as tie
 
@@ -19,11 +16,11 @@ refused-requires : tie.Need-refused-requires
 refused-requires c κs = search needs
 
 returns : tie.Need-returns
-unfolding work-after if-taken declined
+unfolding declined
 returns c =
     let n = c .before .if1 .taken in
     let e = c .refused .ensures in
-    record { number = ap (λ (r : Solved). r .number) e; handed = λ z. absurd (n z); refused = λ _. (e, refl, refl, refl); left = sym (rw (ne-eqb _ 0 n)) }
+    record { number = ap (λ (r : Solved). r .number) e; handed = λ z. absurd (n z); refused = λ _. (e, refl, refl, refl); left = shut-left _ _ _ (c .before .before .before .before .before .before .pre .0) n }
 
 cast-n : tie.Need-cast-n
 cast-n c = search needs
@@ -51,7 +48,7 @@ solve-in-requires c κs =
         low,
         (
           omega (arith, ap length w, length-weighed (a .head) (a .gate) (now (a .work)) (h .0) z, h .0 .long z),
-          (h .1 z, (h .2 z, (h .3 z, rw (w, parts-list (a .head) (a .gate) (now (a .work)) (h .0) z) (narrow-ones (a .head) (now (a .work)) low)))),
+          (h .1 z, (h .2 z, (h .3 z, rw (w, parts-list (a .head) (a .gate) (now (a .work)) (h .0) z) (ones-fit (a .head) (now (a .work)) low)))),
         ),
       ),
     )
@@ -76,7 +73,6 @@ same-length-4 : tie.Need-same-length-4
 same-length-4 c = search needs
 
 returns-2 : tie.Need-returns-2
-unfolding work-after if-taken
 returns-2 c =
     let a = c .before .before .before .before .before .before .before .before .before .before .before .before .before .before .before .before .before .before .before .before .before .before .before .before .before .before .args in
     let h = c .before .before .before .before .before .before .before .before .before .before .before .before .before .before .before .before .before .before .before .before .before .before .before .before .before .before .pre in
@@ -87,7 +83,7 @@ returns-2 c =
       number = done .0 ∙ sym z;
       handed = λ _. done .1;
       refused = λ n. absurd (n z);
-      left = c .before .before .fill2 .ensures ∙ ap (filled 0 16384 0) w ∙ weighed-cleared (a .head) (a .gate) (now (a .work)) (h .0) z ∙ sym (rw (eq-eqb _ 0 z));
+      left = c .before .before .fill2 .ensures ∙ ap (filled 0 16384 0) w ∙ weighed-cleared (a .head) (a .gate) (now (a .work)) (h .0) z;
     }
 
 pub solve-on-words-spec : {M : Type 1} → statement M
