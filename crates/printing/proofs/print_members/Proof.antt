@@ -2,8 +2,8 @@
 use Prim.Native.Nat.{_≤_, _-_}
 use lib.ListN.{length}
 use borrow.Author.Needs.{needs}
-use Rattle.group.proofs.print_members.Statement.{statement}
-use Rattle.group.proofs.print_members.Tie as tie
+use Rattle.printing.proofs.print_members.Statement.{statement}
+use Rattle.printing.proofs.print_members.Tie as tie
 
 abbrev Inv-loop : tie.InvT-loop
 Inv-loop members v₀ v = v ≤ length members
