@@ -22,11 +22,12 @@ use Rattle.theory.proofs.Groups.{size-pos, group-bits}
 use Rattle.theory.proofs.Bounds.{inside-bound, size-bound, size-le-length}
 use Rattle.slots.specs.Slots.{Room}
 use Rattle.slots.specs.Split.{Split}
+use Rattle.slots.proofs.Held.{zero-at}
+use Rattle.slots.proofs.Words.{list-weights}
 use Rattle.flow.specs.Flow.{Flowed, Largest}
 use Rattle.theory.specs.Words.{Held-words as Held}
 use Rattle.densest.specs.Search.{Candidate, Cored, Linked, Round, Searched}
-use Rattle.densest.proofs.Words.{list-weights}
-use Rattle.densest.proofs.Units.{split-kept, split-room, own-none, zero-at}
+use Rattle.densest.proofs.Units.{split-kept, split-room, own-none}
 use Rattle.densest.proofs.Answers.{denser-group}
 use Rattle.densest.proofs.Enough.{drained-found, ratio-rises}
 

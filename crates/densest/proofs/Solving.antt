@@ -26,6 +26,7 @@ use Rattle.theory.proofs.Tables.{length-table, table-at}
 use Rattle.theory.proofs.Lists.{listed}
 use Rattle.theory.proofs.Groups.{found-alone}
 use Rattle.slots.specs.Slots.{mate, Room}
+use Rattle.slots.proofs.Held.{zero-at}
 use Rattle.theory.specs.Words.{Held-words as Held}
 use Rattle.peel.specs.Peel.{Peelable, Peels}
 use Rattle.peel.specs.Promise.{Peel-promised}
@@ -35,7 +36,6 @@ use Rattle.peel.proofs.Promises.{peel-promised}
 use Rattle.densest.specs.declared.Solution.{Solution}
 use Rattle.densest.specs.Search.{Candidate, Cored, Round, Searched, sheet-share}
 use Rattle.densest.specs.Solve.{Solved, Solves}
-use Rattle.densest.proofs.Units.{zero-at}
 use Rattle.densest.proofs.Rounds.{Bounded, candidate-bounded}
 use Rattle.densest.proofs.Sheets.{Sheet, sheet-optimal, sheet-outside}
 

@@ -40,13 +40,6 @@ struct Ratio {
 // An entry of the load sheet.
 type Share = u32;
 
-// A word as an index.
-fn wide(x: u32) -> usize
-    ensures { λ r. ⌜ r ≡ x ⌝ }
-{
-    x as usize
-}
-
 // Whether two bytes are member bytes.
 fn both(a: u8, b: u8) -> bool
     ensures { λ r. ⌜ r ≡ (eqb a 1 && eqb b 1) ⌝ }
@@ -114,8 +107,8 @@ fn inner(n: usize, m: usize, j: usize, ends: &[u32], group: &[u8]) -> bool
     requires { ⌜ (j < m) × (length (now group) ≡ n) ⌝ }
     ensures { λ r. ⌜ r ≡ (is-in (now (group .entry)) (getD (now (ends .entry)) (2 * j) 0) && is-in (now (group .entry)) (getD (now (ends .entry)) (2 * j + 1) 0)) ⌝ }
 {
-    let a = wide(ends[2 * j]);
-    let b = wide(ends[2 * j + 1]);
+    let a = slots::wide(ends[2 * j]);
+    let b = slots::wide(ends[2 * j + 1]);
     both(group[a], group[b])
 }
 
@@ -125,8 +118,8 @@ fn first_left(n: usize, m: usize, j: usize, ends: &[u32], place: &[u32]) -> bool
     requires { ⌜ (j < m) × (n ≤ length (now place)) ⌝ }
     ensures { λ r. ⌜ r ≡ ltb (getD (now (place .entry)) (getD (now (ends .entry)) (2 * j) 0) 0) (getD (now (place .entry)) (getD (now (ends .entry)) (2 * j + 1) 0) 0) ⌝ }
 {
-    let a = wide(ends[2 * j]);
-    let b = wide(ends[2 * j + 1]);
+    let a = slots::wide(ends[2 * j]);
+    let b = slots::wide(ends[2 * j + 1]);
     place[a] < place[b]
 }
 

@@ -6,8 +6,7 @@ use lib.ListN.{length}
 use Rattle.theory.specs.Lists.{Pairs}
 use Rattle.theory.specs.Words.{list-in}
 use Rattle.theory.proofs.Lists.{listed}
-use Rattle.peel.proofs.Words.{few-pairs}
-use Rattle.densest.proofs.Words.{list-ends}
+use Rattle.slots.proofs.Words.{few-pairs, list-ends}
 use Rattle.densest.specs.Search.{Cored, Linked}
 use Rattle.densest.proofs.Rounds.{Bounded}
 use Rattle.densest.proofs.Solving.{peeled-cored, peeled-candidate, peeled-by-place, peelable-zeros, room-zeros, searched-candidate, searched-bounded, solved-of}
