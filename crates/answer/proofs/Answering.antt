@@ -1,14 +1,18 @@
 -- From what read and solve say, one after the other, to the answer.
---   answer-of    the answer, of what read and solve return
---   answers      the contract of solve_file
+--   answer-of         the answer, of what read and solve return
+--   few-records       at most 4,096 records go out
+--   sheeted           the contract of sheet_file
+--   answers           the contract of solve_file, from it
 -- Assumes nothing.
-use mathlib.Core.Path.{_≡_, sym, ap, _∙_, subst}
+use mathlib.Core.Path.{_≡_, refl, sym, ap, _∙_, subst}
 use mathlib.Core.Bool.{Bool, true, false, cond}
-use mathlib.Core.List.{List}
-use Prim.Native.Nat.{ℕ, _≤_}
+use mathlib.Core.List.{List, _++_}
+use Prim.Native.Nat.{ℕ, _*_, _≤_}
 use native.Mathlib.Omega.{arith}
 use borrow.Author.Tests.{le-ltb}
-use lib.ListN.{length}
+use lib.ListN.{length, take, drop, replicate}
+use lib.Seq.{length-take-le, drop-append-seam}
+use Rattle.theory.proofs.Tests.{tests}
 use Rattle.theory.specs.Lists.{Pairs, is-list}
 use Rattle.theory.specs.Refusals.{cause, refusal}
 use Rattle.theory.proofs.Lists.{Listed, listed}
@@ -17,7 +21,10 @@ use Rattle.pairfile.specs.File.{read-file}
 use Rattle.pairfile.specs.Answers.{reading-of, pairs-of}
 use Rattle.records.specs.declared.Pair.{Pair}
 use Rattle.records.specs.declared.Head.{Head}
-use Rattle.records.specs.Records.{held-list, agrees}
+use Rattle.records.specs.Records.{held-list, agrees, ends-of, laid-out}
+use Rattle.records.proofs.Copies.{length-ends-of, laid-out-none, pairs-laid-out}
+use Rattle.pairs.specs.Located.{ones-in}
+use Rattle.pairs.proofs.Weights.{ones-at}
 use Rattle.kandurzo.specs.declared.Changed.{Changed}
 use Rattle.kandurzo.specs.declared.Solved.{Solved}
 use Rattle.kandurzo.specs.Buffers.{work-words}
@@ -29,26 +36,28 @@ use Rattle.kandurzo.proofs.Gates.{gate-open}
 use Rattle.kandurzo.proofs.Readings.{read-held, read-agrees}
 use Rattle.kandurzo.proofs.Taken.{held-is-list}
 use Rattle.answer.specs.declared.Answer.{Answer}
-use Rattle.answer.specs.Answers.{refusal-of, Answered, Answers}
+use Rattle.answer.specs.Answers.{refusal-of, Room-enough, solved-of, Handed-over, Sheeted, Answered, Answers}
 
 abbrev pub answer-of : Changed → Solved → Answer
-answer-of file found = record { number = file .number; p = found .p; q = found .q; k = found .k; coresize = found .coresize }
+answer-of file found = record {
+  number = file .number;
+  n = file .head .n;
+  m = file .head .m;
+  p = found .p;
+  q = found .q;
+  k = found .k;
+  coresize = found .coresize;
+}
 
 -- nothing is refused by the gate where head and list agree and no buffer is short
 gate-none : (h : Head) (ps : List Pair) (short : Bool) → agrees h ps ≡ true → short ≡ false → gate-number h ps short ≡ 0
 unfolding gate-number gate-causes refusal cause
 gate-none h ps short agreed enough = simp (agreed, enough)
 
-module _ (bytes members : List ℕ) (ps : List Pair) (work cores shares : List ℕ) (list-long : length ps ≡ 4096) (work-long : length work ≡ 16384)
-    (members-long : 512 ≤ length members) (cores-long : length cores ≡ 512) (shares-long : length shares ≡ 4096)
-    (file : Changed) (ps′ : List Pair) (work′ : List ℕ) (work-kept : length work′ ≡ 16384) (says : Read-call bytes ps work file ps′ work′)
-    (found : Solved) (members′ cores′ shares′ work″ : List ℕ)
-    (finds : Solve-call (file .head) ps′ members cores shares work′ found members′ cores′ shares′ work″) where
+module _ (bytes : List ℕ) (ps : List Pair) (work : List ℕ) (list-long : length ps ≡ 4096) (work-long : length work ≡ 16384)
+    (file : Changed) (ps′ : List Pair) (work′ : List ℕ) (work-kept : length work′ ≡ 16384) (says : Read-call bytes ps work file ps′ work′) where
   abbrev h : Head
   h = file .head
-
-  abbrev short : Bool
-  short = solve-short h (length members) (length cores) (length shares) (length work′)
 
   -- the buffers are as long as read asks
   outcome-is : read-outcome (length ps) (length work) bytes ≡ read-file 4096 bytes
@@ -88,53 +97,135 @@ module _ (bytes members : List ℕ) (ps : List Pair) (work cores shares : List �
     unfolding read-head reading-of head-of
     m-as = ap (λ (u : Head). u .m) (head-as (taken g) e)
 
-    enough : short ≡ false
-    unfolding solve-short work-words
-    enough =
-        let l : Listed g = listed g good in
-        simp (
-          le-ltb (length members) (h .n) (omega (arith, l .few, n-as, members-long)),
-          le-ltb (length cores) (h .n) (omega (arith, l .few, n-as, cores-long)),
-          le-ltb (length shares) (h .m) (omega (arith, l .short, m-as, shares-long)),
-          le-ltb (length work′) 16384 (omega (arith, work-kept)),
-        )
+    -- the words hold the file's pairs once as many records as were read have gone out
+    ends-as : (ends : List ℕ) → ones-in (h .m) (laid-out ps′ ends (h .m)) ≡ g .pairs
+    unfolding held-list ones-in agrees
+    ends-as ends =
+        let few = (simp tests at agreed) .0 in
+        pairs-laid-out ps′ ends (h .m) few (replicate (h .m) 1) (λ j l. ones-at (h .m) j l) ∙ ap (λ (u : Pairs). u .pairs) held-as
 
-    solved : found .number ≡ 0
-    solved = finds .number .outright ∙ gate-none h ps′ short agreed enough
+    ends-past : (ends : List ℕ) → drop (2 * h .m) (laid-out ps′ ends (h .m)) ≡ drop (2 * h .m) ends
+    unfolding laid-out agrees
+    ends-past ends =
+        let few = (simp tests at agreed) .0 in
+        let e : length (ends-of (take (h .m) ps′)) ≡ 2 * h .m = length-ends-of (take (h .m) ps′) ∙ ap (λ (k : ℕ). 2 * k) (length-take-le (h .m) ps′ few) in
+        subst (λ (k : ℕ). drop k (ends-of (take (h .m) ps′) ++ drop (2 * h .m) ends) ≡ drop (2 * h .m) ends) e
+        (drop-append-seam (ends-of (take (h .m) ps′)) (drop (2 * h .m) ends))
 
-    handed : Handed g members cores shares found members′ cores′ shares′
-    handed = subst (λ (u : Pairs). Handed u members cores shares found members′ cores′ shares′) held-as (finds .handed solved)
+    few-taken : h .m ≤ 4096
+    few-taken = omega (arith, m-as, listed g good .short)
 
-    answered : Answered g members (answer-of file found) members′
-    unfolding reading-of
-    answered = record {
-      number = number-as (taken g) e;
-      found = handed .found;
-      rest = handed .members-rest;
-      inside-count = handed .optimal .inside-count;
-      modules = handed .optimal .modules;
-      order = handed .order;
-      core-size = handed .core-size;
+  -- the head beside a refusal
+  none-read : (k : ℕ) → read-file 4096 bytes ≡ refused k → h ≡ head-of 0 0
+  unfolding read-head reading-of
+  none-read k e = head-as (refused k) e
+
+  pub few-records : h .m ≤ 4096
+  unfolding head-of
+  few-records = go (read-file 4096 bytes) refl
+    where
+      go : (o : Outcome Pairs) → read-file 4096 bytes ≡ o → h .m ≤ 4096
+      go (refused k) e = omega (arith, ap (λ (u : Head). u .m) (none-read k e))
+      go (taken g) e = few-taken g e
+
+  module _ (members cores shares ends : List ℕ) (room : Room-enough (length members) (length cores) (length shares) (length ends))
+      (found : Solved) (members′ cores′ shares′ work″ : List ℕ)
+      (finds : Solve-call h ps′ members cores shares work′ found members′ cores′ shares′ work″) where
+    abbrev short : Bool
+    short = solve-short h (length members) (length cores) (length shares) (length work′)
+
+    module _ (g : Pairs) (e : read-file 4096 bytes ≡ taken g) where
+      enough : short ≡ false
+      unfolding solve-short work-words
+      enough =
+          let l : Listed g = listed g (good g e) in
+          simp (
+            le-ltb (length members) (h .n) (omega (arith, l .few, n-as g e, room .members-long)),
+            le-ltb (length cores) (h .n) (omega (arith, l .few, n-as g e, room .cores-long)),
+            le-ltb (length shares) (h .m) (omega (arith, l .short, m-as g e, room .shares-long)),
+            le-ltb (length work′) 16384 (omega (arith, work-kept)),
+          )
+
+      solved : found .number ≡ 0
+      solved = finds .number .outright ∙ gate-none h ps′ short (agreed g e) enough
+
+      handed : Handed g members cores shares found members′ cores′ shares′
+      handed = subst (λ (u : Pairs). Handed u members cores shares found members′ cores′ shares′) (held-as g e) (finds .handed solved)
+
+      number-none : file .number ≡ 0
+      unfolding reading-of
+      number-none = number-as (taken g) e
+
+      -- solve's record is the answer's
+      record-as : found ≡ solved-of (answer-of file found)
+      unfolding solved-of
+      record-as i = record {
+        number = (solved ∙ sym number-none) i;
+        p = found .p;
+        q = found .q;
+        k = found .k;
+        coresize = found .coresize;
+        ratio = handed .float i;
+      }
+
+      over : Handed-over g members cores shares ends (answer-of file found) members′ cores′ shares′ (laid-out ps′ ends (h .m))
+      over = record {
+        number = number-none;
+        modules = n-as g e;
+        pairs = m-as g e;
+        handed = subst (λ (u : Solved). Handed g members cores shares u members′ cores′ shares′) record-as handed;
+        ends-are = ends-as g e ends;
+        ends-rest = ends-past g e ends;
+      }
+
+    module _ (k : ℕ) (e : read-file 4096 bytes ≡ refused k) where
+      -- the head 0,0 agrees with no list
+      shut : gate-number h ps′ short ≡ 0 → ⊥
+      unfolding head-of held-list
+      shut z =
+          let n-none : h .n ≡ 0 = ap (λ (u : Head). u .n) (none-read k e) in
+          let l : Listed (held-list h ps′) = listed (held-list h ps′) (held-is-list h ps′ (gate-open h ps′ short z .0)) in
+          omega (arith, l .some, n-none)
+
+      declines : (found ≡ declined (found .number)) × (members′ ≡ members) × (cores′ ≡ cores) × (shares′ ≡ shares)
+      declines = finds .refused (λ z. shut (sym (finds .number .outright) ∙ z))
+
+      answer-none : answer-of file found ≡ refusal-of k
+      unfolding reading-of refusal-of declined head-of
+      answer-none i =
+          let number-is : file .number ≡ k = number-as (refused k) e in
+          let d : found ≡ declined (found .number) = declines .0 in
+          let h-is : h ≡ head-of 0 0 = none-read k e in
+          record { number = number-is i; n = h-is i .n; m = h-is i .m; p = d i .p; q = d i .q; k = d i .k; coresize = d i .coresize }
+
+      ends-stay : laid-out ps′ ends (h .m) ≡ ends
+      unfolding head-of
+      ends-stay = ap (λ (u : Head). laid-out ps′ ends (u .m)) (none-read k e) ∙ laid-out-none ps′ ends
+
+    pub sheeted : Sheeted bytes members cores shares ends (answer-of file found) members′ cores′ shares′ (laid-out ps′ ends (h .m))
+    sheeted = record {
+      taken = over;
+      refused = λ k e. let d = declines k e in (answer-none k e, d .1, d .2, d .3, ends-stay k e);
     }
 
-  module _ (k : ℕ) (e : read-file 4096 bytes ≡ refused k) where
-    -- the head 0,0 agrees with no list
-    shut : gate-number h ps′ short ≡ 0 → ⊥
-    unfolding read-head reading-of head-of held-list
-    shut z =
-        let n-none : h .n ≡ 0 = ap (λ (u : Head). u .n) (head-as (refused k) e) in
-        let l : Listed (held-list h ps′) = listed (held-list h ps′) (held-is-list h ps′ (gate-open h ps′ short z .0)) in
-        omega (arith, l .some, n-none)
-
-    declines : (found ≡ declined (found .number)) × (members′ ≡ members)
-    declines = let d = finds .refused (λ z. shut (sym (finds .number .outright) ∙ z)) in (d .0, d .1)
-
-    refuses : (answer-of file found ≡ refusal-of k) × (members′ ≡ members)
-    unfolding reading-of refusal-of declined
-    refuses =
-        let number-is : file .number ≡ k = number-as (refused k) e in
-        let d : found ≡ declined (found .number) = declines .0 in
-        (λ i. record { number = number-is i; p = d i .p; q = d i .q; k = d i .k; coresize = d i .coresize }, declines .1)
-
-  pub answers : Answers bytes members (answer-of file found) members′
-  answers = record { taken = answered; refused = refuses }
+-- the group alone
+pub answers : {bytes members cores shares ends : List ℕ} {r : Answer} {members′ cores′ shares′ ends′ : List ℕ} →
+    Sheeted bytes members cores shares ends r members′ cores′ shares′ ends′ → Answers bytes members r members′
+unfolding solved-of
+answers s = record {
+  taken = λ g e.
+      let o = s .taken g e in
+      let h = o .handed in
+      record {
+        number = o .number;
+        found = h .found;
+        rest = h .members-rest;
+        modules-there = o .modules;
+        pairs-there = o .pairs;
+        inside-count = h .optimal .inside-count;
+        modules = h .optimal .modules;
+        order = h .order;
+        core-size = h .core-size;
+      };
+  refused = λ k e. let d = s .refused k e in (d .0, d .1);
+}

@@ -1,29 +1,65 @@
--- What is answered to the bytes of a pair file: what the program `group` prints (document 01, end of "Lists tried by hand").
---   refusal-of    the answer beside a refusal
---   Answered      the answer to a file that names a list
---   Answers       the answer to any bytes
+-- What is answered to the bytes of a pair file: what the programs `group` (document 01, end of "Lists tried by hand") and `sheet` print.
+--   refusal-of           the answer beside a refusal
+--   Room-enough          the buffers that are lent for a sheet
+--   solved-of            the answer as solve's record
+--   Handed-over, Sheeted    a sheet's answer to a file that names a list, and to any bytes
+--   Answered, Answers    the group's answer to a file that names a list, and to any bytes
 -- Assumes nothing: these are definitions.
 use mathlib.Core.Path.{_≡_}
 use mathlib.Core.List.{List}
-use Prim.Native.Nat.{ℕ}
-use lib.ListN.{take, drop}
+use Prim.Native.Nat.{ℕ, _*_, _≤_}
+use lib.ListN.{length, take, drop}
 use Rattle.theory.specs.Lists.{Pairs}
 use Rattle.theory.specs.Groups.{size, inside, Found}
 use Rattle.theory.specs.Cores.{core}
 use Rattle.theory.specs.Splits.{rounded-up}
+use Rattle.theory.specs.Ratio.{float-ratio}
+use Rattle.pairs.specs.Located.{ones-in}
 use Rattle.pairfile.specs.Outcomes.{refused, taken}
 use Rattle.pairfile.specs.File.{read-file}
+use Rattle.kandurzo.specs.declared.Solved.{Solved}
+use Rattle.kandurzo.specs.Solving.{Handed}
 use Rattle.answer.specs.declared.Answer.{Answer}
 
 -- beside a refusal the other fields are 0
 unfoldable pub refusal-of : (number : ℕ) → Answer
-refusal-of k = record { number = k; p = 0; q = 0; k = 0; coresize = 0 }
+refusal-of k = record { number = k; n = 0; m = 0; p = 0; q = 0; k = 0; coresize = 0 }
+
+-- the buffers have an entry for each module and each pair of the largest list
+pub record Room-enough (members cores shares ends : ℕ) : Type 0 where
+  pub members-long : 512 ≤ members
+  pub cores-long : 512 ≤ cores
+  pub shares-long : 4096 ≤ shares
+  pub ends-long : 8192 ≤ ends
+
+-- the answer as solve's record, its float being that of P/Q
+unfoldable pub solved-of : Answer → Solved
+solved-of r =
+    record { number = r .number; p = r .p; q = r .q; k = r .k; coresize = r .coresize; ratio = float-ratio (r .p) (r .q) }
+
+-- of a list g: what solve hands out, N and M, and the ends of the pairs in front of the words; entries past those named are as they were
+pub record Handed-over (g : Pairs) (members cores shares ends : List ℕ) (r : Answer) (members′ cores′ shares′ ends′ : List ℕ) : Type 0 where
+  pub number : r .number ≡ 0
+  pub modules : r .n ≡ g .n
+  pub pairs : r .m ≡ length (g .pairs)
+  pub handed : Handed g members cores shares (solved-of r) members′ cores′ shares′
+  pub ends-are : ones-in (r .m) ends′ ≡ g .pairs
+  pub ends-rest : drop (2 * r .m) ends′ ≡ drop (2 * r .m) ends
+
+-- a file of up to 4,096 pairs names a list; any other is refused by its number, and all buffers are as they were
+pub record Sheeted (bytes members cores shares ends : List ℕ) (r : Answer) (members′ cores′ shares′ ends′ : List ℕ) : Type 0 where
+  pub taken : (g : Pairs) → read-file 4096 bytes ≡ taken g → Handed-over g members cores shares ends r members′ cores′ shares′ ends′
+  pub refused : (k : ℕ) → read-file 4096 bytes ≡ refused k →
+      (r ≡ refusal-of k) × (members′ ≡ members) × (cores′ ≡ cores) × (shares′ ≡ shares) × (ends′ ≡ ends)
 
 -- of a list g: the member bytes in front are the found group's, those past N as they were
 pub record Answered (g : Pairs) (members : List ℕ) (r : Answer) (members′ : List ℕ) : Type 0 where
   pub number : r .number ≡ 0
   pub found : Found g (take (g .n) members′)
   pub rest : drop (g .n) members′ ≡ drop (g .n) members
+  -- N and M
+  pub modules-there : r .n ≡ g .n
+  pub pairs-there : r .m ≡ length (g .pairs)
   -- P/Q is its ratio
   pub inside-count : r .p ≡ inside g (take (g .n) members′)
   pub modules : r .q ≡ size (take (g .n) members′)

@@ -6,10 +6,13 @@
 //   large    N M LINES AGAIN MORE        so is a file made here: `modules=N`, `pairs=M`, LINES pair lines, AGAIN of the first again, MORE line ends
 //   reads    WORK N M LINES AGAIN MORE   such a file is read into a list of 100 records, with a work buffer of WORK words
 //   starts   N                           start
+//   audited  FILE SHEET                  the sheet is audited beside the pair file
+//   bytes    FILE SHEET                  so is the sheet with each byte one more, and one less, in turn
 //   sheets   A B                         check, on three modules with the pairs 0,1 and 1,2, all three members, and the shares A and B
 //
 // Files of the folders `first`, `second`, `pair` and `end` break a rule on the first line, on the second, on a pair line, after the last; of those in
-// `order` several conditions hold; those in `taken` are accepted, the starred lists of document 01 among them.
+// `order` several conditions hold; those in `taken` are accepted, the starred lists of document 01 among them. In `audits` are sheets that `sheet`
+// printed, NAME.sheet of the pair file NAME, and such sheets altered by hand.
 //
 // An answer is the refusal number, or 0 and the values:
 //   files, large   P/Q; K and the size of the core of order K; the member bytes as runs, where 1x4 0x1 is 1, 1, 1, 1, 0. All 512 member bytes are 2
@@ -17,11 +20,13 @@
 //   reads          the head's N,M; then, after a refusal too, the first three records, how many of the 100 are 7,9 as before, how many words of the
 //                  work buffer are 0 and how many 7 as before
 //   starts         the head's N,M
-//   sheets         P/Q
+//   sheets, audited   P/Q
+//   bytes          how many of the altered sheets are refused, how many are best sheets themselves (accepted with the same P/Q), and how many neither
 //
 // A line is printed for each list of cases, and one for each case that did not come out as due.
 ghost use Prim.Native.Nat.{_≤_};
 ghost use lib.ListN.{length};
+ghost use Rattle.io.specs.Counts.{Counts};
 use answer::solve_file;
 use editing::check_lent;
 use editing::read_100;
@@ -29,6 +34,8 @@ use kandurzo::Changed;
 use kandurzo::start;
 use libc::STDOUT_FILENO;
 use records::Head;
+use sheetfile::audit;
+use verify::Verdict;
 
 enum Kind {
     Files,
@@ -36,6 +43,8 @@ enum Kind {
     Reads,
     Starts,
     Sheets,
+    Audited,
+    Bytes,
 }
 
 // Where the answer due begins in the line, and how many bytes of the text the answer given has.
@@ -54,6 +63,13 @@ struct Number {
 struct Run {
     end: usize,
     count: u32,
+}
+
+// What became of altered sheets.
+struct Fates {
+    caught: u32,
+    best: u32,
+    other: u32,
 }
 
 // How many cases came out as due, and how many did not.
@@ -207,19 +223,32 @@ fn put_solved(text: &mut [u8], bytes: &[u8]) -> usize {
     put_runs(text, core, &members)
 }
 
+// Reads an open file, and closes it.
+fn read_open(fd: i32, file: &mut [u8]) -> usize
+    ensures { λ r. ⌜ Counts r (now (file .exit)) ⌝ }
+{
+    let n = io::read_full(fd, file);
+    libc::close(fd);
+    n
+}
+
+// A file is not there: no answer is so due.
+fn no_file(text: &mut [u8], due: usize) -> Given {
+    Given {
+        due,
+        end: put_text(text, 0, b"no file"),
+    }
+}
+
 // A pair file by its name.
 fn try_file(line: &[u8], text: &mut [u8]) -> Given {
     let mut file = io::large_buffer();
     let space = find(line, 0, b' ');
     let fd = os::open_read(&line[0..space]);
     if fd < 0 {
-        return Given {
-            due: after(space),
-            end: put_text(text, 0, b"no file"),
-        };
+        return no_file(text, after(space));
     }
-    let n = io::read_full(fd, &mut file);
-    libc::close(fd);
+    let n = read_open(fd, &mut file);
     Given {
         due: after(space),
         end: put_solved(text, &file[..n]),
@@ -391,10 +420,112 @@ fn try_sheet(line: &[u8], text: &mut [u8]) -> Given {
     words[3] = 2;
     let shares = [share(first.value), share(second.value)];
     let verdict = check_lent(head, &words, &[1, 1, 1], &shares, &mut work);
-    let status = put_field(text, 0, b"", verdict.number);
     Given {
         due: second.next,
-        end: put_two(text, status, verdict.p, b"/", verdict.q),
+        end: put_verdict(text, verdict),
+    }
+}
+
+// What check and audit answer.
+fn put_verdict(text: &mut [u8], verdict: Verdict) -> usize {
+    let status = put_field(text, 0, b"", verdict.number);
+    put_two(text, status, verdict.p, b"/", verdict.q)
+}
+
+fn one_up(byte: u8) -> u8 {
+    if byte < 255 { byte + 1 } else { 0 }
+}
+
+fn one_down(byte: u8) -> u8 {
+    if 0 < byte { byte - 1 } else { 255 }
+}
+
+// One altered sheet more: what audit answers of it, and of the sheet before.
+fn fated(fates: Fates, verdict: Verdict, before: Verdict) -> Fates {
+    if verdict.number != 0 {
+        return Fates {
+            caught: one_more(fates.caught),
+            best: fates.best,
+            other: fates.other,
+        };
+    }
+    if verdict.p == before.p {
+        if verdict.q == before.q {
+            return Fates {
+                caught: fates.caught,
+                best: one_more(fates.best),
+                other: fates.other,
+            };
+        }
+    }
+    Fates {
+        caught: fates.caught,
+        best: fates.best,
+        other: one_more(fates.other),
+    }
+}
+
+// The sheet with byte i one more, and one less; then it is as before.
+fn alter_at(fates: Fates, file: &[u8], sheet: &mut [u8], i: usize, before: Verdict) -> Fates {
+    if sheet.len() <= i {
+        return fates;
+    }
+    let byte = sheet[i];
+    sheet[i] = one_up(byte);
+    let more = fated(fates, audit(file, sheet), before);
+    sheet[i] = one_down(byte);
+    let less = fated(more, audit(file, sheet), before);
+    sheet[i] = byte;
+    less
+}
+
+fn alter_bytes(file: &[u8], sheet: &mut [u8]) -> Fates {
+    let before = audit(file, sheet);
+    let mut fates = Fates {
+        caught: 0,
+        best: 0,
+        other: 0,
+    };
+    let mut i = 0;
+    while i < sheet.len() {
+        fates = alter_at(fates, file, sheet, i, before);
+        i += 1;
+    }
+    fates
+}
+
+fn put_fates(text: &mut [u8], fates: Fates) -> usize {
+    let caught = put_field(text, 0, b"", fates.caught);
+    let best = put_field(text, caught, b" ", fates.best);
+    put_field(text, best, b" ", fates.other)
+}
+
+fn put_audit(text: &mut [u8], file: &[u8], sheet: &mut [u8], alters: bool) -> usize {
+    if alters {
+        return put_fates(text, alter_bytes(file, sheet));
+    }
+    put_verdict(text, audit(file, sheet))
+}
+
+// A pair file and a sheet by their names.
+fn try_audit(line: &[u8], text: &mut [u8], alters: bool) -> Given {
+    let mut file = io::large_buffer();
+    let mut sheet = io::large_buffer();
+    let space = find(line, 0, b' ');
+    if space == line.len() {
+        return no_file(text, space);
+    }
+    let end = find(line, space + 1, b' ');
+    let fd = os::open_read(&line[0..space]);
+    let sd = os::open_read(&line[space + 1..end]);
+    if fd < 0 || sd < 0 {
+        return no_file(text, after(end));
+    }
+    let n = read_open(fd, &mut file);
+    let k = read_open(sd, &mut sheet);
+    Given {
+        due: after(end),
+        end: put_audit(text, &file[..n], &mut sheet[..k], alters),
     }
 }
 
@@ -405,6 +536,8 @@ fn try_case(kind: Kind, line: &[u8], text: &mut [u8]) -> Given {
         Kind::Reads => try_read(line, text),
         Kind::Starts => try_start(line, text),
         Kind::Sheets => try_sheet(line, text),
+        Kind::Audited => try_audit(line, text, false),
+        Kind::Bytes => try_audit(line, text, true),
     }
 }
 
@@ -455,9 +588,7 @@ fn try_lines(kind: Kind, list: &[u8]) -> Tally {
 
 fn try_list(kind: Kind, name: &[u8]) {
     let mut list = io::large_buffer();
-    let fd = os::open_read(name);
-    let n = io::read_full(fd, &mut list);
-    libc::close(fd);
+    let n = read_open(os::open_read(name), &mut list);
     let tally = try_lines(kind, &list[..n]);
     io::write_all(STDOUT_FILENO, name);
     io::write_all(STDOUT_FILENO, b": as due=");
@@ -473,4 +604,6 @@ fn main() {
     try_list(Kind::Reads, b"reads");
     try_list(Kind::Starts, b"starts");
     try_list(Kind::Sheets, b"sheets");
+    try_list(Kind::Audited, b"audited");
+    try_list(Kind::Bytes, b"bytes");
 }

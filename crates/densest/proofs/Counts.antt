@@ -23,8 +23,8 @@ use Rattle.theory.specs.Words.{word-pair, list-in}
 use Rattle.theory.proofs.Tests.{tests}
 use Rattle.theory.proofs.Cores.{core-bits, core-members}
 use Rattle.slots.specs.Slots.{total}
+use Rattle.slots.proofs.Words.{inside-total}
 use Rattle.densest.specs.Search.{Cored, sheet-share}
-use Rattle.densest.proofs.Units.{inside-total}
 
 size-next : (xs : List ℕ) (v : ℕ) → v < length xs → size (take (suc v) xs) ≡ size (take v xs) + getD xs v 0
 unfolding size

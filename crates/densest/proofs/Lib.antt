@@ -1,5 +1,4 @@
 -- Slots against lists, groups and splits; each file opens with what it gives.
-pub mod Words
 pub mod Units
 pub mod Loads
 pub mod Answers

@@ -4,27 +4,30 @@
 --   Going, going-on               what holds from round to round
 --   steps, steps-fall             how many rounds are left at most: ratios rise
 -- Assumes nothing.
-use mathlib.Core.Path.{_≡_, refl, sym, ap}
-use mathlib.Core.Bool.{Bool, true, false, cond}
+use mathlib.Core.Path.{_≡_, refl, sym, ap, _∙_}
+use mathlib.Core.Bool.{Bool, true, false, cond, _&&_}
 use mathlib.Core.List.{List}
 use Prim.Native.Nat.{ℕ, suc, _*_, _-_, _/_, _≤_, _<_}
 use native.Mathlib.Omega.{arith}
 use native.Mathlib.Nat.{mul-le-mul-right, div-le-self}
 use lib.ListN.{length, replicate}
+use lib.Dec.{eqb}
 use Rattle.theory.specs.Lists.{Pairs, is-list}
 use Rattle.theory.specs.Groups.{size, is-group, inside}
 use Rattle.theory.specs.Cores.{core}
 use Rattle.theory.specs.Splits.{rounded-up}
 use Rattle.theory.specs.Words.{list-in}
+use Rattle.theory.proofs.Tests.{tests}
 use Rattle.theory.proofs.Groups.{size-pos, group-bits}
 use Rattle.theory.proofs.Bounds.{inside-bound, size-bound, size-le-length}
 use Rattle.slots.specs.Slots.{Room}
 use Rattle.slots.specs.Split.{Split}
+use Rattle.slots.proofs.Held.{zero-at}
+use Rattle.slots.proofs.Words.{list-weights}
 use Rattle.flow.specs.Flow.{Flowed, Largest}
 use Rattle.theory.specs.Words.{Held-words as Held}
 use Rattle.densest.specs.Search.{Candidate, Cored, Linked, Round, Searched}
-use Rattle.densest.proofs.Words.{list-weights}
-use Rattle.densest.proofs.Units.{split-kept, split-room, own-none, zero-at}
+use Rattle.densest.proofs.Units.{split-kept, split-room, own-none}
 use Rattle.densest.proofs.Answers.{denser-group}
 use Rattle.densest.proofs.Enough.{drained-found, ratio-rises}
 
@@ -67,7 +70,7 @@ module _ (n m p q : ℕ) (ends weights : List ℕ) (h : Held n m ends weights) (
 -- ---- from round to round
 
 -- p over q is a group's ratio; once a round has found a split, the found group's
-pub record Going (n m : ℕ) (ends weights cores first next scope hold group : List ℕ) (p q : ℕ) (done : Bool) : Type 0 where
+pub record Going (n m : ℕ) (ends weights cores first next scope hold group : List ℕ) (p q : ℕ) (done settled : Bool) : Type 0 where
   pub held : Held n m ends weights
   pub cored : Cored (list-in n m ends weights) cores
   pub linked : Linked n m first next
@@ -75,7 +78,7 @@ pub record Going (n m : ℕ) (ends weights cores first next scope hold group : L
   pub group-long : length group ≡ n
   pub room : Room m hold
   pub at-hand : Candidate (list-in n m ends weights) p q
-  pub ended : done ≡ true → Searched n m ends weights hold group p q
+  pub ended : done ≡ true → Searched n m ends weights scope hold group p q settled
 
 -- rounds left at most, by the ratio at n · n
 unfoldable pub steps : (n p q : ℕ) → (done : Bool) → ℕ
@@ -93,11 +96,17 @@ unfolding list-in
 size-most n m ends weights s h =
     let b = group-bits (list-in n m ends weights) s h in omega (arith, b .0, size-le-length s (b .1))
 
-module _ (n m : ℕ) (ends weights cores first next scope hold group scope' hold' group' : List ℕ) (p q p' q' : ℕ) (done r : Bool)
-    (s : Going n m ends weights cores first next scope hold group p q done) (d : Round n m p q ends weights scope' hold' group' r)
+module _ (n m : ℕ) (ends weights cores first next scope hold group scope' hold' group' : List ℕ) (p q p' q' : ℕ)
+    (done settled r t : Bool) (s : Going n m ends weights cores first next scope hold group p q done settled) (d : Round n m p q ends weights scope' hold' group' r)
     (hp : p' ≡ inside (list-in n m ends weights) group') (hq : q' ≡ size group') where
-  pub going-on : length scope' ≡ n → length group' ≡ n → Going n m ends weights cores first next scope' hold' group' p' q' r
-  going-on ls lg = record {
+  -- a round at the ratio that it leaves
+  round-again : t ≡ (eqb p' p && eqb q' q) → r ≡ true → t ≡ true → Round n m p' q' ends weights scope' hold' group' true
+  round-again et er e =
+      let both = simp tests at (sym et ∙ e) in rw (both .0, both .1) (rw er at d)
+
+  pub going-on : t ≡ (eqb p' p && eqb q' q) → length scope' ≡ n → length group' ≡ n →
+      Going n m ends weights cores first next scope' hold' group' p' q' r t
+  going-on et ls lg = record {
     held = s .held;
     cored = s .cored;
     linked = s .linked;
@@ -105,7 +114,7 @@ module _ (n m : ℕ) (ends weights cores first next scope hold group scope' hold
     group-long = lg;
     room = d .room;
     at-hand = record { members = group'; group = round-group n m p q ends weights scope' hold' group' r d; inside-count = hp; modules = hq };
-    ended = λ e. record { found = d .found e; inside-count = hp; modules = hq; room = d .room };
+    ended = λ e. record { found = d .found e; inside-count = hp; modules = hq; room = d .room; last = round-again et e };
   }
 
   pub steps-fall : done ≡ false → steps n p' q' r < steps n p q done

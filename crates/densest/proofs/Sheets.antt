@@ -26,9 +26,9 @@ use Rattle.theory.proofs.Cores.{core-members}
 use Rattle.theory.proofs.Splits.{only, merge, split-with}
 use Rattle.slots.specs.Slots.{held-by}
 use Rattle.slots.specs.Split.{scope-units, Split}
+use Rattle.slots.proofs.Words.{good-pair}
 use Rattle.theory.specs.Words.{Held-words as Held}
 use Rattle.densest.specs.Search.{sheet-share}
-use Rattle.peel.proofs.Words.{good-pair}
 use Rattle.densest.proofs.Loads.{load-held, shares-table}
 
 -- ---- shares as tables

@@ -26,6 +26,7 @@ use Rattle.theory.proofs.Tables.{length-table, table-at}
 use Rattle.theory.proofs.Lists.{listed}
 use Rattle.theory.proofs.Groups.{found-alone}
 use Rattle.slots.specs.Slots.{mate, Room}
+use Rattle.slots.proofs.Held.{zero-at}
 use Rattle.theory.specs.Words.{Held-words as Held}
 use Rattle.peel.specs.Peel.{Peelable, Peels}
 use Rattle.peel.specs.Promise.{Peel-promised}
@@ -35,7 +36,6 @@ use Rattle.peel.proofs.Promises.{peel-promised}
 use Rattle.densest.specs.declared.Solution.{Solution}
 use Rattle.densest.specs.Search.{Candidate, Cored, Round, Searched, sheet-share}
 use Rattle.densest.specs.Solve.{Solved, Solves}
-use Rattle.densest.proofs.Units.{zero-at}
 use Rattle.densest.proofs.Rounds.{Bounded, candidate-bounded}
 use Rattle.densest.proofs.Sheets.{Sheet, sheet-optimal, sheet-outside}
 
@@ -79,8 +79,8 @@ room-zeros m k h = record { long = omega (arith, length-replicate {A = ℕ} k 0)
 
 -- ---- the answer
 
-module _ (n m : ℕ) (ends weights : List ℕ) (h : Held n m ends weights) (hold₀ s : List ℕ) (p q : ℕ)
-    (f : Searched n m ends weights hold₀ s p q) where
+module _ (n m : ℕ) (ends weights : List ℕ) (h : Held n m ends weights) (scope₀ hold₀ s : List ℕ) (p q : ℕ) (settled : Bool)
+    (f : Searched n m ends weights scope₀ hold₀ s p q settled) where
   pub searched-candidate : Candidate (list-in n m ends weights) p q
   searched-candidate = record { members = s; group = f .found .group; inside-count = f .inside-count; modules = f .modules }
 

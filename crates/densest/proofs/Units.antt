@@ -1,40 +1,26 @@
 -- Units of a split in slots, against inside counts.
---   inside-total             an inside count as a sum over the words
 --   inside-most, inside-all  the units of the pairs inside a set are at most q times its inside count; all of that, for a set inside the scope
 --   split-kept, split-room   a split whose units moved is a split; a split has room
 --   busy-in                  a pair with units has its ends in the scope
---   own-none, zero-at, no-own    no own loads
+--   own-none                 no own loads
 -- Assumes nothing.
 use mathlib.Core.Path.{_≡_, refl, sym, ap, _∙_}
 use mathlib.Core.Bool.{Bool, true, false, _&&_, cond}
 use mathlib.Core.List.{List, [], _∷_}
-use Prim.Native.Nat.{ℕ, zero, suc, _+_, _*_, _≤_, _<_}
+use Prim.Native.Nat.{ℕ, suc, _+_, _*_, _≤_, _<_}
 use native.Mathlib.Omega.{arith}
 use native.Mathlib.Nat.{mul-le-mul-left, mul-le-mul-right}
-use lib.ListN.{length, getD, replicate, length-replicate}
-use Rattle.theory.specs.Basics.{table}
-use Rattle.theory.specs.Lists.{Pair}
-use Rattle.theory.specs.Groups.{is-in, holds-pair, inside-of, inside}
+use lib.ListN.{length, getD}
+use Rattle.theory.specs.Groups.{is-in, holds-pair, inside}
 use Rattle.theory.specs.Splits.{units}
-use Rattle.theory.specs.Words.{word-pair, pairs-in, list-in}
+use Rattle.theory.specs.Words.{word-pair, list-in}
 use Rattle.theory.proofs.Tests.{tests, no}
-use Rattle.slots.specs.Slots.{total, own-of, held-inside, Own, Room, Same-units}
+use Rattle.slots.specs.Slots.{own-of, held-inside, Room, Same-units}
 use Rattle.slots.specs.Split.{scope-units, Weights, Split}
-use Rattle.slots.proofs.Totals.{total-first, total-le, total-scale}
+use Rattle.slots.proofs.Totals.{total-le, total-scale}
 use Rattle.slots.proofs.Mates.{mate-even, by-pair}
+use Rattle.slots.proofs.Words.{inside-total}
 use Rattle.flow.specs.Flow.{Sub, Busy}
-
-inside-table : (m : ℕ) (h : ℕ → Pair) (t : List ℕ) → inside-of (table m h) t ≡ total m (λ j. cond (holds-pair t (h j)) (h j .w) 0)
-unfolding inside-of table total
-inside-table zero h t = refl
-inside-table (suc m) h t =
-    omega (arith, inside-table m (λ j. h (suc j)) t, total-first m (λ j. cond (holds-pair t (h j)) (h j .w) 0))
-
--- an inside count as a sum over the words
-pub inside-total : (n m : ℕ) (ends weights t : List ℕ) →
-    inside (list-in n m ends weights) t ≡ total m (λ j. cond (holds-pair t (word-pair ends weights j)) (getD weights j 0) 0)
-unfolding inside list-in pairs-in word-pair
-inside-total n m ends weights t = inside-table m (word-pair ends weights) t
 
 -- b: both ends in the set, c: both in the scope
 units-most : (b c : Bool) (x w q : ℕ) → x ≡ cond c (w * q) 0 → cond b x 0 ≤ cond b w 0 * q
@@ -109,12 +95,3 @@ unfolding own-of
 own-none own [] h = refl
 own-none [] (x ∷ xs) h = refl
 own-none (o ∷ os) (x ∷ xs) h = omega (arith, ap (λ (z : ℕ). x * z) (h 0 (omega arith)), own-none os xs (λ v l. h (suc v) (omega arith)))
-
-pub zero-at : (k v : ℕ) → getD (replicate {A = ℕ} k 0) v 0 ≡ 0
-zero-at zero v = refl
-zero-at (suc k) zero = refl
-zero-at (suc k) (suc v) = zero-at k v
-
--- a buffer of zeros has none
-pub no-own : (n k : ℕ) → n ≤ k → Own n (replicate {A = ℕ} k 0)
-no-own n k h = record { long = omega (arith, length-replicate {A = ℕ} k 0); small = λ v l. omega (arith, zero-at k v) }

@@ -47,12 +47,13 @@ pub record Round (n m p q : ℕ) (ends weights scope hold group : List ℕ) (r :
   pub is-a-group : r ≡ false → is-group (list-in n m ends weights) group ≡ true
   pub denser : r ≡ false → p * size group < inside (list-in n m ends weights) group * q
 
--- the found group, its inside count and its size; where units lie is free
-pub record Searched (n m : ℕ) (ends weights hold group : List ℕ) (p q : ℕ) : Type 0 where
+-- the found group, its inside count and its size; where units lie is free, unless the last round was one at that inside count and size
+pub record Searched (n m : ℕ) (ends weights scope hold group : List ℕ) (p q : ℕ) (settled : Bool) : Type 0 where
   pub found : Found (list-in n m ends weights) group
   pub inside-count : p ≡ inside (list-in n m ends weights) group
   pub modules : q ≡ size group
   pub room : Room m hold
+  pub last : settled ≡ true → Round n m p q ends weights scope hold group true
 
 -- the share of pair j: what its first slot holds where both its ends are in the scope, else all of it or nothing, by who left first
 unfoldable pub sheet-share : (q : ℕ) → (ends weights scope place hold : List ℕ) → (j : ℕ) → ℕ

@@ -3,10 +3,11 @@
 // It stands above the split search (crate `flow`) and knows only its promise. The densest remainder of the leaving order is the first group at
 // hand. A round asks for a split at the group's size with no load above its inside count, inside the core of the group's ratio rounded up. Where
 // there is none, `flow` hands over a denser group, and the next round starts from that; where there is one, what does not drain is the found
-// group. One round more, at the found group's size, makes the load sheet. (The Dinkelbach iteration for the maximal densest subgraph.)
+// group. A round at the found group's size makes the load sheet; mostly it is the last one. (The Dinkelbach iteration for the maximal densest
+// subgraph.)
 // Cost: peeling, and a few rounds; ratios rise from round to round, so the rounds end. Nothing is refused, and 15 never comes.
 ghost use mathlib.Core.Path.{_≡_};
-ghost use mathlib.Core.Bool.{_&&_, cond};
+ghost use mathlib.Core.Bool.{true, _&&_, cond};
 ghost use mathlib.Core.List.{_++_};
 ghost use Prim.Native.Nat.{ℕ, _+_, _*_, _≤_, _<_};
 ghost use lib.Dec.{leb, ltb, eqb};
@@ -29,27 +30,28 @@ pub struct Solution {
     pub core: u32,
 }
 
-// A group's inside count and size.
+// A group's inside count and size, and whether the last round made a split at that size.
 struct Ratio {
     p: u32,
     q: u32,
+    settled: bool,
 }
 
 // An entry of the load sheet.
 type Share = u32;
-
-// A word as an index.
-fn wide(x: u32) -> usize
-    ensures { λ r. ⌜ r ≡ x ⌝ }
-{
-    x as usize
-}
 
 // Whether two bytes are member bytes.
 fn both(a: u8, b: u8) -> bool
     ensures { λ r. ⌜ r ≡ (eqb a 1 && eqb b 1) ⌝ }
 {
     if a == 1 { b == 1 } else { false }
+}
+
+// Whether two numbers are two others.
+fn same(a: u32, b: u32, c: u32, d: u32) -> bool
+    ensures { λ r. ⌜ r ≡ (eqb a c && eqb b d) ⌝ }
+{
+    if a == c { b == d } else { false }
 }
 
 // x or 0.
@@ -105,8 +107,8 @@ fn inner(n: usize, m: usize, j: usize, ends: &[u32], group: &[u8]) -> bool
     requires { ⌜ (j < m) × (length (now group) ≡ n) ⌝ }
     ensures { λ r. ⌜ r ≡ (is-in (now (group .entry)) (getD (now (ends .entry)) (2 * j) 0) && is-in (now (group .entry)) (getD (now (ends .entry)) (2 * j + 1) 0)) ⌝ }
 {
-    let a = wide(ends[2 * j]);
-    let b = wide(ends[2 * j + 1]);
+    let a = slots::wide(ends[2 * j]);
+    let b = slots::wide(ends[2 * j + 1]);
     both(group[a], group[b])
 }
 
@@ -116,8 +118,8 @@ fn first_left(n: usize, m: usize, j: usize, ends: &[u32], place: &[u32]) -> bool
     requires { ⌜ (j < m) × (n ≤ length (now place)) ⌝ }
     ensures { λ r. ⌜ r ≡ ltb (getD (now (place .entry)) (getD (now (ends .entry)) (2 * j) 0) 0) (getD (now (place .entry)) (getD (now (ends .entry)) (2 * j + 1) 0) 0) ⌝ }
 {
-    let a = wide(ends[2 * j]);
-    let b = wide(ends[2 * j + 1]);
+    let a = slots::wide(ends[2 * j]);
+    let b = slots::wide(ends[2 * j + 1]);
     place[a] < place[b]
 }
 
@@ -189,12 +191,14 @@ fn search(
     requires { ⌜ Linked n m (now first) (now next) ⌝ }
     requires { ⌜ (length (now scope) ≡ n) × (length (now group) ≡ n) ⌝ }
     requires { ⌜ Room m (now hold) ⌝ }
-    ensures { λ r. ⌜ Searched n m (now (ends .entry)) (now (weights .entry)) (now (hold .exit)) (now (group .exit)) (r .p) (r .q) ⌝ }
+    ensures { λ r. ⌜ Searched n m (now (ends .entry)) (now (weights .entry)) (now (scope .exit)) (now (hold .exit)) (now (group .exit)) (r .p) (r .q)
+        (r .settled) ⌝ }
 {
     let mut p = p0;
     let mut q = q0;
     let mut old = 0;
     let mut done = false;
+    let mut settled = false;
     while !done {
         done = round(
             n,
@@ -211,11 +215,59 @@ fn search(
             hold,
             group,
         );
+        let inside = inside_count(n, m, ends, weights, group);
+        let size = group_size(n, group);
+        settled = same(inside, size, p, q);
         old = q;
-        p = inside_count(n, m, ends, weights, group);
-        q = group_size(n, group);
+        p = inside;
+        q = size;
     }
-    Ratio { p, q }
+    Ratio { p, q, settled }
+}
+
+// A round at the found group's ratio, unless the last one was that round.
+fn last_round(
+    n: usize,
+    m: usize,
+    p: u32,
+    q: u32,
+    settled: bool,
+    ends: &[u32],
+    weights: &[u32],
+    cores: &[u32],
+    first: &[u32],
+    next: &[u32],
+    scope: &mut [u8],
+    hold: &mut [u32],
+    group: &mut [u8],
+) -> bool
+    requires { ⌜ Held n m (now ends) (now weights) ⌝ }
+    requires { ⌜ Candidate (list-in n m (now ends) (now weights)) p q ⌝ }
+    requires { ⌜ Cored (list-in n m (now ends) (now weights)) (now cores) ⌝ }
+    requires { ⌜ Linked n m (now first) (now next) ⌝ }
+    requires { ⌜ (length (now scope) ≡ n) × (length (now group) ≡ n) ⌝ }
+    requires { ⌜ Room m (now hold) ⌝ }
+    requires { ⌜ (settled ≡ true → Round n m p q (now ends) (now weights) (now scope) (now hold) (now group) true) ⌝ }
+    ensures { λ r. ⌜ Round n m p q (now (ends .entry)) (now (weights .entry)) (now (scope .exit)) (now (hold .exit)) (now (group .exit)) r ⌝ }
+{
+    if settled {
+        return true;
+    }
+    round(
+        n,
+        m,
+        p,
+        q,
+        q,
+        ends,
+        weights,
+        cores,
+        first,
+        next,
+        scope,
+        hold,
+        group,
+    )
 }
 
 // A pair's share: what its first slot holds where both ends are in the core, else all or nothing.
@@ -287,12 +339,12 @@ fn solve_in(
         &mut hold,
         members,
     );
-    round(
+    last_round(
         n,
         m,
         best.p,
         best.q,
-        best.q,
+        best.settled,
         ends,
         weights,
         cores,

@@ -42,7 +42,14 @@ fn refused(number: u32, head: Head) -> Edit
 }
 
 // Refuses by 13, 4, 5, 10, 11.
-pub(crate) fn add_on_words(head: Head, agreed: bool, len: usize, words: &mut [u32], a: u32, b: u32) -> Edit
+pub(crate) fn add_on_words(
+    head: Head,
+    agreed: bool,
+    len: usize,
+    words: &mut [u32],
+    a: u32,
+    b: u32,
+) -> Edit
     requires { ⌜ Ready head agreed len (now words) ⌝ }
     ensures { λ r. ⌜ (r ≡ add-edit head agreed len (now (words .entry)) a b) × (now (words .exit) ≡ add-words head agreed len (now (words .entry)) a b) ⌝ }
 {

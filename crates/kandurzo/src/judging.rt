@@ -56,7 +56,13 @@ fn surplus_short(head: Head, first: usize, second: usize) -> bool
     second < n
 }
 
-pub(crate) fn check_gate(head: Head, agreed: bool, members: usize, shares: usize, work: usize) -> Gate
+pub(crate) fn check_gate(
+    head: Head,
+    agreed: bool,
+    members: usize,
+    shares: usize,
+    work: usize,
+) -> Gate
     ensures { λ r. ⌜ r ≡ gate-of head agreed (check-short head members shares work) ⌝ }
 {
     gate(head, agreed, check_short(head, members, shares, work))

@@ -69,7 +69,13 @@ fn peel_in(n: usize, m: usize, work: &[u32], order: &mut [u16], cores: &mut [u16
 }
 
 // Behind the gate the list's weights are set to 1, and the work buffer is cleared in the end.
-pub(crate) fn peel_on_words(head: Head, gate: u32, order: &mut [u16], cores: &mut [u16], work: &mut [u32])
+pub(crate) fn peel_on_words(
+    head: Head,
+    gate: u32,
+    order: &mut [u16],
+    cores: &mut [u16],
+    work: &mut [u32],
+)
     requires { ⌜ On-words head gate (now work) × (gate ≡ 0 → head .n ≤ length (now order))
         × (gate ≡ 0 → head .n ≤ length (now cores)) ⌝ }
     ensures { λ _. ⌜ Peel-on head gate (now (order .entry)) (now (cores .entry)) (now (work .entry))

@@ -1,16 +1,15 @@
 -- What the functions leave is what `peel` answers.
---   all-zero                    a fresh buffer
 --   answer-numberable           the order is one of different modules
 --   answer-pickable             the falls are light enough
 --   answer-cores, answer-places core numbers and places
 --   answer                      all that `peel` answers
 -- Assumes nothing.
-use mathlib.Core.Path.{_≡_, refl, sym, ap, _∙_}
+use mathlib.Core.Path.{_≡_, sym, ap, _∙_}
 use mathlib.Core.Bool.{true}
 use mathlib.Core.List.{List}
-use Prim.Native.Nat.{ℕ, zero, suc, _-_, _≤_, _<_}
+use Prim.Native.Nat.{ℕ, suc, _-_, _≤_, _<_}
 use native.Mathlib.Omega.{arith}
-use lib.ListN.{length, getD, replicate}
+use lib.ListN.{length, getD}
 use Rattle.theory.specs.Lists.{Pairs, is-list}
 use Rattle.theory.specs.Groups.{inside, everyone}
 use Rattle.theory.specs.Leaving.{leaving, leaving-degree}
@@ -28,12 +27,6 @@ use Rattle.peel.specs.Steps.{entry, remaining, picks, Written, Turned, N
 use Rattle.peel.proofs.Updates.{written-all}
 use Rattle.peel.proofs.Leavers.{leaver-below, leavers-apart, leaving-entries, place-of-leaver, remainder-size}
 use Rattle.peel.proofs.Remainders.{falls-all, remaining-inside, picks-densest, densest-le}
-
--- a fresh buffer
-pub all-zero : (k v : ℕ) → _≡_ {A = ℕ} (getD (replicate k 0) v 0) 0
-all-zero zero v = refl
-all-zero (suc k) zero = refl
-all-zero (suc k) (suc v) = all-zero k v
 
 module _ (g : Pairs) (h : is-list g ≡ true) (order falls order′ falls′ : List ℕ) (t : Turned g (g .n) order falls order′ falls′) where
   -- the order's entries

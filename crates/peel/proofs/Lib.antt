@@ -1,7 +1,5 @@
 -- The theorems about what `peel` leaves, and what its own proofs use; each file opens with what it gives.
-pub mod Sums
-pub mod Words
-pub mod Slots
+pub mod Degrees
 pub mod Leavers
 pub mod Ranks
 pub mod Updates

@@ -13,7 +13,7 @@ use lib.Dec.{ltb, eqb}
 use lib.ListN.{length, set}
 use borrow.Author.Tests.{ltb-true, ltb-false}
 use Rattle.theory.specs.Lists.{Pairs}
-use Rattle.theory.specs.Groups.{is-in, everyone}
+use Rattle.theory.specs.Groups.{is-in, everyone, inside}
 use Rattle.theory.specs.Leaving.{degree, leaver}
 use Rattle.theory.specs.Words.{pairs-in, list-in, Held-words}
 use Rattle.theory.specs.Promise.{Leaver-fewest, Leaver-lowest}
@@ -22,13 +22,14 @@ use Rattle.theory.proofs.Lists.{proper}
 use Rattle.theory.proofs.Groups.{in-lt, in-leave, in-everyone, length-everyone}
 use Rattle.theory.proofs.Leaving.{leaver-fewest, leaver-lowest}
 use Rattle.theory.proofs.Peeling.{degree-leave}
+use Rattle.theory.proofs.Cores.{inside-leave}
+use Rattle.slots.proofs.Words.{few-modules, list-ends, list-weights}
 use Rattle.ranking.specs.declared.Leaver.{Leaver}
 use Rattle.ranking.specs.Ranking.{has, carries, Someone, Buildable, Built, Taken}
 use Rattle.ranking.proofs.Order.{has-below, key-first}
-use Rattle.peel.specs.Slots.{slot-joint, Ends, Linked, Indexed}
-use Rattle.peel.specs.Steps.{Ranked, Loosable, Loosened}
-use Rattle.peel.proofs.Words.{few-modules, held-ends}
-use Rattle.peel.proofs.Slots.{degree-slots, joint-slots, slot-degree-le}
+use Rattle.peel.specs.Steps.{Degrees, slot-joint, Links, Ranked, Loosable, Loosened}
+use Rattle.peel.proofs.Degrees.{joint-slots}
+use Rattle.peel.proofs.Remainders.{all-light}
 
 module _ (n m : ℕ) (ends weights : List ℕ) (h : Held-words n m ends weights) where
   -- the list that lies in the words
@@ -37,28 +38,31 @@ module _ (n m : ℕ) (ends weights : List ℕ) (h : Held-words n m ends weights)
 
   -- ---- at first
 
-  module _ (first next degrees : List ℕ) (x : Indexed (2 * m) ends weights first next degrees) where
-    pub ranked-buildable : Buildable n degrees
-    ranked-buildable =
-        let e : Ends m ends weights = held-ends n m ends weights h in
-        let few : n ≤ 512 = few-modules n m ends weights (h .listed) in
-        record {
-          few = few;
-          long = omega (arith, x .degrees-long);
-          light = λ v l.
-              omega (arith, x .carried v (omega arith), slot-degree-le m ends weights v (2 * m) e (omega arith), e .few);
-        }
+  module _ (degrees : List ℕ) (x : Degrees n g degrees) where
+    -- a degree is not above the inside count of all
+    pub ranked-buildable : n ≤ length degrees → Buildable n degrees
+    unfolding Degrees degree inside list-in
+    ranked-buildable long = record {
+      few = few-modules n m ends weights (h .listed);
+      long = long;
+      light = λ v l.
+          omega (
+            arith,
+            x v l,
+            all-light n m ends weights (h .listed) (everyone g),
+            inside-leave n (pairs-in m ends weights) (everyone g) v (proper g (h .listed)) (in-everyone g v l),
+          );
+    }
 
     pub ranked-built : (work : List ℕ) → Built n degrees work → Ranked g (everyone g) work
-    unfolding list-in
+    unfolding Degrees list-in
     ranked-built work b =
         record {
           ranking = b .ranking;
           present = λ u. b .present u ∙ all u (ltb u n) refl;
           carried = λ u e.
               let l : u < n = ltb-true u n (sym (b .present u) ∙ e) in
-              b .carried u l ∙ x .carried u (omega (arith, few-modules n m ends weights (h .listed)))
-              ∙ sym (degree-slots n m ends weights (h .listed) u);
+              b .carried u l ∙ x u l;
         }
       where
         all : (u : ℕ) (t : Bool) → ltb u n ≡ t → ltb u n ≡ is-in (everyone g) u
@@ -125,13 +129,15 @@ module _ (n m : ℕ) (ends weights : List ℕ) (h : Held-words n m ends weights)
           let was : has work u ≡ true = (simp tests at (sym (t .present u) ∙ e)) .0 in
           t .carried u e ∙ r .carried u was ∙ sym (fallen u)
 
-      pub ranked-loosable : (first next : List ℕ) → Linked (2 * m) ends first next → Loosable m (l .number) ends weights first next new
+      pub ranked-loosable : (first next : List ℕ) → Links n m ends first next → Loosable n m (l .number) ends weights first next new
       ranked-loosable first next x =
           record {
-            ends-good = held-ends n m ends weights h;
+            few = few-modules n m ends weights (h .listed);
+            ends-good = list-ends n m ends weights (h .listed) (h .ends-long);
+            weights-good = list-weights n m ends weights (h .listed) (h .weights-long);
             links = x;
             ranking = t .ranking;
-            below = has-below work (l .number) (t .there);
+            below = omega (arith, ranked-first, in-lt s v there);
             enough = λ u e. let at : l .number ≡ v = ranked-first in rw at (omega (arith, left-carries u e));
           }
 

@@ -18,21 +18,21 @@ use native.Mathlib.Nat.{mul-le-mul-right}
 use lib.Dec.{leb}
 use borrow.Author.Tests.{leb-true, leb-false, le-leb}
 use lib.ListN.{getD}
-use Rattle.theory.specs.Basics.{table}
-use Rattle.theory.specs.Lists.{Pair, Pairs, is-list}
-use Rattle.theory.specs.Groups.{size, everyone, holds-pair, inside-of, inside, at-most}
+use Rattle.theory.specs.Lists.{Pairs, is-list}
+use Rattle.theory.specs.Groups.{size, everyone, holds-pair, inside, at-most}
 use Rattle.theory.specs.Leaving.{degree, leaving, remainder, leaving-degree}
-use Rattle.theory.specs.Words.{word-pair, pairs-in, list-in}
+use Rattle.theory.specs.Words.{word-pair, list-in}
 use Rattle.theory.proofs.Lists.{proper}
 use Rattle.theory.proofs.Tests.{no}
 use Rattle.theory.proofs.Groups.{inside-none, at-most-trans, at-most-or}
 use Rattle.theory.proofs.Cores.{inside-leave}
+use Rattle.slots.specs.Slots.{total}
+use Rattle.slots.proofs.Totals.{total-next, total-ext, total-const, total-upto}
+use Rattle.slots.proofs.Held.{cond-most}
+use Rattle.slots.proofs.Words.{few-pairs, good-pair, inside-total}
 use Rattle.peel.specs.declared.Remainder.{Remainder}
 use Rattle.peel.specs.Remainders.{denser-of, densest-upto}
-use Rattle.peel.specs.Slots.{upto}
 use Rattle.peel.specs.Steps.{entry, remaining, pick, picks, Remainder-at, denser}
-use Rattle.peel.proofs.Sums.{upto-ext, upto-first, upto-part, upto-next, upto-bound}
-use Rattle.peel.proofs.Words.{few-pairs, good-pair}
 use Rattle.peel.proofs.Leavers.{leaver-in, remainder-size, remainder-group}
 
 pub cross-fits : (p q : ℕ) → p ≤ 4096000 → q ≤ 512 → p * q ≤ 2097152000
@@ -43,26 +43,26 @@ cross-fits p q h k = omega (arith, mul-le-mul-right q h)
 module _ (n : ℕ) (falls : List ℕ) where
   pub remaining-fits : (i : ℕ) → i < n → getD falls i 0 ≤ remaining n falls i
   unfolding remaining entry
-  remaining-fits i l = omega (arith, upto-part i n (entry falls) l)
+  remaining-fits i l = omega (arith, total-next i (entry falls), total-upto (i + 1) n (entry falls) (omega arith))
 
   pub remaining-next : (i : ℕ) → remaining n falls (i + 1) ≡ remaining n falls i - getD falls i 0
   unfolding remaining entry
-  remaining-next i = omega (arith, upto-next i (entry falls))
+  remaining-next i = omega (arith, total-next i (entry falls))
 
-  pub remaining-le : (i : ℕ) → remaining n falls i ≤ upto n (entry falls)
+  pub remaining-le : (i : ℕ) → remaining n falls i ≤ total n (entry falls)
   unfolding remaining
   remaining-le i = omega arith
 
-  pub remaining-start : (x : ℕ) → x ≡ upto n (entry falls) → x ≡ remaining n falls 0
-  unfolding remaining upto
+  pub remaining-start : (x : ℕ) → x ≡ total n (entry falls) → x ≡ remaining n falls 0
+  unfolding remaining total
   remaining-start x e = omega arith
 
   -- what is compared fits
-  pub best-light : upto n (entry falls) ≤ 4096000 → n ≤ 512 → (i : ℕ) (r : Remainder) → Remainder-at n falls i r → (r .p ≤ 4096000) × (r .q ≤ 512)
+  pub best-light : total n (entry falls) ≤ 4096000 → n ≤ 512 → (i : ℕ) (r : Remainder) → Remainder-at n falls i r → (r .p ≤ 4096000) × (r .q ≤ 512)
   best-light h k i r l = (omega (arith, l .p-is, remaining-le i), omega (arith, l .q-is))
 
-  pub best-start : (r : Remainder) → r .p ≡ upto n (entry falls) → r .q ≡ n → r .at ≡ 0 → Remainder-at n falls (picks n (remaining n falls) 0) r
-  unfolding picks remaining upto
+  pub best-start : (r : Remainder) → r .p ≡ total n (entry falls) → r .q ≡ n → r .at ≡ 0 → Remainder-at n falls (picks n (remaining n falls) 0) r
+  unfolding picks remaining total
   best-start r p q a = record { at-is = a; p-is = omega arith; q-is = omega arith }
 
   either : (t : Bool) (i j : ℕ) (a b : Remainder) → Remainder-at n falls i a → Remainder-at n falls j b →
@@ -96,36 +96,22 @@ densest-le g (suc i) = go (at-most g (remainder g (suc i)) (remainder g (densest
 
 -- ---- by the list
 
--- what a pair adds to an inside count
-pair-inside : (s : List ℕ) → Pair → ℕ
-pair-inside s p = cond (holds-pair s p) (p .w) 0
-
-inside-upto : (m : ℕ) (f : ℕ → Pair) (s : List ℕ) → inside-of (table m f) s ≡ upto m (λ j. pair-inside s (f j))
-unfolding inside-of table pair-inside upto
-inside-upto zero f s = refl
-inside-upto (suc m) f s = omega (arith, inside-upto m (λ j. f (suc j)) s, upto-first m (λ j. pair-inside s (f j)))
-
 module _ (n m : ℕ) (ends weights : List ℕ) (h : is-list (list-in n m ends weights) ≡ true) where
   -- no inside count is above 1,000 for each pair
   pub all-light : (s : List ℕ) → inside (list-in n m ends weights) s ≤ 4096000
-  unfolding inside list-in pairs-in pair-inside word-pair
   all-light s =
       omega (
         arith,
-        inside-upto m (word-pair ends weights) s,
+        inside-total n m ends weights s,
         few-pairs n m ends weights h,
-        upto-bound m 1000 (λ j. pair-inside s (word-pair ends weights j))
-            (λ j l. part (holds-pair s (word-pair ends weights j)) (getD weights j 0) (good-pair n m ends weights h j l .light)),
+        total-const m 1000 (λ j. cond (holds-pair s (word-pair ends weights j)) (getD weights j 0) 0)
+            (λ j l. omega (arith, cond-most (holds-pair s (word-pair ends weights j)) (getD weights j 0), good-pair n m ends weights h j l .light)),
       )
-    where
-      part : (t : Bool) (w : ℕ) → w ≤ 1000 → cond t w 0 ≤ 1000
-      part true w k = k
-      part false w k = omega arith
 
 -- each leaver takes its degree out
 module _ (g : Pairs) (h : is-list g ≡ true) where
-  pub inside-falls : (i : ℕ) → i ≤ g .n → inside g (remainder g i) + upto i (leaving-degree g) ≡ inside g (everyone g)
-  unfolding remainder upto inside leaving-degree degree
+  pub inside-falls : (i : ℕ) → i ≤ g .n → inside g (remainder g i) + total i (leaving-degree g) ≡ inside g (everyone g)
+  unfolding remainder total inside leaving-degree degree
   inside-falls zero l = omega arith
   inside-falls (suc i) l =
       omega (
@@ -139,16 +125,16 @@ module _ (g : Pairs) (h : is-list g ≡ true) where
   inside-end = inside-none (g .pairs) (remainder g (g .n)) (omega (arith, remainder-size g (g .n) (omega arith)))
 
   module _ (falls : List ℕ) (f : (i : ℕ) → i < g .n → getD falls i 0 ≡ leaving-degree g i) where
-    falls-upto : (i : ℕ) → i ≤ g .n → upto i (entry falls) ≡ upto i (leaving-degree g)
+    falls-first : (i : ℕ) → i ≤ g .n → total i (entry falls) ≡ total i (leaving-degree g)
     unfolding entry
-    falls-upto i l = upto-ext i (entry falls) (leaving-degree g) (λ j k. f j (omega arith))
+    falls-first i l = total-ext i (entry falls) (leaving-degree g) (λ j k. f j (omega arith))
 
-    pub falls-all : upto (g .n) (entry falls) ≡ inside g (everyone g)
-    falls-all = omega (arith, falls-upto (g .n) (omega arith), inside-falls (g .n) (omega arith), inside-end)
+    pub falls-all : total (g .n) (entry falls) ≡ inside g (everyone g)
+    falls-all = omega (arith, falls-first (g .n) (omega arith), inside-falls (g .n) (omega arith), inside-end)
 
     pub remaining-inside : (i : ℕ) → i ≤ g .n → remaining (g .n) falls i ≡ inside g (remainder g i)
     unfolding remaining
-    remaining-inside i l = omega (arith, falls-all, falls-upto i l, inside-falls i l)
+    remaining-inside i l = omega (arith, falls-all, falls-first i l, inside-falls i l)
 
     pub pick-denser : (i j : ℕ) → i ≤ g .n → j ≤ g .n → pick (g .n) (remaining (g .n) falls) i j ≡ denser-of g i j
     unfolding pick denser-of at-most

@@ -3,5 +3,4 @@ pub mod Places
 pub mod Remainders
 pub mod Peel
 pub mod Promise
-pub mod Slots
 pub mod Steps

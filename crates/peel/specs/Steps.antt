@@ -1,5 +1,8 @@
 -- What the functions under `peel` take and leave; only this crate cites it.
 --   entry, Written           a buffer as a function; its first entries are written, the others as they were
+--   Weighed, Degrees         what slots weigh, and what modules carry at first
+--   slot-joint               what joins two modules, by slots
+--   Links                    the links of all slots, in buffers that are long enough
 --   Ranked                   the ranking holds the modules present, each with its degree
 --   Loosable, Loosened       before and after the pairs of a leaver are taken from the others
 --   Turned                   the leaving order and the degrees at leaving
@@ -8,18 +11,20 @@
 --   Pickable, Remainder-at, denser    the same, as it is returned
 -- Assumes nothing: these are definitions.
 use mathlib.Core.Path.{_≡_}
-use mathlib.Core.Bool.{true, cond}
+use mathlib.Core.Bool.{true, _&&_, cond}
 use mathlib.Core.List.{List}
-use Prim.Native.Nat.{ℕ, zero, suc, _+_, _*_, _-_, _≤_, _<_}
-use lib.Dec.{leb}
+use Prim.Native.Nat.{ℕ, zero, suc, _+_, _*_, _-_, _/_, _≤_, _<_}
+use lib.Dec.{leb, eqb}
 use lib.ListN.{length, getD}
 use Rattle.theory.specs.Basics.{greatest}
 use Rattle.theory.specs.Lists.{Pairs}
-use Rattle.theory.specs.Groups.{is-in}
+use Rattle.theory.specs.Groups.{is-in, everyone}
 use Rattle.theory.specs.Leaving.{degree, leaving, leaving-degree}
+use Rattle.slots.specs.Slots.{mate, total, Ends}
+use Rattle.slots.specs.Links.{Linked}
+use Rattle.slots.specs.Split.{Weights}
 use Rattle.ranking.specs.Ranking.{Ranking, has, carries}
 use Rattle.peel.specs.declared.Remainder.{Remainder}
-use Rattle.peel.specs.Slots.{upto, slot-joint, Ends, Linked}
 
 -- entry i of a buffer, as a function
 unfoldable pub entry : List ℕ → (i : ℕ) → ℕ
@@ -31,6 +36,30 @@ pub record Written (k : ℕ) (f : ℕ → ℕ) (old new : List ℕ) : Type 0 whe
   pub front : (i : ℕ) → i < k → getD new i 0 ≡ f i
   pub rest : (i : ℕ) → k ≤ i → getD new i 0 ≡ getD old i 0
 
+-- ---- slots (pair j has the slots 2j and 2j + 1, one for each end)
+
+-- each slot weighs what its pair does
+unfoldable pub Weighed : (m : ℕ) → (weights hold : List ℕ) → Type 0
+Weighed m ws hold = (s : ℕ) → s < 2 * m → getD hold s 0 ≡ getD ws (s / 2) 0
+
+-- each of n modules with its degree among all
+unfoldable pub Degrees : (n : ℕ) → Pairs → (degrees : List ℕ) → Type 0
+Degrees n g degrees = (v : ℕ) → v < n → getD degrees v 0 ≡ degree g (everyone g) v
+
+-- what the pair of slot s counts, where the slot is v's and leads to u
+unfoldable pub slot-to : (ends weights : List ℕ) → (u v s : ℕ) → ℕ
+slot-to es ws u v s = cond (eqb (getD es s 0) v && eqb (getD es (mate s) 0) u) (getD ws (s / 2) 0) 0
+
+-- what the first k slots have between v and u
+unfoldable pub slot-joint : (ends weights : List ℕ) → (u v k : ℕ) → ℕ
+slot-joint es ws u v k = total k (slot-to es ws u v)
+
+-- the links of all slots, in buffers that are long enough
+pub record Links (n m : ℕ) (ends first next : List ℕ) : Type 0 where
+  pub linked : Linked n m ends first next
+  pub first-long : n ≤ length first
+  pub next-long : 2 * m ≤ length next
+
 -- ---- turns
 
 -- the ranking holds exactly the modules of s, each with its degree among them
@@ -40,11 +69,13 @@ pub record Ranked (g : Pairs) (s work : List ℕ) : Type 0 where
   pub carried : (u : ℕ) → has work u ≡ true → carries work u ≡ degree g s u
 
 -- v has left, and whoever is present still carries what joins it to v
-pub record Loosable (m v : ℕ) (ends weights first next work : List ℕ) : Type 0 where
-  pub ends-good : Ends m ends weights
-  pub links : Linked (2 * m) ends first next
+pub record Loosable (n m v : ℕ) (ends weights first next work : List ℕ) : Type 0 where
+  pub few : n ≤ 512
+  pub ends-good : Ends n m ends
+  pub weights-good : Weights m weights
+  pub links : Links n m ends first next
   pub ranking : Ranking work
-  pub below : v < 512
+  pub below : v < n
   pub enough : (u : ℕ) → has work u ≡ true → slot-joint ends weights u v (2 * m) ≤ carries work u
 
 -- whoever is present carries less by what the first k slots have between it and v
@@ -83,7 +114,7 @@ pub record Numbered (i n : ℕ) (order falls cores place cores′ place′ : Lis
 
 -- what is inside the remainder when i of n have left: what falls from then on
 unfoldable pub remaining : (n : ℕ) → (falls : List ℕ) → (i : ℕ) → ℕ
-remaining n falls i = upto n (entry falls) - upto i (entry falls)
+remaining n falls i = total n (entry falls) - total i (entry falls)
 
 -- i, unless j of n has the higher ratio, by cross products
 unfoldable pub pick : (n : ℕ) → (f : ℕ → ℕ) → (i j : ℕ) → ℕ
@@ -100,7 +131,7 @@ pub record Pickable (n least : ℕ) (falls : List ℕ) : Type 0 where
   pub some : 1 ≤ least
   pub most : least ≤ n
   pub long : n ≤ length falls
-  pub light : upto n (entry falls) ≤ 4096000
+  pub light : total n (entry falls) ≤ 4096000
 
 -- r is the remainder when `at` have left
 pub record Remainder-at (n : ℕ) (falls : List ℕ) (at : ℕ) (r : Remainder) : Type 0 where

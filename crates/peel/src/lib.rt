@@ -8,9 +8,9 @@ ghost use Prim.Native.Nat.{_+_, _*_, _-_, _≤_, _<_, max};
 ghost use lib.ListN.{length};
 ghost use Rattle.theory.specs.Groups.{everyone};
 ghost use Rattle.theory.specs.Words.{list-in, Held-words};
+ghost use Rattle.slots.specs.Slots.{total};
 ghost use Rattle.peel.specs.Peel.{Peelable, Peels};
-ghost use Rattle.peel.specs.Slots.{mate, upto, Ends, Linked, Indexed};
-ghost use Rattle.peel.specs.Steps.{Ranked, Loosable, Loosened, Turned, Numberable, Numbered};
+ghost use Rattle.peel.specs.Steps.{Weighed, Degrees, Links, Ranked, Loosable, Loosened, Turned, Numberable, Numbered};
 ghost use Rattle.peel.specs.Steps.{entry, remaining, picks, denser, Pickable, Remainder-at};
 
 // What is left when `at` modules have left: its inside count p and its size q.
@@ -20,50 +20,40 @@ pub struct Remainder {
     pub at: u32,
 }
 
-fn wide(x: u32) -> usize
-    ensures { λ r. ⌜ r ≡ x ⌝ }
-{
-    x as usize
-}
-
 fn higher_of(a: u32, b: u32) -> u32
     ensures { λ r. ⌜ r ≡ max a b ⌝ }
 {
     if a < b { b } else { a }
 }
 
-// The slot of the pair's other end.
-fn other(s: usize) -> usize
-    requires { ⌜ s < 8192 ⌝ }
-    ensures { λ r. ⌜ r ≡ mate s ⌝ }
-{
-    s + 1 - 2 * (s % 2)
-}
-
-// Links from each module to its slots, and the degrees.
-fn index(
-    m: usize,
-    ends: &[u32],
-    weights: &[u32],
-    first: &mut [u32],
-    next: &mut [u32],
-    degrees: &mut [u32],
-)
-    requires { ⌜ Ends m (now ends) (now weights) ⌝ }
-    requires { ⌜ Indexed 0 (now ends) (now weights) (now first) (now next) (now degrees) ⌝ }
-    ensures { λ r. ⌜ Indexed (2 * m) (now (ends .entry)) (now (weights .entry)) (now (first .exit)) (now (next .exit)) (now (degrees .exit)) ⌝ }
+// Each slot weighs what its pair does.
+fn weigh(m: usize, weights: &[u32], hold: &mut [u32])
+    requires { ⌜ m ≤ 4096 ⌝ }
+    requires { ⌜ m ≤ length (now weights) ⌝ }
+    requires { ⌜ 2 * m ≤ length (now hold) ⌝ }
+    ensures { λ r. ⌜ Weighed m (now (weights .entry)) (now (hold .exit)) ⌝ }
 {
     let slots = 2 * m;
     for s in 0..slots {
-        let v = wide(ends[s]);
-        next[s] = first[v];
-        first[v] = (s + 1) as u32;
-        degrees[v] = degrees[v] + weights[s / 2];
+        hold[s] = weights[s / 2];
     }
+}
+
+// The degrees among all modules: what each module's slots weigh.
+fn count(n: usize, m: usize, ends: &[u32], weights: &[u32], degrees: &mut [u32])
+    requires { ⌜ Held-words n m (now ends) (now weights) ⌝ }
+    requires { ⌜ n ≤ length (now degrees) ⌝ }
+    ensures { λ r. ⌜ Degrees n (list-in n m (now (ends .entry)) (now (weights .entry))) (now (degrees .exit)) ⌝ }
+{
+    let own = [0u32; 512];
+    let mut hold = [0u32; 8192];
+    weigh(m, weights, &mut hold);
+    slots::loads(n, m, &own, ends, &hold, degrees);
 }
 
 // Module v has left: those that its pairs join it to fall in the ranking.
 fn loosen(
+    n: usize,
     m: usize,
     v: usize,
     ends: &[u32],
@@ -72,15 +62,15 @@ fn loosen(
     next: &[u32],
     work: &mut [u32],
 )
-    requires { ⌜ Loosable m v (now ends) (now weights) (now first) (now next) (now work) ⌝ }
+    requires { ⌜ Loosable n m v (now ends) (now weights) (now first) (now next) (now work) ⌝ }
     ensures { λ r. ⌜ Loosened (2 * m) v (now (ends .entry)) (now (weights .entry)) (now (work .entry)) (now (work .exit)) ⌝ }
 {
-    let mut s = wide(first[v]);
+    let mut s = slots::wide(first[v]);
     while s > 0 {
         let k = s - 1;
-        let u = wide(ends[other(k)]);
+        let u = slots::wide(ends[slots::other(k)]);
         ranking::lower(u, weights[k / 2], work);
-        s = wide(next[k]);
+        s = slots::wide(next[k]);
     }
 }
 
@@ -97,7 +87,7 @@ fn turns(
     falls: &mut [u32],
 )
     requires { ⌜ Held-words n m (now ends) (now weights) ⌝ }
-    requires { ⌜ Linked (2 * m) (now ends) (now first) (now next) ⌝ }
+    requires { ⌜ Links n m (now ends) (now first) (now next) ⌝ }
     requires { ⌜ Ranked (list-in n m (now ends) (now weights)) (everyone (list-in n m (now ends) (now weights))) (now work) ⌝ }
     requires { ⌜ n ≤ length (now order) ⌝ }
     requires { ⌜ n ≤ length (now falls) ⌝ }
@@ -109,7 +99,7 @@ fn turns(
         let v = leaver.number;
         order[i] = v as u32;
         falls[i] = leaver.carried;
-        loosen(m, v, ends, weights, first, next, work);
+        loosen(n, m, v, ends, weights, first, next, work);
     }
 }
 
@@ -121,7 +111,7 @@ fn number(n: usize, order: &[u32], falls: &[u32], cores: &mut [u32], place: &mut
 {
     let mut top = 0;
     for i in 0..n {
-        let v = wide(order[i]);
+        let v = slots::wide(order[i]);
         top = higher_of(top, falls[i]);
         cores[v] = top;
         place[v] = i as u32;
@@ -131,8 +121,8 @@ fn number(n: usize, order: &[u32], falls: &[u32], cores: &mut [u32], place: &mut
 // What falls in all: the inside count of all modules.
 fn total(n: usize, falls: &[u32]) -> u32
     requires { ⌜ n ≤ length (now falls) ⌝ }
-    requires { ⌜ upto n (entry (now falls)) ≤ 4096000 ⌝ }
-    ensures { λ r. ⌜ r ≡ upto n (entry (now (falls .entry))) ⌝ }
+    requires { ⌜ total n (entry (now falls)) ≤ 4096000 ⌝ }
+    ensures { λ r. ⌜ r ≡ total n (entry (now (falls .entry))) ⌝ }
 {
     let mut sum = 0;
     for i in 0..n {
@@ -198,7 +188,8 @@ pub fn peel(
     let mut degrees = [0u32; 512];
     let mut work = [0u32; 1024];
     let mut falls = [0u32; 512];
-    index(m, ends, weights, &mut first, &mut next, &mut degrees);
+    slots::links(n, m, ends, &mut first, &mut next);
+    count(n, m, ends, weights, &mut degrees);
     ranking::build(n, &degrees, &mut work);
     turns(
         n,

@@ -1,24 +1,24 @@
 -- The units that a module holds.
 --   held-zero, held-next         slot by slot
 --   held-part, held-some         a slot's units are among its module's; a module that holds units has a slot that does
---   held-most                    all of them fit 32 bits
+--   cond-most, held-most         all of them fit 32 bits
 --   Added, loads-next, loads-fit    a loop that adds up the loads
 --   loads-covers                 loads are the units held, and loads of the modules' own
+--   zero-at, no-own              a buffer of zeros: no module has a load of its own
 -- Assumes nothing.
 use mathlib.Core.Path.{_≡_, refl, sym, _∙_}
 use mathlib.Core.Bool.{Bool, true, false, cond}
 use mathlib.Core.List.{List}
 use mathlib.Core.Logic.{⊎-elim}
-use Prim.Native.Nat.{ℕ, _+_, _*_, _≤_, _<_}
+use Prim.Native.Nat.{ℕ, zero, suc, _+_, _*_, _≤_, _<_}
 use native.Mathlib.Omega.{arith}
-use native.Mathlib.Numerals.{add-one}
 use lib.Dec.{eqb}
-use lib.ListN.{length, getD, set}
+use lib.ListN.{length, getD, set, replicate, length-replicate}
 use lib.Seq.{getD-set-same, getD-set-other}
 use borrow.Author.Tests.{eqb-true}
 use Rattle.slots.specs.Slots.{total, held-upto, Room, Own, Loads, Covers}
 use Rattle.slots.proofs.Choice.{eq-or-ne, cond-eq, cond-ne}
-use Rattle.slots.proofs.Totals.{total-le, total-part, total-some, total-const, total-upto, total-pairs}
+use Rattle.slots.proofs.Totals.{total-next, total-le, total-part, total-some, total-const, total-upto, total-pairs}
 use Rattle.slots.proofs.Mates.{mate-even}
 
 pub held-zero : (ends hold : List ℕ) (v : ℕ) → held-upto 0 ends hold v ≡ 0
@@ -28,8 +28,8 @@ held-zero ends hold v = refl
 -- one slot more
 pub held-next : (k : ℕ) (ends hold : List ℕ) (v : ℕ) →
     held-upto (k + 1) ends hold v ≡ cond (eqb (getD ends k 0) v) (getD hold k 0) 0 + held-upto k ends hold v
-unfolding held-upto total
-held-next k ends hold v = rw add-one
+unfolding held-upto
+held-next k ends hold v = total-next k _
 
 -- what a slot holds, its module holds
 pub held-part : (K k : ℕ) (ends hold : List ℕ) → k < K → getD hold k 0 ≤ held-upto K ends hold (getD ends k 0)
@@ -50,7 +50,8 @@ held-some K ends hold v h =
     let c = cond-some (eqb (getD ends (r .0) 0) v) (getD hold (r .0) 0) (r .2) in
     (r .0, r .1, eqb-true _ _ (c .0), c .1)
 
-cond-most : (b : Bool) (x : ℕ) → cond b x 0 ≤ x
+-- a part counts at most what it is
+pub cond-most : (b : Bool) (x : ℕ) → cond b x 0 ≤ x
 cond-most true x = omega arith
 cond-most false x = omega arith
 
@@ -108,3 +109,13 @@ loads-fit n m s own ends hold load x e l ls few o r h =
 -- loads are the units held, and loads of the modules' own
 pub loads-covers : {n m : ℕ} {own ends hold load : List ℕ} → Own n own → Loads n m own ends hold load → Covers n m ends hold load
 loads-covers o l = record { long = l .long; least = λ v h. omega (arith, l .same v h); most = λ v h. omega (arith, l .same v h, o .small v h) }
+
+-- a buffer of zeros
+pub zero-at : (k v : ℕ) → getD (replicate {A = ℕ} k 0) v 0 ≡ 0
+zero-at zero v = refl
+zero-at (suc k) zero = refl
+zero-at (suc k) (suc v) = zero-at k v
+
+-- has no own loads
+pub no-own : (n k : ℕ) → n ≤ k → Own n (replicate {A = ℕ} k 0)
+no-own n k h = record { long = omega (arith, length-replicate {A = ℕ} k 0); small = λ v l. omega (arith, zero-at k v) }

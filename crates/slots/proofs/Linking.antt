@@ -1,16 +1,19 @@
--- Chains of slots, one slot more at a time.
+-- Chains of slots, one slot more at a time, and the walk back along them.
 --   Chained                            the links of the slots below s
 --   chained-start, chained-next, chained-end    no slot, one slot more, all slots
+--   link-back                          a link leads back, to a slot of the module
+--   total-linked                       a sum over a module's slots, along its links
 -- Assumes nothing.
-use mathlib.Core.Path.{_≡_, sym, ap, _∙_}
+use mathlib.Core.Path.{_≡_, refl, sym, ap, _∙_}
 use mathlib.Core.List.{List}
 use mathlib.Core.Logic.{⊎-elim}
-use Prim.Native.Nat.{ℕ, _+_, _*_, _≤_, _<_}
+use Prim.Native.Nat.{ℕ, zero, suc, _+_, _*_, _≤_, _<_}
 use native.Mathlib.Omega.{arith}
 use native.Mathlib.Numerals.{add-one}
 use lib.ListN.{length, getD, set}
 use lib.Seq.{getD-set-same, getD-set-other}
 use borrow.Author.Tests.{eq-eqb, ne-eqb}
+use Rattle.slots.specs.Slots.{total}
 use Rattle.slots.specs.Links.{last-slot, Linked}
 use Rattle.slots.proofs.Choice.{eq-or-ne, stored-more}
 
@@ -44,3 +47,24 @@ chained-next {n} {s} {ends} {first} {next} {x} e l lf ln c = record {
 
 pub chained-end : {n m s : ℕ} {ends first next : List ℕ} → s ≡ 2 * m → Chained n s ends first next → Linked n m ends first next
 chained-end {n} {m} {s} e c = record { firsts = rw e at (c .firsts); nexts = rw e at (c .nexts) }
+
+-- a link leads back, to a slot of v
+pub link-back : (k : ℕ) (ends : List ℕ) (v : ℕ) → (last-slot k ends v ≤ k) × ((s : ℕ) → last-slot k ends v ≡ suc s → getD ends s 0 ≡ v)
+unfolding last-slot
+link-back zero ends v = (omega arith, λ s e. absurd (omega arith))
+link-back (suc k) ends v =
+    ⊎-elim
+    (λ (e : getD ends k 0 ≡ v). rw (eq-eqb (getD ends k 0) v e) (omega arith, λ s d. let z : s ≡ k = omega arith in rw z e))
+    (λ ne. rw (ne-eqb (getD ends k 0) v ne) (let r = link-back k ends v in (omega (arith, r .0), r .1)))
+    (eq-or-ne (getD ends k 0) v)
+
+-- the links pass over slots of other modules, which add nothing
+pub total-linked : (k : ℕ) (ends : List ℕ) (v : ℕ) (f : ℕ → ℕ) → ((s : ℕ) → (getD ends s 0 ≡ v → ⊥) → f s ≡ 0) →
+    total k f ≡ total (last-slot k ends v) f
+unfolding total last-slot
+total-linked zero ends v f z = refl
+total-linked (suc k) ends v f z =
+    ⊎-elim
+    (λ (e : getD ends k 0 ≡ v). rw (eq-eqb (getD ends k 0) v e))
+    (λ ne. rw (ne-eqb (getD ends k 0) v ne) (omega (arith, z k ne, total-linked k ends v f z)))
+    (eq-or-ne (getD ends k 0) v)

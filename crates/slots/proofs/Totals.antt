@@ -1,6 +1,6 @@
 -- Sums of f 0, .., f (k − 1).
 --   total-ext, total-le, total-lt     two sums, part by part
---   total-first                       the first part by itself
+--   total-next, total-first           the last part, or the first, by itself
 --   total-one                         two sums that differ at one place
 --   total-part, total-some            a part is at most the sum; a sum above 0 has a part above 0
 --   total-const, total-upto           at most k times the greatest part; a longer sum is no less
@@ -10,6 +10,7 @@ use mathlib.Core.Path.{_≡_, refl, sym, ap}
 use mathlib.Core.Logic.{⊎-elim}
 use Prim.Native.Nat.{ℕ, zero, suc, _+_, _*_, _≤_, _<_}
 use native.Mathlib.Omega.{arith}
+use native.Mathlib.Numerals.{add-one}
 use Rattle.slots.specs.Slots.{total}
 use Rattle.slots.proofs.Choice.{eq-or-ne, lt-or-le}
 
@@ -31,6 +32,11 @@ total-lt (suc k) i f h e l g =
     (λ (z : i ≡ k). omega (arith, total-le k f h (λ j b. e j (omega arith)), ap f z, ap h z))
     (λ ne. omega (arith, e k (omega arith), total-lt k i f h (λ j b. e j (omega arith)) (omega arith) g))
     (eq-or-ne i k)
+
+-- one part more
+pub total-next : (k : ℕ) (f : ℕ → ℕ) → total (k + 1) f ≡ f k + total k f
+unfolding total
+total-next k f = rw add-one
 
 -- the first part by itself
 pub total-first : (k : ℕ) (f : ℕ → ℕ) → total (suc k) f ≡ f 0 + total k (λ j. f (suc j))

@@ -3,7 +3,7 @@
 // Pair j has two slots, 2j and 2j + 1: ends[s] is a slot's module, hold[s] the units of the pair that it holds. Both ends are alike, so nothing goes
 // by sides. A module's load is its own, which does not move, and the units that it holds. Three arguments are the list: n modules, m pairs, `ends`.
 // `spread` lays out a split, `loads` adds up, `links` chains each module's slots, `shift` moves units (no other function does). The first three cost a
-// step for each slot or pair. Nothing is refused: what is asked is in the contracts.
+// step for each slot or pair. Peeling uses `loads` and `links` too. Nothing is refused: what is asked is in the contracts.
 ghost use mathlib.Core.Path.{_≡_};
 ghost use mathlib.Core.Bool.{_&&_, cond};
 ghost use Prim.Native.Nat.{ℕ, _+_, _*_, _≤_, _<_, min};

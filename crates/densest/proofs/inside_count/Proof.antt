@@ -4,8 +4,7 @@ use mathlib.Core.Path.{_≡_, _∙_, ap}
 use Prim.Native.Nat.{ℕ, _*_, _-_, _≤_}
 use lib.ListN.{length}
 use Rattle.theory.specs.Words.{Held-words as Held}
-use Rattle.peel.proofs.Words.{few-pairs, good-pair}
-use Rattle.densest.proofs.Words.{list-ends}
+use Rattle.slots.proofs.Words.{few-pairs, good-pair, list-ends}
 use Rattle.densest.proofs.Counts.{counted, counted-none, counted-next, counted-all, pick-le}
 use Rattle.densest.proofs.inside_count.Statement.{statement}
 use Rattle.densest.proofs.inside_count.Tie as tie

@@ -5,8 +5,9 @@ use Rattle.theory.specs.Cores.{core}
 use Rattle.theory.specs.Splits.{rounded-up}
 use Rattle.theory.specs.Words.{list-in}
 use Rattle.theory.proofs.Lists.{listed}
-use Rattle.densest.proofs.Words.{list-ends, list-weights}
-use Rattle.densest.proofs.Units.{split-room, no-own}
+use Rattle.slots.proofs.Held.{no-own}
+use Rattle.slots.proofs.Words.{list-ends, list-weights}
+use Rattle.densest.proofs.Units.{split-room}
 use Rattle.densest.proofs.Counts.{core-marked}
 use Rattle.densest.proofs.Rounds.{candidate-bounded, round-of}
 use borrow.Author.Needs.{needs}

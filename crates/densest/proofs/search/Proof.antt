@@ -18,12 +18,23 @@ not-false true e = refl
 not-false false e = no (sym e)
 
 abbrev Inv-loop : tie.InvT-loop
-Inv-loop n m p0 q0 ends weights cores first next scope₀ hold₀ group₀ p₀ q₀ old₀ done₀ scope hold group p q old done =
-    Going n m ends weights cores first next scope hold group p q done × (length scope ≡ length scope₀) × (length hold ≡ length hold₀)
+Inv-loop n m p0 q0 ends weights cores first next scope₀ hold₀ group₀ p₀ q₀ old₀ done₀ settled₀ scope hold group p q old done settled =
+    Going n m ends weights cores first next scope hold group p q done settled × (length scope ≡ length scope₀) × (length hold ≡ length hold₀)
     × (length group ≡ length group₀)
 
 abbrev μ-loop : tie.MeasureT-loop
-μ-loop n m p0 q0 ends weights cores first next scope₀ hold₀ group₀ p₀ q₀ old₀ done₀ scope hold group p q old done = steps n p q done
+μ-loop n m p0 q0 ends weights cores first next scope₀ hold₀ group₀ p₀ q₀ old₀ done₀ settled₀ scope hold group p q old done settled = steps n p q done
+
+-- from a round back to the loop, and to the function's entry
+abbrev turn : tie.After-round Inv-loop μ-loop → tie.At-loop Inv-loop μ-loop
+turn c = c .before .before .before .before .before
+
+abbrev begin : tie.At-loop Inv-loop μ-loop → tie.Start Inv-loop μ-loop
+begin c = c .before .before .before .before .before .before .before .before .before
+
+-- the group's buffer keeps its length
+group-long : (c : tie.After-round Inv-loop μ-loop) → length (c .round .last .1 .1 .1 .1 .1 .1 .1 .1 .1 .1 .1 .1 .0) ≡ begin (turn c) .args .n
+group-long c = c .round .kept .1 .1 .1 .1 .1 .1 .1 .1 .1 .1 .1 .1 .0 ∙ turn c .loop .inv .0 .group-long
 
 loop-holds : tie.Need-loop-holds Inv-loop μ-loop
 loop-holds c =
@@ -47,32 +58,38 @@ round-requires : tie.Need-round-requires Inv-loop μ-loop
 round-requires c κs = let i = c .before .before .before .before .loop .inv .0 in (i .held, (i .at-hand, (i .cored, (i .linked, ((i .scope-long, i .group-long), i .room)))))
 
 inside-count-requires : tie.Need-inside-count-requires Inv-loop μ-loop
-inside-count-requires c κs = let i = c .before .before .before .before .before .before .before .before .before .before .before .before .loop .inv .0 in (i .held, c .before .before .before .before .before .before .before .round .kept .1 .1 .1 .1 .1 .1 .1 .1 .1 .1 .1 .1 .0 ∙ i .group-long)
+inside-count-requires c κs = let r = c .before .before .before .before .before .before .before in (turn r .loop .inv .0 .held, group-long r)
 
 group-size-requires : tie.Need-group-size-requires Inv-loop μ-loop
 unfolding list-in
 group-size-requires c κs =
-    let i = c .before .before .before .before .before .before .before .before .before .before .before .before .before .before .loop .inv .0 in
-    let a = c .before .before .before .before .before .before .before .before .before .before .before .before .before .before .before .before .before .before .before .before .before .before .before .args in
-    (listed (list-in (a .n) (a .m) (a .ends .now) (a .weights .now)) (i .held .listed) .few, c .before .before .before .before .before .before .before .before .before .round .kept .1 .1 .1 .1 .1 .1 .1 .1 .1 .1 .1 .1 .0 ∙ i .group-long)
+    let r = c .before .before .before .before .before .before .before .before .before in
+    let a = begin (turn r) .args in
+    (listed (list-in (a .n) (a .m) (a .ends .now) (a .weights .now)) (turn r .loop .inv .0 .held .listed) .few, group-long r)
+
+same-requires : tie.Need-same-requires Inv-loop μ-loop
+same-requires c κs = tt
 
 loop-less : tie.Need-loop-less Inv-loop μ-loop
 loop-less c =
-    let a = c .before .before .before .before .before .before .before .before .before .before .before .before .before .before .before .before .before .before .before .before .before .before .before .before .args in
-    let l = c .before .before .before .before .before .before .before .before .before .before .before .before .before .before .before .loop in
+    let r = c .before .before .before .before .before .before .before .before .before .before .before in
+    let a = begin (turn r) .args in
+    let l = turn r .loop in
     steps-fall (a .n) (a .m) (a .ends .now) (a .weights .now) (a .cores .now) (a .first .now) (a .next .now) (l .scope) (l .hold) (l .group) _ _ _
-    (l .p) (l .q) _ _ (l .done) _ (l .inv .0) (c .before .before .before .before .before .before .before .before .before .before .round .ensures) (c .before .before .inside-count .ensures) (c .group-size .ensures) (not-true (l .done) (c .before .before .before .before .before .before .before .before .before .before .before .before .before .before .loop-test .taken))
+    (l .p) (l .q) _ _ (l .done) (l .settled) _ (c .same .result) (l .inv .0) (r .round .ensures) (c .before .before .before .inside-count .ensures)
+    (c .before .group-size .ensures) (not-true (l .done) (r .before .before .before .before .loop-test .taken))
 
 loop-again : tie.Need-loop-again Inv-loop μ-loop
 loop-again c =
-    let a = c .before .before .before .before .before .before .before .before .before .before .before .before .before .before .before .before .before .before .before .before .before .before .before .before .args in
-    let l = c .before .before .before .before .before .before .before .before .before .before .before .before .before .before .before .loop in (
+    let r = c .before .before .before .before .before .before .before .before .before .before .before in
+    let a = begin (turn r) .args in
+    let l = turn r .loop in (
       going-on (a .n) (a .m) (a .ends .now) (a .weights .now) (a .cores .now) (a .first .now) (a .next .now) (l .scope) (l .hold) (l .group) _ _ _
-          (l .p) (l .q) _ _ (l .done) _ (l .inv .0) (c .before .before .before .before .before .before .before .before .before .before .round .ensures) (c .before .before .inside-count .ensures) (c .group-size .ensures)
-          (c .before .before .before .before .before .before .before .before .before .before .round .kept .1 .1 .1 .1 .1 .1 .1 .1 .1 .1 .0 ∙ l .inv .0 .scope-long) (c .before .before .before .before .before .before .before .before .before .before .round .kept .1 .1 .1 .1 .1 .1 .1 .1 .1 .1 .1 .1 .0 ∙ l .inv .0 .group-long),
-      c .before .before .before .before .before .before .before .before .before .before .round .kept .1 .1 .1 .1 .1 .1 .1 .1 .1 .1 .0 ∙ l .inv .1,
-      c .before .before .before .before .before .before .before .before .before .before .round .kept .1 .1 .1 .1 .1 .1 .1 .1 .1 .1 .1 .0 ∙ l .inv .2,
-      c .before .before .before .before .before .before .before .before .before .before .round .kept .1 .1 .1 .1 .1 .1 .1 .1 .1 .1 .1 .1 .0 ∙ l .inv .3,
+          (l .p) (l .q) _ _ (l .done) (l .settled) _ (c .same .result) (l .inv .0) (r .round .ensures) (c .before .before .before .inside-count .ensures)
+          (c .before .group-size .ensures) (c .same .ensures) (r .round .kept .1 .1 .1 .1 .1 .1 .1 .1 .1 .1 .0 ∙ l .inv .0 .scope-long) (group-long r),
+      r .round .kept .1 .1 .1 .1 .1 .1 .1 .1 .1 .1 .0 ∙ l .inv .1,
+      r .round .kept .1 .1 .1 .1 .1 .1 .1 .1 .1 .1 .1 .0 ∙ l .inv .2,
+      r .round .kept .1 .1 .1 .1 .1 .1 .1 .1 .1 .1 .1 .1 .0 ∙ l .inv .3,
     )
 
 same-length : tie.Need-same-length Inv-loop μ-loop
@@ -97,6 +114,7 @@ search-spec =
     round-requires
     inside-count-requires
     group-size-requires
+    same-requires
     loop-less
     loop-again
     same-length

@@ -6,8 +6,7 @@ use lib.ListN.{length}
 use Rattle.theory.specs.Lists.{Pairs}
 use Rattle.theory.specs.Words.{list-in}
 use Rattle.theory.proofs.Lists.{listed}
-use Rattle.peel.proofs.Words.{few-pairs}
-use Rattle.densest.proofs.Words.{list-ends}
+use Rattle.slots.proofs.Words.{few-pairs, list-ends}
 use Rattle.densest.specs.Search.{Cored, Linked}
 use Rattle.densest.proofs.Rounds.{Bounded}
 use Rattle.densest.proofs.Solving.{peeled-cored, peeled-candidate, peeled-by-place, peelable-zeros, room-zeros, searched-candidate, searched-bounded, solved-of}
@@ -25,10 +24,10 @@ peeled c = c .before .before .before .before .before .before .before
 abbrev linked : tie.After-search → tie.After-links
 linked c = c .before .before .before .before .before .before .before .before .before
 
-abbrev searched : tie.After-round → tie.After-search
+abbrev searched : tie.After-last-round → tie.After-search
 searched c = c .before .before .before .before .before .before .before .before .before .before .before .before
 
-abbrev start : tie.After-round → tie.Start
+abbrev start : tie.After-last-round → tie.Start
 start c = begin (peeled (linked (searched c)))
 
 abbrev list-of : tie.Start → Pairs
@@ -52,10 +51,10 @@ links-long c =
     record { first-long = omega (arith, few s, c .links .kept .1 .1 .1 .0); next-long = omega (arith, f, c .links .kept .1 .1 .1 .1 .0) }
 
 bounded : (c : tie.After-search) → Bounded (c .search .result .p) (c .search .result .q)
-bounded c = let s = begin (peeled (linked c)) in searched-bounded (s .args .n) (s .args .m) (s .args .ends .now) (s .args .weights .now) (s .pre .0) _ _ _ _ (c .search .ensures)
+bounded c = let s = begin (peeled (linked c)) in searched-bounded (s .args .n) (s .args .m) (s .args .ends .now) (s .args .weights .now) (s .pre .0) _ _ _ _ _ _ (c .search .ensures)
 
-scope-long : (c : tie.After-round) → length (c .round .last .1 .1 .1 .1 .1 .1 .1 .1 .1 .1 .0) ≡ start c .args .n
-scope-long c = c .round .kept .1 .1 .1 .1 .1 .1 .1 .1 .1 .1 .0 ∙ searched c .search .kept .1 .1 .1 .1 .1 .1 .1 .1 .1 .0 ∙ start c .pre .1 .0
+scope-long : (c : tie.After-last-round) → length (c .last-round .last .1 .1 .1 .1 .1 .1 .1 .1 .1 .1 .0) ≡ start c .args .n
+scope-long c = c .last-round .kept .1 .1 .1 .1 .1 .1 .1 .1 .1 .1 .0 ∙ searched c .search .kept .1 .1 .1 .1 .1 .1 .1 .1 .1 .0 ∙ start c .pre .1 .0
 
 slice-aggregate-peel : tie.Need-slice-aggregate-peel
 slice-aggregate-peel c = search needs
@@ -99,24 +98,24 @@ search-requires c κs =
       ),
     )
 
-slice-aggregate-round : tie.Need-slice-aggregate-round
-slice-aggregate-round c = search needs
+slice-aggregate-last-round : tie.Need-slice-aggregate-last-round
+slice-aggregate-last-round c = search needs
 
-slice-aggregate-round-2 : tie.Need-slice-aggregate-round-2
-slice-aggregate-round-2 c = search needs
+slice-aggregate-last-round-2 : tie.Need-slice-aggregate-last-round-2
+slice-aggregate-last-round-2 c = search needs
 
-slice-aggregate-round-3 : tie.Need-slice-aggregate-round-3
-slice-aggregate-round-3 c = search needs
+slice-aggregate-last-round-3 : tie.Need-slice-aggregate-last-round-3
+slice-aggregate-last-round-3 c = search needs
 
-round-requires : tie.Need-round-requires
-round-requires c κs =
+last-round-requires : tie.Need-last-round-requires
+last-round-requires c κs =
     let l = linked (c .before .before .before .before .before .before .before .before .before .before .before) in
     let s = begin (peeled l) in
     let e = c .before .before .before .before .before .before .before .before .before .before .before .search in (
       s .pre .0,
       (
-        searched-candidate (s .args .n) (s .args .m) (s .args .ends .now) (s .args .weights .now) (s .pre .0) _ _ _ _ (e .ensures),
-        (cored (peeled l), (links-long l, ((e .kept .1 .1 .1 .1 .1 .1 .1 .1 .1 .0 ∙ s .pre .1 .0, e .kept .1 .1 .1 .1 .1 .1 .1 .1 .1 .1 .1 .0 ∙ s .pre .1 .1), e .ensures .room))),
+        searched-candidate (s .args .n) (s .args .m) (s .args .ends .now) (s .args .weights .now) (s .pre .0) _ _ _ _ _ _ (e .ensures),
+        (cored (peeled l), (links-long l, ((e .kept .1 .1 .1 .1 .1 .1 .1 .1 .1 .0 ∙ s .pre .1 .0, e .kept .1 .1 .1 .1 .1 .1 .1 .1 .1 .1 .1 .0 ∙ s .pre .1 .1), (e .ensures .room, e .ensures .last)))),
       ),
     )
 
@@ -135,7 +134,7 @@ write-shares-requires c κs =
         bounded (searched r) .small,
         (
           (scope-long r, omega (arith, few s, peeled (linked (searched r)) .peel .kept .1 .1 .1 .1 .1 .1 .1 .0)),
-          (r .round .ensures .split .long, omega (arith, s .pre .1 .3)),
+          (r .last-round .ensures .split .long, omega (arith, s .pre .1 .3)),
         ),
       ),
     )
@@ -166,8 +165,8 @@ returns c =
     let p = peeled (linked (searched r)) in
     let s = begin p in (
       p .peel .ensures .cores-are,
-      solved-of (s .args .n) (s .args .m) (s .args .ends .now) (s .args .weights .now) (s .pre .0) _ _ _ _ (searched r .search .ensures) _
-          (p .peel .last .1 .1 .1 .1 .1 .1 .1 .0) _ _ (w .last .1 .1 .1 .1 .1 .1 .1 .1 .0) _ _ (r .round .ensures) (peeled-by-place (list-of s) (s .pre .0 .listed) _ _ _ _ _ _ _ (p .peel .ensures))
+      solved-of (s .args .n) (s .args .m) (s .args .ends .now) (s .args .weights .now) (s .pre .0) _ _ _ _ _ _ (searched r .search .ensures) _
+          (p .peel .last .1 .1 .1 .1 .1 .1 .1 .0) _ _ (w .last .1 .1 .1 .1 .1 .1 .1 .1 .0) _ _ (r .last-round .ensures) (peeled-by-place (list-of s) (s .pre .0 .listed) _ _ _ _ _ _ _ (p .peel .ensures))
           (w .kept .1 .1 .1 .1 .1 .1 .1 .1 .0 ∙ s .pre .1 .3) (w .ensures) refl refl (c .before .before .rounded-up .ensures) (c .group-size .ensures),
     )
 
@@ -185,10 +184,10 @@ solve-in-spec =
     slice-aggregate-search-2
     slice-aggregate-search-3
     search-requires
-    slice-aggregate-round
-    slice-aggregate-round-2
-    slice-aggregate-round-3
-    round-requires
+    slice-aggregate-last-round
+    slice-aggregate-last-round-2
+    slice-aggregate-last-round-3
+    last-round-requires
     slice-aggregate-write-shares
     slice-aggregate-write-shares-2
     write-shares-requires

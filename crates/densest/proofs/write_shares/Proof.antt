@@ -6,9 +6,8 @@ use Prim.Native.Nat.{ℕ, _*_, _-_, _≤_, _<_}
 use lib.ListN.{length, getD, length-set}
 use Rattle.theory.specs.Words.{Held-words as Held}
 use Rattle.slots.proofs.Choice.{stored-more}
+use Rattle.slots.proofs.Words.{few-pairs, good-pair, list-ends}
 use Rattle.densest.specs.Search.{sheet-share}
-use Rattle.peel.proofs.Words.{few-pairs, good-pair}
-use Rattle.densest.proofs.Words.{list-ends}
 use Rattle.densest.proofs.Counts.{share-is}
 use Rattle.densest.proofs.write_shares.Statement.{statement}
 use Rattle.densest.proofs.write_shares.Tie as tie

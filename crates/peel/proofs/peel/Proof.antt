@@ -1,33 +1,37 @@
 -- `peel::peel` meets its contract. Assumes nothing.
 use mathlib.Core.Path.{refl}
-use lib.ListN.{replicate}
+use native.Mathlib.Omega.{arith}
 use borrow.Author.Needs.{needs}
 use Rattle.theory.specs.Groups.{everyone}
 use Rattle.theory.specs.Words.{list-in}
-use Rattle.peel.proofs.Words.{few-modules, held-ends}
-use Rattle.peel.proofs.Links.{indexed-none}
+use Rattle.slots.proofs.Words.{few-modules, few-pairs, list-ends}
 use Rattle.peel.proofs.Ranks.{ranked-buildable, ranked-built}
 use Rattle.peel.proofs.Remainders.{all-light}
-use Rattle.peel.proofs.Answers.{all-zero, answer-numberable, answer-pickable, answer}
+use Rattle.peel.proofs.Answers.{answer-numberable, answer-pickable, answer}
 use Rattle.peel.proofs.peel.Statement.{statement}
 use Rattle.peel.proofs.peel.Tie as tie
 
-slice-aggregate-index : tie.Need-slice-aggregate-index
-slice-aggregate-index c = search needs
+-- the function's entry
+abbrev begin : tie.After-count → tie.Start
+begin x = x .before .before .before .before .before .before .before .before .before .before .before .before
 
-slice-aggregate-index-2 : tie.Need-slice-aggregate-index-2
-slice-aggregate-index-2 c = search needs
+slice-aggregate-links : tie.Need-slice-aggregate-links
+slice-aggregate-links c = search needs
 
-slice-aggregate-index-3 : tie.Need-slice-aggregate-index-3
-slice-aggregate-index-3 c = search needs
+slice-aggregate-links-2 : tie.Need-slice-aggregate-links-2
+slice-aggregate-links-2 c = search needs
 
-index-requires : tie.Need-index-requires
-index-requires c κs =
-    let s = c .before .before .before .before .before .before .before .before in
-    let a = s .args in (
-      held-ends (a .n) (a .m) (a .ends .now) (a .weights .now) (s .pre .0),
-      indexed-none _ _ (replicate 512 0) (replicate 8192 0) (replicate 512 0) refl refl refl (all-zero 512) (all-zero 512),
-    )
+links-requires : tie.Need-links-requires
+links-requires c κs =
+    let h = c .before .before .before .before .before .before .before .pre .0 in
+    let few = few-pairs _ _ _ _ (h .listed) in
+    (list-ends _ _ _ _ (h .listed) (h .ends-long), (few-modules _ _ _ _ (h .listed), omega arith))
+
+slice-aggregate-count : tie.Need-slice-aggregate-count
+slice-aggregate-count c = search needs
+
+count-requires : tie.Need-count-requires
+count-requires c κs = let h = c .before .before .before .before .before .before .before .before .before .before .before .pre .0 in (h, few-modules _ _ _ _ (h .listed))
 
 slice-aggregate-build : tie.Need-slice-aggregate-build
 slice-aggregate-build c = search needs
@@ -37,10 +41,12 @@ slice-aggregate-build-2 c = search needs
 
 build-requires : tie.Need-build-requires
 build-requires c κs =
-    let x = c .before .before .before .before .before in
-    let s = x .before .before .before .before .before .before .before .before .before in
+    let x = c .before .before .before in
+    let s = begin x in
     let a = s .args in
-    (ranked-buildable (a .n) (a .m) (a .ends .now) (a .weights .now) (s .pre .0) _ _ _ (x .index .ensures), refl)
+    let n = x .count .kept .1 .1 .1 .1 .0 in
+    let few = few-modules _ _ _ _ (s .pre .0 .listed) in
+    (ranked-buildable (a .n) (a .m) (a .ends .now) (a .weights .now) (s .pre .0) _ (x .count .ensures) (omega arith), refl)
 
 slice-aggregate-turns : tie.Need-slice-aggregate-turns
 slice-aggregate-turns c = search needs
@@ -57,14 +63,17 @@ slice-aggregate-turns-4 c = search needs
 turns-requires : tie.Need-turns-requires
 turns-requires c κs =
     let b = c .before .before .before .before .before .before in
-    let x = b .before .before .before .before .before .before in
-    let s = x .before .before .before .before .before .before .before .before .before in
-    let a = s .args in (
+    let x = b .before .before .before .before in
+    let s = begin x in
+    let a = s .args in
+    let l = x .before .before .before .before .links in
+    let n = few-modules _ _ _ _ (s .pre .0 .listed) in
+    let m = few-pairs _ _ _ _ (s .pre .0 .listed) in (
       s .pre .0,
       (
-        x .index .ensures .links,
+        record { linked = l .ensures; first-long = omega (arith, l .kept .1 .1 .1 .0); next-long = omega (arith, l .kept .1 .1 .1 .1 .0) },
         (
-          ranked-built (a .n) (a .m) (a .ends .now) (a .weights .now) (s .pre .0) _ _ _ (x .index .ensures) _ (b .build .ensures),
+          ranked-built (a .n) (a .m) (a .ends .now) (a .weights .now) (s .pre .0) _ (x .count .ensures) _ (b .build .ensures),
           (s .pre .1 .order-long, few-modules (a .n) (a .m) (a .ends .now) (a .weights .now) (s .pre .0 .listed)),
         ),
       ),
@@ -77,8 +86,8 @@ number-requires : tie.Need-number-requires
 unfolding list-in
 number-requires c κs =
     let t = c .before .before .before .before .before .before .before .before in
-    let x = t .before .before .before .before .before .before .before .before .before .before .before .before .before in
-    let s = x .before .before .before .before .before .before .before .before .before in
+    let x = t .before .before .before .before .before .before .before .before .before .before .before in
+    let s = begin x in
     let a = s .args in
     let b = s .pre .1 in
     answer-numberable (list-in (a .n) (a .m) (a .ends .now) (a .weights .now)) (s .pre .0 .listed) _ _ _ _ (t .turns .ensures) _ _
@@ -91,8 +100,8 @@ densest-requires : tie.Need-densest-requires
 unfolding list-in
 densest-requires c κs =
     let t = c .before .before .before .before .before .before .before .before .before .before .before .before .before .before in
-    let x = t .before .before .before .before .before .before .before .before .before .before .before .before .before in
-    let s = x .before .before .before .before .before .before .before .before .before in
+    let x = t .before .before .before .before .before .before .before .before .before .before .before in
+    let s = begin x in
     let a = s .args in
     let b = s .pre .1 in
     answer-pickable (list-in (a .n) (a .m) (a .ends .now) (a .weights .now)) (s .pre .0 .listed) _ _ _ _ (t .turns .ensures)
@@ -114,8 +123,8 @@ unfolding list-in
 returns c =
     let k = c .before .before .before .before .before .before in
     let t = k .before .before .before .before .before .before .before .before .before in
-    let x = t .before .before .before .before .before .before .before .before .before .before .before .before .before in
-    let s = x .before .before .before .before .before .before .before .before .before in
+    let x = t .before .before .before .before .before .before .before .before .before .before .before in
+    let s = begin x in
     let a = s .args in
     let b = s .pre .1 in
     answer (list-in (a .n) (a .m) (a .ends .now) (a .weights .now)) (s .pre .0 .listed) _ _ _ _ (t .turns .ensures)
@@ -126,10 +135,11 @@ pub peel-spec : {M : Type 1} → statement M
 peel-spec =
     tie.close
     (tie.spec
-    slice-aggregate-index
-    slice-aggregate-index-2
-    slice-aggregate-index-3
-    index-requires
+    slice-aggregate-links
+    slice-aggregate-links-2
+    links-requires
+    slice-aggregate-count
+    count-requires
     slice-aggregate-build
     slice-aggregate-build-2
     build-requires

@@ -69,7 +69,7 @@ loop-again c =
           (l .loop .work) (l .loop .order) (l .loop .falls) (l .loop .inv .0)
           _ _ (k .take .ensures) _ (o .loosen .ensures) (omega arith) (omega arith),
       omega arith,
-      o .loosen .kept .1 .1 .1 .1 .1 .1 .0 ∙ k .take .kept .0 ∙ l .loop .inv .2,
+      o .loosen .kept .1 .1 .1 .1 .1 .1 .1 .0 ∙ k .take .kept .0 ∙ l .loop .inv .2,
     )
 
 same-length : tie.Need-same-length Inv-loop μ-loop

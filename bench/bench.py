@@ -1,0 +1,277 @@
+"""Makes the lists, runs `compare` and networkx on each in turn, and prints the tables of docs/BENCHMARKS.md.
+
+    bench.py COMPARE FOLDER RUNS
+
+FOLDER takes the pair files. A time is the median over the runs; a run is itself a median of repetitions (see compare.cpp). The linear programme runs once a
+run on the first list of a kind, networkx once in all.
+"""
+import os
+import random
+import subprocess
+import sys
+import time
+from collections import defaultdict
+from itertools import combinations
+from statistics import median
+
+import networkx as nx
+
+SEEDS = range(3)
+REPETITIONS = 15
+
+
+# ---- lists: N and the pairs; each kind of up to 512 modules and 4,096 pairs
+
+
+def fill(draw, pairs, m):
+    """Draws pairs until there are m."""
+    while len(pairs) < m:
+        a, b = draw(), draw()
+        if a != b:
+            pairs.add((min(a, b), max(a, b)))
+    return pairs
+
+
+def uniform(r, n=512, m=4096):
+    return n, fill(lambda: r.randrange(n), set(), m)
+
+
+def planted(r):
+    group = r.sample(range(512), 60)
+    dense = {(min(p), max(p)) for p in combinations(group, 2) if r.random() < 0.5}
+    return 512, fill(lambda: r.randrange(512), dense, 4096)
+
+
+def regular(r):
+    pairs = set()
+    for step in r.sample(range(1, 256), 8):
+        pairs |= {(min(v, u), max(v, u)) for v in range(512) for u in [(v + step) % 512]}
+    for _ in range(200):  # swaps the ends of two pairs, so that all degrees stay as they are
+        (a, b), (c, d) = r.sample(sorted(pairs), 2)
+        new = {(min(a, d), max(a, d)), (min(b, c), max(b, c))}
+        if len({a, b, c, d}) == 4 and not new & pairs:
+            pairs = (pairs - {(a, b), (c, d)}) | new
+    return 512, pairs
+
+
+def band(r, n=512, width=8):
+    return n, {(v, u) for v in range(n) for u in range(v + 1, min(n, v + 1 + width))}
+
+
+def grid(r):
+    across = {(v, v + 1) for v in range(22 * 23) if v % 23 < 22}
+    return 506, across | {(v, v + 23) for v in range(21 * 23)}
+
+
+def cycle(r):
+    return 512, {(min(v, (v + 1) % 512), max(v, (v + 1) % 512)) for v in range(512)}
+
+
+def clique(r):
+    return 512, set(combinations(range(90), 2))
+
+
+def cliques(r):
+    return 512, {p for first in range(0, 512, 16) for p in combinations(range(first, first + 16), 2)}
+
+
+def chain(r):
+    return 512, set(combinations(range(60), 2)) | {(v, v + 1) for v in range(59, 511)}
+
+
+def chains(r):
+    pairs = set()
+    for i, first in enumerate(range(0, 512, 32)):
+        size = 12 + i % 3
+        pairs |= set(combinations(range(first, first + size), 2)) | {(v, v + 1) for v in range(first + size - 1, first + 31)}
+    return 512, pairs
+
+
+def power(r):
+    weights = [1 / (v + 1) ** 0.6 for v in range(512)]
+    return 512, fill(lambda: r.choices(range(512), weights)[0], set(), 4096)
+
+
+KINDS = {
+    "uniform": uniform,
+    "planted group": planted,
+    "near-regular": regular,
+    "bands": band,
+    "grid": grid,
+    "cycle": cycle,
+    "clique": clique,
+    "equal cliques": cliques,
+    "clique with a chain": chain,
+    "cliques with chains": chains,
+    "power law": power,
+}
+
+SIZES = [(64, 512), (128, 1024), (256, 2048), (512, 4096), (512, 512), (512, 1024), (512, 2048), (128, 4096), (256, 4096)]
+
+
+def renumbered(r, n, pairs):
+    """The same list with the modules' numbers shuffled."""
+    to = r.sample(range(n), n)
+    return n, {(min(to[a], to[b]), max(to[a], to[b])) for a, b in pairs}
+
+
+def lists():
+    """Name, seed, N and pairs. Of the kinds without chance, the second and third list have shuffled numbers."""
+    for name, make in KINDS.items():
+        for seed in SEEDS:
+            n, pairs = make(random.Random(seed))
+            yield name, seed, *(renumbered(random.Random(seed), n, pairs) if seed else (n, pairs))
+    for n, m in SIZES:
+        for seed in SEEDS:
+            yield f"{n}, {m}", seed, *uniform(random.Random(seed), n, m)
+
+
+# ---- networkx
+
+
+def timed(run):
+    begin = time.process_time()
+    answer = run()
+    return answer, (time.process_time() - begin) * 1e6
+
+
+def densest(n, pairs):
+    """The greatest ratio, as in compare.cpp (whole), with networkx's minimum cut."""
+    p, q = len(pairs), n
+    degree = [0] * n
+    for a, b in pairs:
+        degree[a] += 1
+        degree[b] += 1
+    while True:
+        net = nx.DiGraph()
+        for v in range(n):
+            net.add_edge("s", v, capacity=max(degree[v] * q - 2 * p, 0))
+            net.add_edge(v, "t", capacity=max(2 * p - degree[v] * q, 0))
+        for a, b in pairs:
+            net.add_edge(a, b, capacity=q)
+            net.add_edge(b, a, capacity=q)
+        side = nx.minimum_cut(net, "s", "t")[1][0] - {"s"}
+        inside = sum(a in side and b in side for a, b in pairs)
+        if inside * q <= p * len(side):
+            return p, q
+        p, q = inside, len(side)
+
+
+def by_networkx(n, pairs, density):
+    (p, q), solve = timed(lambda: densest(n, pairs))
+    if p * density[1] != density[0] * q:
+        sys.exit("networkx: another density")
+    lines = [f"{a},{b}" for a, b in pairs]
+    graph, read = timed(lambda: nx.parse_edgelist(lines, delimiter=",", nodetype=int))
+    _, peel = timed(lambda: nx.core_number(graph))
+    empty = nx.Graph()
+    _, add = timed(lambda: [empty.add_edge(a, b) for a, b in pairs])
+    return {"solve networkx": solve, "read networkx": read, "peel networkx": peel, "add networkx": add}
+
+
+# ---- runs and tables
+
+
+def idle():
+    """How many cores are idle, over a quarter of a second (Linux)."""
+
+    def ticks():
+        with open("/proc/stat") as file:
+            values = [int(x) for x in file.readline().split()[1:9]]
+        return values[3], sum(values)
+
+    before = ticks()
+    time.sleep(0.25)
+    after = ticks()
+    return os.cpu_count() * (after[0] - before[0]) / max(1, after[1] - before[1])
+
+
+def quiet(seconds=4):
+    """Waits for a core that nobody uses, but not for ever."""
+    end = time.monotonic() + seconds
+    while idle() < 0.9 and time.monotonic() < end:
+        pass
+
+
+def compare(program, path, programme):
+    out = subprocess.run([program, path, str(REPETITIONS), str(programme)], check=True, capture_output=True, text=True).stdout
+    *lines, last = out.splitlines()
+    times = {name: float(value) for name, value in (line.rsplit(" ", 1) for line in lines)}
+    return times, tuple(map(int, last.split()[1:]))
+
+
+def measure(program, folder, runs):
+    """Name of the list, seed, what: the median over the runs."""
+    times = defaultdict(list)
+    for run in range(runs):
+        for name, seed, n, pairs in lists():
+            path, pairs = f"{folder}/{name.replace(' ', '-')}.{seed}", sorted(pairs)
+            with open(path, "w") as file:
+                file.write(f"modules={n}\npairs={len(pairs)}\n" + "".join(f"pair={a},{b}\n" for a, b in pairs))
+            first = seed == 0 and name in KINDS
+            quiet()
+            found, density = compare(program, path, int(first))
+            if first and run == 0:
+                found |= by_networkx(n, pairs, density)
+            for what, value in found.items():
+                times[name, seed, what].append(value / len(pairs) if what.startswith("add") else value)
+            print(f"run {run + 1}: {name} {seed}", file=sys.stderr)
+    return {key: median(values) for key, values in times.items()}
+
+
+def typical(times, name, what):
+    return median(times[name, seed, what] for seed in SEEDS if (name, seed, what) in times)
+
+
+def ratio(times, name, theirs, ours):
+    return median(times[name, seed, theirs] / times[name, seed, ours] for seed in SEEDS if (name, seed, theirs) in times)
+
+
+def figure(value):
+    return f"{value:.2f}" if value < 10 else f"{value:.1f}" if value < 100 else f"{value:,.0f}"
+
+
+def table(heads, rows):
+    print("| " + " | ".join(heads) + " |\n|" + "---|" * len(heads))
+    for row in rows:
+        print("| " + " | ".join(row) + " |")
+    print()
+
+
+def compared(times, head, ours, others):
+    """A row for each kind: our time in µs, and how many times as long each of the others takes."""
+    table(
+        [head, "ours, µs", *others],
+        [[name, figure(typical(times, name, ours)), *(figure(ratio(times, name, other, ours)) for other in others.values())] for name in KINDS],
+    )
+
+
+def best(times, engines, ways):
+    """A row for each kind: the quickest of all others."""
+    rows = []
+    for name in KINDS:
+        value, other = min((ratio(times, name, f"solve {engine} {way}", "solve ours"), f"{engine}, {way}") for engine in engines for way in ways)
+        rows.append([name, figure(value), other])
+    table(["solve", "the quickest of the others", "which"], rows)
+
+
+def main():
+    program, folder, runs = sys.argv[1], sys.argv[2], int(sys.argv[3])
+    times = measure(program, folder, runs)
+    engines, ways = ["LEMON", "Boost-push-relabel", "Boost-BK", "igraph"], ["textbook", "whole", "core"]
+    for way in ways:
+        slow = {"networkx": "solve networkx", "GLPK": "solve GLPK"} if way == "whole" else {}
+        compared(times, f"solve, {way}", "solve ours", {engine: f"solve {engine} {way}" for engine in engines} | slow)
+    best(times, engines, ways)
+    compared(times, "check", "check ours", {f"solving again: {other}": f"solve {other}" for other in ["ours", "LEMON core", "LEMON whole"]})
+    for call, others in {"peel": ["igraph", "Boost", "networkx"], "read": ["scanf", "LEMON", "igraph", "networkx"]}.items():
+        compared(times, call, f"{call} ours", {other: f"{call} {other}" for other in others})
+    compared(times, "add, a pair", "add ours", {other: f"add {other}" for other in ["std::set", "Boost", "igraph", "networkx"]})
+    calls = ["solve", "peel", "check", "read", "add"]
+    table(
+        ["uniform: N, M", *(f"{call}, µs" for call in calls)],
+        [[f"{n}, {m}", *(figure(typical(times, f"{n}, {m}", f"{call} ours")) for call in calls)] for n, m in SIZES],
+    )
+
+
+main()

@@ -1,0 +1,127 @@
+/* Kandurzo from C: fault groups of a pair list (document 01).
+ *
+ * A list has N modules (1 to 512), numbered 0 to N-1, and M pairs (at most 4,096) of two different modules. The caller lends all memory: a head with
+ * N and M, and records, smaller module first, in strictly rising order by first and then second number. Of a list, `length` is how many records
+ * there are room for; the first M are held.
+ *
+ * Each call answers a number: 0, or that of the first cause, in the order given at the call, whose condition holds. A refused call changes no head,
+ * list or answer buffer. Lengths are counted in entries. Buffers may be longer than wanted: entries past those named are never written. A buffer that a
+ * call writes must not overlap another one of that call, and a pointer must not be null, also where the length is 0.
+ *
+ *    1  a line is missing, is not of the form due there, or lacks its LF
+ *    2  N outside 1 to 512
+ *    3  the file's M above 4,096
+ *    4  a module number is N or more
+ *    5  a module is paired with itself
+ *    6  bytes follow the last pair line
+ *    7  a member byte above 1 among the first N, or none is 1
+ *    8  a share above Q among the first M
+ *    9  a load above P
+ *   10  the pair is held already or, in a file, named on an earlier line
+ *   11  no free record; for read, the list is shorter than the file's M
+ *   12  a lent buffer is shorter than stated
+ *   13  head and list disagree
+ *   14  the pair to remove is not held
+ *   15  a group than which none is denser has no split with all loads at or below P (proved never to come)
+ */
+#ifndef KANDURZO_H
+#define KANDURZO_H
+
+#include <stddef.h>
+#include <stdint.h>
+
+#ifdef __cplusplus
+extern "C" {
+#endif
+
+enum {
+    KANDURZO_MODULES = 512, /* most modules, and the length of member bytes, core numbers and leaving order that is always enough */
+    KANDURZO_PAIRS = 4096,  /* most pairs, and the length of list and shares that is always enough */
+    KANDURZO_WORK = 16384   /* words of the work buffer */
+};
+
+/* A record: the pair's smaller module and its larger. */
+typedef struct {
+    uint16_t a, b;
+} kandurzo_pair_t;
+
+/* A head: the number of modules, and of pairs held. */
+typedef struct {
+    uint32_t n, m;
+} kandurzo_head_t;
+
+/* The number, and the head after the call. */
+typedef struct {
+    uint32_t number;
+    kandurzo_head_t head;
+} kandurzo_changed_t;
+
+/* The number; P and Q, the found group's inside count and its number of modules; K, P/Q rounded up; the number of modules in the core of order K; P
+ * divided by Q, rounded once. Beside a refusal all else is 0. */
+typedef struct {
+    uint32_t number, p, q, k, coresize;
+    double ratio;
+} kandurzo_solved_t;
+
+/* The number; P and Q, 0 beside a refusal. */
+typedef struct {
+    uint32_t number, p, q;
+} kandurzo_verdict_t;
+
+/* The number; the surplus, 0 beside a refusal. */
+typedef struct {
+    uint32_t number;
+    int64_t value;
+} kandurzo_difference_t;
+
+/* Start: a head of n modules without pairs. Refuses by 2; the head is then 0,0. */
+kandurzo_changed_t kandurzo_start(uint32_t n);
+
+/* Add: the pair of modules a and b, in either order, at its place; later records shift up. Answers the new head, or beside a refusal the one passed.
+ * Refuses by 13, 4, 5, 10, 11. */
+kandurzo_changed_t kandurzo_add(kandurzo_head_t head, kandurzo_pair_t *list, size_t length, uint32_t a, uint32_t b);
+
+/* Remove: the pair of modules a and b, in either order; later records shift down and the one freed becomes 0,0. Answers the new head, or beside a
+ * refusal the one passed. Refuses by 13, 4, 5, 14. */
+kandurzo_changed_t kandurzo_remove(kandurzo_head_t head, kandurzo_pair_t *list, size_t length, uint32_t a, uint32_t b);
+
+/* Add, on the caller's own head; answers the number. Refuses by 13, 4, 5, 10, 11. */
+uint32_t kandurzo_add_to(kandurzo_head_t *head, kandurzo_pair_t *list, size_t length, uint32_t a, uint32_t b);
+
+/* Remove, on the caller's own head; answers the number. Refuses by 13, 4, 5, 14. */
+uint32_t kandurzo_remove_from(kandurzo_head_t *head, kandurzo_pair_t *list, size_t length, uint32_t a, uint32_t b);
+
+/* Read: a pair file, which is `modules=N`, `pairs=M` and M lines `pair=A,B`, each ended by LF. Makes a new head and writes the first M records. Wants
+ * 16,384 words of work. Refuses by 12 (work); on the first line 1, 2; on the second 1, 3, 11; on a pair line 1, 4, 5, 10; last 6. The head is then 0,0.
+ * The work buffer is untouched after 12 and holds 16,384 zero words after any other return. */
+kandurzo_changed_t kandurzo_read(const uint8_t *bytes, size_t count, kandurzo_pair_t *list, size_t length, uint32_t *work, size_t work_length);
+
+/* Peel: writes the leaving order (again and again the module with fewest pairs to modules still present leaves; of equals, the lowest number) and the
+ * core numbers (the largest k such that the module belongs to a group in which each member has at least k pairs inside). Wants N entries of order and of
+ * cores, 16,384 words of work. Refuses by 13, 12. The work buffer is untouched after 12 or 13 and holds 16,384 zero words after any other return. */
+uint32_t kandurzo_peel(kandurzo_head_t head, const kandurzo_pair_t *list, size_t length, uint16_t *order, size_t order_length, uint16_t *cores,
+                       size_t cores_length, uint32_t *work, size_t work_length);
+
+/* Solve: the largest group of greatest ratio. Writes its member bytes (1 in, 0 out), the core numbers, and a share for each pair: of Q units the smaller
+ * module receives the share and the larger one the rest, and no module's load is above P. A pair with an end outside the core of order K goes wholly to
+ * the end that left first. Wants N entries of members and of cores, M of shares, 16,384 words of work. Refuses by 13, 12, 15. The work buffer is untouched
+ * after 12 or 13 and holds 16,384 zero words after any other return. */
+kandurzo_solved_t kandurzo_solve(kandurzo_head_t head, const kandurzo_pair_t *list, size_t length, uint8_t *members, size_t members_length,
+                                 uint16_t *cores, size_t cores_length, uint16_t *shares, size_t shares_length, uint32_t *work, size_t work_length);
+
+/* Check: takes member bytes and shares from anyone, counts P and Q of that group itself, and accepts exactly if the shares are a split at size Q with no
+ * load above P: then no group is denser. Wants N member bytes, M shares, 16,384 words of work. Refuses by 13, 12, 7, 8, 9. The work buffer is untouched
+ * after 12 or 13 and holds 16,384 zero words after any other return. */
+kandurzo_verdict_t kandurzo_check(kandurzo_head_t head, const kandurzo_pair_t *list, size_t length, const uint8_t *members, size_t members_length,
+                                  const uint16_t *shares, size_t shares_length, uint32_t *work, size_t work_length);
+
+/* Surplus of the first group against the second: modules of the second times inside count of the first, minus inside count of the second times modules
+ * of the first. Above zero exactly if the first is denser, zero exactly if the ratios are equal. Wants N member bytes of each. Refuses by 13, 12, 7. */
+kandurzo_difference_t kandurzo_surplus(kandurzo_head_t head, const kandurzo_pair_t *list, size_t length, const uint8_t *first, size_t first_length,
+                                       const uint8_t *second, size_t second_length);
+
+#ifdef __cplusplus
+}
+#endif
+
+#endif

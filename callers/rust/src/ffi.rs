@@ -1,0 +1,253 @@
+//! The library's calls over lent buffers, as in `callers/c/kandurzo.h`, with slices for pointers and lengths.
+//!
+//! Every function here is safe: the library tests all lengths and ranges itself and answers with a refusal number, and slices cannot overlap. No value
+//! of a buffer can be invalid, since all fields are whole numbers.
+#![allow(unsafe_code)]
+
+/// A record: the pair's smaller module and its larger.
+#[repr(C)]
+#[derive(Clone, Copy, Debug, Default, PartialEq, Eq, PartialOrd, Ord)]
+pub struct Pair {
+    /// The smaller module.
+    pub a: u16,
+    /// The larger module.
+    pub b: u16,
+}
+
+/// A head: the number of modules, and of pairs held.
+#[repr(C)]
+#[derive(Clone, Copy, Debug, Default, PartialEq, Eq)]
+pub struct Head {
+    /// N.
+    pub n: u32,
+    /// M.
+    pub m: u32,
+}
+
+/// What start, add, remove and read answer: the refusal number or 0, and the head after the call.
+#[repr(C)]
+#[derive(Clone, Copy, Debug, PartialEq, Eq)]
+pub struct Changed {
+    /// The refusal number or 0.
+    pub number: u32,
+    /// The head after the call.
+    pub head: Head,
+}
+
+/// What solve answers; beside a refusal all else is 0.
+#[repr(C)]
+#[derive(Clone, Copy, Debug, PartialEq)]
+pub struct Solved {
+    /// The refusal number or 0.
+    pub number: u32,
+    /// P, the found group's inside count.
+    pub p: u32,
+    /// Q, its number of modules.
+    pub q: u32,
+    /// K = P/Q rounded up.
+    pub k: u32,
+    /// The number of modules in the core of order K.
+    pub coresize: u32,
+    /// P divided by Q, rounded once.
+    pub ratio: f64,
+}
+
+/// What check answers; beside a refusal P and Q are 0.
+#[repr(C)]
+#[derive(Clone, Copy, Debug, PartialEq, Eq)]
+pub struct Verdict {
+    /// The refusal number or 0.
+    pub number: u32,
+    /// P.
+    pub p: u32,
+    /// Q.
+    pub q: u32,
+}
+
+/// What surplus answers; beside a refusal the value is 0.
+#[repr(C)]
+#[derive(Clone, Copy, Debug, PartialEq, Eq)]
+pub struct Difference {
+    /// The refusal number or 0.
+    pub number: u32,
+    /// The surplus.
+    pub value: i64,
+}
+
+mod library {
+    use super::*;
+
+    extern "C" {
+        pub fn kandurzo_start(n: u32) -> Changed;
+        pub fn kandurzo_add(head: Head, list: *mut Pair, length: usize, a: u32, b: u32) -> Changed;
+        pub fn kandurzo_remove(head: Head, list: *mut Pair, length: usize, a: u32, b: u32) -> Changed;
+        pub fn kandurzo_add_to(head: *mut Head, list: *mut Pair, length: usize, a: u32, b: u32) -> u32;
+        pub fn kandurzo_remove_from(head: *mut Head, list: *mut Pair, length: usize, a: u32, b: u32) -> u32;
+        pub fn kandurzo_read(
+            bytes: *const u8,
+            count: usize,
+            list: *mut Pair,
+            length: usize,
+            work: *mut u32,
+            work_length: usize,
+        ) -> Changed;
+        pub fn kandurzo_peel(
+            head: Head,
+            list: *const Pair,
+            length: usize,
+            order: *mut u16,
+            order_length: usize,
+            cores: *mut u16,
+            cores_length: usize,
+            work: *mut u32,
+            work_length: usize,
+        ) -> u32;
+        pub fn kandurzo_solve(
+            head: Head,
+            list: *const Pair,
+            length: usize,
+            members: *mut u8,
+            members_length: usize,
+            cores: *mut u16,
+            cores_length: usize,
+            shares: *mut u16,
+            shares_length: usize,
+            work: *mut u32,
+            work_length: usize,
+        ) -> Solved;
+        pub fn kandurzo_check(
+            head: Head,
+            list: *const Pair,
+            length: usize,
+            members: *const u8,
+            members_length: usize,
+            shares: *const u16,
+            shares_length: usize,
+            work: *mut u32,
+            work_length: usize,
+        ) -> Verdict;
+        pub fn kandurzo_surplus(
+            head: Head,
+            list: *const Pair,
+            length: usize,
+            first: *const u8,
+            first_length: usize,
+            second: *const u8,
+            second_length: usize,
+        ) -> Difference;
+    }
+}
+
+/// A head of n modules without pairs. Refuses by 2.
+pub fn start(n: u32) -> Changed {
+    unsafe { library::kandurzo_start(n) }
+}
+
+/// Adds the pair of a and b, in either order. Refuses by 13, 4, 5, 10, 11.
+pub fn add(head: Head, list: &mut [Pair], a: u32, b: u32) -> Changed {
+    unsafe { library::kandurzo_add(head, list.as_mut_ptr(), list.len(), a, b) }
+}
+
+/// Removes the pair of a and b, in either order. Refuses by 13, 4, 5, 14.
+pub fn remove(head: Head, list: &mut [Pair], a: u32, b: u32) -> Changed {
+    unsafe { library::kandurzo_remove(head, list.as_mut_ptr(), list.len(), a, b) }
+}
+
+/// `add` on the caller's own head; answers the number.
+pub fn add_to(head: &mut Head, list: &mut [Pair], a: u32, b: u32) -> u32 {
+    unsafe { library::kandurzo_add_to(head, list.as_mut_ptr(), list.len(), a, b) }
+}
+
+/// `remove` on the caller's own head; answers the number.
+pub fn remove_from(head: &mut Head, list: &mut [Pair], a: u32, b: u32) -> u32 {
+    unsafe { library::kandurzo_remove_from(head, list.as_mut_ptr(), list.len(), a, b) }
+}
+
+/// Reads a pair file into the list. Refuses by 12, then line by line 1, 2; 1, 3, 11; 1, 4, 5, 10; 6.
+pub fn read(bytes: &[u8], list: &mut [Pair], work: &mut [u32]) -> Changed {
+    unsafe {
+        library::kandurzo_read(
+            bytes.as_ptr(),
+            bytes.len(),
+            list.as_mut_ptr(),
+            list.len(),
+            work.as_mut_ptr(),
+            work.len(),
+        )
+    }
+}
+
+/// Writes leaving order and core numbers. Refuses by 13, 12.
+pub fn peel(head: Head, list: &[Pair], order: &mut [u16], cores: &mut [u16], work: &mut [u32]) -> u32 {
+    unsafe {
+        library::kandurzo_peel(
+            head,
+            list.as_ptr(),
+            list.len(),
+            order.as_mut_ptr(),
+            order.len(),
+            cores.as_mut_ptr(),
+            cores.len(),
+            work.as_mut_ptr(),
+            work.len(),
+        )
+    }
+}
+
+/// Writes the found group, core numbers and the load sheet. Refuses by 13, 12, 15.
+pub fn solve(
+    head: Head,
+    list: &[Pair],
+    members: &mut [u8],
+    cores: &mut [u16],
+    shares: &mut [u16],
+    work: &mut [u32],
+) -> Solved {
+    unsafe {
+        library::kandurzo_solve(
+            head,
+            list.as_ptr(),
+            list.len(),
+            members.as_mut_ptr(),
+            members.len(),
+            cores.as_mut_ptr(),
+            cores.len(),
+            shares.as_mut_ptr(),
+            shares.len(),
+            work.as_mut_ptr(),
+            work.len(),
+        )
+    }
+}
+
+/// Whether the shares are a split at the group's size with no load above its inside count. Refuses by 13, 12, 7, 8, 9.
+pub fn check(head: Head, list: &[Pair], members: &[u8], shares: &[u16], work: &mut [u32]) -> Verdict {
+    unsafe {
+        library::kandurzo_check(
+            head,
+            list.as_ptr(),
+            list.len(),
+            members.as_ptr(),
+            members.len(),
+            shares.as_ptr(),
+            shares.len(),
+            work.as_mut_ptr(),
+            work.len(),
+        )
+    }
+}
+
+/// The surplus of the first group against the second. Refuses by 13, 12, 7.
+pub fn surplus(head: Head, list: &[Pair], first: &[u8], second: &[u8]) -> Difference {
+    unsafe {
+        library::kandurzo_surplus(
+            head,
+            list.as_ptr(),
+            list.len(),
+            first.as_ptr(),
+            first.len(),
+            second.as_ptr(),
+            second.len(),
+        )
+    }
+}

@@ -1,0 +1,185 @@
+//! Kandurzo from Rust: the largest group of greatest ratio in a list of fault pairs, with core numbers and a load sheet that proves it (document 01).
+//!
+//! ```
+//! let tail = b"modules=5\npairs=7\npair=0,1\npair=0,2\npair=0,3\npair=1,2\npair=1,3\npair=2,3\npair=3,4\n";
+//! let list = kandurzo::List::read(tail)?;
+//! let found = list.solve()?;
+//! assert_eq!((found.p, found.q), (6, 4));
+//! assert_eq!(found.group().collect::<Vec<_>>(), [0, 1, 2, 3]);
+//! assert_eq!(list.check(&found.members, &found.shares)?, (6, 4));
+//! # Ok::<(), kandurzo::Refusal>(())
+//! ```
+//!
+//! [`List`] owns its memory; [`ffi`] has the same calls over the caller's own buffers.
+
+pub mod ffi;
+
+pub use ffi::{Head, Pair};
+use std::fmt;
+
+/// The most pairs that a list can hold.
+pub const PAIRS: usize = 4096;
+/// The words of the work buffer.
+pub const WORK: usize = 16384;
+
+/// Why a call declined: document 01's number, 1 to 15.
+#[derive(Clone, Copy, Debug, PartialEq, Eq, Hash)]
+pub struct Refusal(u32);
+
+impl Refusal {
+    /// The number as a result: 0 is no refusal.
+    fn of(number: u32) -> Result<(), Refusal> {
+        match number {
+            0 => Ok(()),
+            number => Err(Refusal(number)),
+        }
+    }
+
+    /// Document 01's number.
+    pub fn number(self) -> u32 {
+        self.0
+    }
+
+    /// Document 01's text.
+    pub fn text(self) -> &'static str {
+        match self.0 {
+            1 => "a line is missing, isn't of the form due there, or lacks its LF",
+            2 => "N outside 1 to 512",
+            3 => "the file's M above 4,096",
+            4 => "a module number is N or more",
+            5 => "a module is paired with itself",
+            6 => "bytes follow the last pair line",
+            7 => "a member byte above 1 among the first N, or none is 1",
+            8 => "a share above Q among the first M",
+            9 => "a load above P",
+            10 => "the pair is held already or, in a file, named on an earlier line",
+            11 => "no free record",
+            12 => "a lent buffer is shorter than stated",
+            13 => "head and list disagree",
+            14 => "the pair to remove is not held",
+            15 => "no split at the group's size keeps all loads at or below P",
+            _ => "a number that document 01 does not have",
+        }
+    }
+}
+
+impl fmt::Display for Refusal {
+    fn fmt(&self, out: &mut fmt::Formatter) -> fmt::Result {
+        write!(out, "{}: {}", self.0, self.text())
+    }
+}
+
+impl std::error::Error for Refusal {}
+
+/// A pair list that owns its head and 4,096 records. Head and list always agree.
+#[derive(Clone, Debug)]
+pub struct List {
+    head: Head,
+    records: Vec<Pair>,
+}
+
+/// Leaving order and core numbers, N entries each.
+#[derive(Clone, Debug, PartialEq, Eq)]
+pub struct Peeling {
+    /// The modules in the order in which they leave.
+    pub order: Vec<u16>,
+    /// The core number of each module.
+    pub cores: Vec<u16>,
+}
+
+/// The found group: the largest group of greatest ratio.
+#[derive(Clone, Debug, PartialEq)]
+pub struct Solution {
+    /// P, its inside count.
+    pub p: u32,
+    /// Q, its number of modules.
+    pub q: u32,
+    /// K = P/Q rounded up.
+    pub k: u32,
+    /// The number of modules in the core of order K.
+    pub core_size: u32,
+    /// P divided by Q, rounded once.
+    pub ratio: f64,
+    /// For each module 1 if it is in the group, else 0.
+    pub members: Vec<u8>,
+    /// The core number of each module.
+    pub cores: Vec<u16>,
+    /// The load sheet: of each pair's Q units the smaller module receives the share, the larger one the rest; no load is above P.
+    pub shares: Vec<u16>,
+}
+
+impl Solution {
+    /// The group's modules, rising.
+    pub fn group(&self) -> impl Iterator<Item = usize> + '_ {
+        (0..self.members.len()).filter(|&v| self.members[v] == 1)
+    }
+}
+
+impl List {
+    /// A list of n modules without pairs. Refuses by 2.
+    pub fn new(n: u32) -> Result<List, Refusal> {
+        let answer = ffi::start(n);
+        Refusal::of(answer.number)?;
+        Ok(List { head: answer.head, records: vec![Pair::default(); PAIRS] })
+    }
+
+    /// The list of a pair file. Refuses by 1, 2; 1, 3; 1, 4, 5, 10; 6.
+    pub fn read(bytes: &[u8]) -> Result<List, Refusal> {
+        let mut records = vec![Pair::default(); PAIRS];
+        let answer = ffi::read(bytes, &mut records, &mut [0; WORK]);
+        Refusal::of(answer.number)?;
+        Ok(List { head: answer.head, records })
+    }
+
+    /// N.
+    pub fn modules(&self) -> usize {
+        self.head.n as usize
+    }
+
+    /// The held pairs, smaller module first, in rising order.
+    pub fn pairs(&self) -> &[Pair] {
+        &self.records[..self.head.m as usize]
+    }
+
+    /// Adds the pair of a and b, in either order. Refuses by 4, 5, 10, 11.
+    pub fn add(&mut self, a: u32, b: u32) -> Result<(), Refusal> {
+        Refusal::of(ffi::add_to(&mut self.head, &mut self.records, a, b))
+    }
+
+    /// Removes the pair of a and b, in either order. Refuses by 4, 5, 14.
+    pub fn remove(&mut self, a: u32, b: u32) -> Result<(), Refusal> {
+        Refusal::of(ffi::remove_from(&mut self.head, &mut self.records, a, b))
+    }
+
+    /// Leaving order and core numbers.
+    pub fn peel(&self) -> Result<Peeling, Refusal> {
+        let n = self.modules();
+        let (mut order, mut cores) = (vec![0; n], vec![0; n]);
+        Refusal::of(ffi::peel(self.head, self.pairs(), &mut order, &mut cores, &mut [0; WORK]))?;
+        Ok(Peeling { order, cores })
+    }
+
+    /// The found group, core numbers and the load sheet.
+    pub fn solve(&self) -> Result<Solution, Refusal> {
+        let n = self.modules();
+        let (mut members, mut cores, mut shares) = (vec![0; n], vec![0; n], vec![0; self.pairs().len()]);
+        let found = ffi::solve(self.head, self.pairs(), &mut members, &mut cores, &mut shares, &mut [0; WORK]);
+        Refusal::of(found.number)?;
+        let ffi::Solved { p, q, k, coresize: core_size, ratio, .. } = found;
+        Ok(Solution { p, q, k, core_size, ratio, members, cores, shares })
+    }
+
+    /// P and Q of a group, if the shares are a split at size Q with no load above P: then no group is denser. Refuses by 12, 7, 8, 9.
+    pub fn check(&self, members: &[u8], shares: &[u16]) -> Result<(u32, u32), Refusal> {
+        let verdict = ffi::check(self.head, self.pairs(), members, shares, &mut [0; WORK]);
+        Refusal::of(verdict.number)?;
+        Ok((verdict.p, verdict.q))
+    }
+
+    /// The surplus of the first group against the second: above zero exactly if the first is denser. Refuses by 12, 7.
+    pub fn surplus(&self, first: &[u8], second: &[u8]) -> Result<i64, Refusal> {
+        let answer = ffi::surplus(self.head, self.pairs(), first, second);
+        Refusal::of(answer.number)?;
+        Ok(answer.value)
+    }
+}

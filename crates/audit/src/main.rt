@@ -1,0 +1,34 @@
+// Whether a sheet is the best there is of the list that a pair file names: `audit FILE SHEET`. Prints the refusal number, or 0 and the ratio. A file that
+// cannot be read has no bytes, and standard error says why. A pair file is decided by its first 65,536 bytes (pairfile, reads-first), a sheet by its
+// first 100,000: no sheet that is accepted has more than 98,344, and no line more than 21.
+ghost use Rattle.io.specs.Counts.{Counts};
+use printing::one;
+use printing::two;
+
+// Reads the file that argument i names; answers how many bytes were read.
+fn read_named(i: usize, file: &mut [u8]) -> usize
+    ensures { λ r. ⌜ Counts r (now (file .exit)) ⌝ }
+{
+    let mut path = io::buffer();
+    let length = os::arg(i, &mut path);
+    let fd = os::open_read(&path[..length]);
+    if fd < 0 {
+        os::fail(&path[..length]);
+        return 0;
+    }
+    let n = io::read_full(fd, file);
+    libc::close(fd);
+    n
+}
+
+fn main() {
+    let mut file = io::large_buffer();
+    let mut sheet = [0u8; 100000];
+    let n = read_named(1, &mut file);
+    let k = read_named(2, &mut sheet);
+    let verdict = sheetfile::audit(&file[..n], &sheet[..k]);
+    one(b"status=", verdict.number);
+    if verdict.number == 0 {
+        two(b"ratio=", verdict.p, b"/", verdict.q);
+    }
+}

@@ -1,0 +1,117 @@
+-- `read_sheet` meets its contract: the head, and then the rest. Assumes nothing.
+use mathlib.Core.Logic.{⊎-elim, inl, inr}
+use native.Mathlib.Omega.{arith}
+use Rattle.theory.specs.Basics.{mark}
+use Rattle.pairfile.specs.Text.{text, between}
+use Rattle.pairfile.specs.Lines.{is-place, places}
+use Rattle.pairfile.proofs.Judged.{LineHas, line-has}
+use Rattle.sheetfile.specs.Sheet.{head-form}
+use Rattle.sheetfile.specs.Answers.{list-of}
+use Rattle.sheetfile.proofs.Bodies.{head-none, head-unfit, head-read}
+use borrow.Author.Needs.{needs}
+use Rattle.sheetfile.proofs.read_sheet.Statement.{statement}
+use Rattle.sheetfile.proofs.read_sheet.Tie as tie
+
+slice-aggregate-line-at : tie.Need-slice-aggregate-line-at
+slice-aggregate-line-at c = search needs
+
+slice-aggregate-line-at-2 : tie.Need-slice-aggregate-line-at-2
+slice-aggregate-line-at-2 c = search needs
+
+line-at-requires : tie.Need-line-at-requires
+unfolding places is-place between mark
+line-at-requires c κs = (omega arith, omega arith)
+
+enum-told : tie.Need-enum-told
+enum-told c = search needs
+
+refused-head-requires : tie.Need-refused-head-requires
+refused-head-requires c κs = search needs
+
+enum-known-next : tie.Need-enum-known-next
+enum-known-next c = search needs
+
+-- the head's numbers are in the buffer
+numbers : (c : tie.After-known-told) →
+    let l = c .before .before .before .before in
+    let start = l .before .before .before .before .before .before .before .before in
+    LineHas head-form 4 (start .args .bytes .now) 0 (l .line-at .last .1 .1 .1 .0) (c .before .next .given .0 .0)
+unfolding head-form text places is-place between mark
+numbers c = line-has (c .before .before .before .before .line-at .ensures) (c .before .next .given .1)
+
+array-read-wide : tie.Need-array-read-wide
+array-read-wide c = search needs
+
+wide-requires : tie.Need-wide-requires
+wide-requires c κs = search needs
+
+refused-head-requires-2 : tie.Need-refused-head-requires-2
+refused-head-requires-2 c κs = search needs
+
+returns : tie.Need-returns
+unfolding list-of
+returns c =
+    let w = c .before .before in
+    rw (c .refused-head2 .ensures)
+    (head-unfit (numbers (w .before)) _ (w .wide .ensures) _ _ (⊎-elim (λ o. inl (o .taken)) (λ o. inr (o .1 .taken)) (c .before .if1 .came)))
+
+read-body-requires : tie.Need-read-body-requires
+read-body-requires c κs =
+    let k = c .before .before .before .before .before in
+    let start = k .before .before .before .before .before .before .before .before .before .before .before .before in
+    (numbers k .within, start .pre)
+
+array-read-t28 : tie.Need-array-read-t28
+array-read-t28 c = search needs
+
+array-read-t31 : tie.Need-array-read-t31
+array-read-t31 c = search needs
+
+array-read-t34 : tie.Need-array-read-t34
+array-read-t34 c = search needs
+
+array-read-t37 : tie.Need-array-read-t37
+array-read-t37 c = search needs
+
+returns-2 : tie.Need-returns-2
+unfolding head-form text
+returns-2 c =
+    rw (c .refused-head .ensures) (head-none (c .before .before .before .before .line-at .ensures) _ _ _ (c .before .enum-told .given .1))
+
+same-length : tie.Need-same-length
+same-length c = search needs
+
+same-length-2 : tie.Need-same-length-2
+same-length-2 c = search needs
+
+returns-3 : tie.Need-returns-3
+unfolding list-of
+returns-3 c =
+    let b = c .before .before .before .before in
+    let w = b .before .before .before .before .before in
+    head-read (numbers (w .before)) _ (w .wide .ensures) (b .before .before .before .before .if1 .left) (b .before .before .before .if2 .left)
+    (b .read-body .ensures)
+
+pub read-sheet-spec : {M : Type 1} → statement M
+read-sheet-spec =
+    tie.close
+    (tie.spec
+    slice-aggregate-line-at
+    slice-aggregate-line-at-2
+    line-at-requires
+    enum-told
+    refused-head-requires
+    enum-known-next
+    array-read-wide
+    wide-requires
+    refused-head-requires-2
+    returns
+    read-body-requires
+    array-read-t28
+    array-read-t31
+    array-read-t34
+    array-read-t37
+    returns-2
+    same-length
+    same-length-2
+    returns-3)

@@ -1,0 +1,102 @@
+-- What the functions that read a sheet promise. A position in the bytes stands for the bytes from there on.
+--   unless-number    a value where the number is 0, else refused by it
+--   LineRead         what the functions for one line promise
+--   PartRead         what read_members and read_shares promise
+--   NumbersRead      what read_numbers promises
+--   list-of, Beside            a list that lies in words, and what a sheet is read beside
+--   BodyRead         what read_body promises
+--   sheet-of, SheetRead        what read_sheet promises
+--   at-least         how many numbers are k or more
+--   judged-head      what judge_head promises
+--   Ones, Blank      a list that lies in words beside weights of 1, and buffers to work in
+-- Assumes nothing: these are definitions.
+use mathlib.Core.Path.{_≡_}
+use mathlib.Core.Bool.{true, _&&_, cond}
+use mathlib.Core.List.{List, [], _∷_}
+use Prim.Native.Nat.{ℕ, zero, suc, _+_, _*_, _≤_, _<_}
+use lib.Dec.{leb, eqb}
+use lib.ListN.{length, getD, take, drop, replicate}
+use Rattle.theory.specs.Basics.{mark}
+use Rattle.theory.specs.Lists.{Pairs, is-list}
+use Rattle.theory.specs.Cores.{core-numbers}
+use Rattle.theory.specs.Splits.{rounded-up}
+use Rattle.verify.specs.declared.Verdict.{Verdict}
+use Rattle.verify.specs.Answers.{refused-by}
+use Rattle.pairs.specs.Located.{ones-in}
+use Rattle.pairfile.specs.Numbers.{Number}
+use Rattle.pairfile.specs.Outcomes.{Outcome, refused, taken}
+use Rattle.sheetfile.specs.Sheet.{Part, Body, Sheet}
+use Rattle.sheetfile.specs.declared.Found.{Found}
+use Rattle.sheetfile.specs.declared.Lines.{Lines}
+use Rattle.sheetfile.specs.declared.Head.{Head}
+
+-- the value where the number is 0
+unfoldable pub unless-number : {A : Type 0} → (number : ℕ) → A → Outcome A
+unless-number zero a = taken a
+unless-number (suc k) a = refused (suc k)
+
+-- MEMBER_LINE, NUMBER_LINE and SHARE_LINE: the line that is due
+pub record LineRead (bytes : List ℕ) (line : Outcome Number) (r : Found) : Type 0 where
+  pub found : line ≡ unless-number (r .number) (record { value = r .value; rest = drop (r .next) bytes })
+  pub within : r .next ≤ length bytes
+
+-- READ_MEMBERS and READ_SHARES: some lines, and the entries that they give
+pub record PartRead (bytes : List ℕ) (part : Outcome Part) (entries : List ℕ) (r : Lines) : Type 0 where
+  pub found : part ≡ unless-number (r .number) (record { entries = entries; rest = drop (r .next) bytes })
+  pub within : r .next ≤ length bytes
+
+-- READ_NUMBERS: some lines
+pub record NumbersRead (bytes : List ℕ) (rest : Outcome (List ℕ)) (r : Lines) : Type 0 where
+  pub found : rest ≡ unless-number (r .number) (drop (r .next) bytes)
+  pub within : r .next ≤ length bytes
+
+-- the list of n modules and of the pairs in words
+unfoldable pub list-of : (n m : ℕ) → (ends : List ℕ) → Pairs
+list-of n m ends = record { n = n; pairs = ones-in m ends }
+
+-- what a sheet is read beside: the list of so many modules and pairs, its core numbers, and member bytes that are 0
+pub record Beside (n m : ℕ) (ends cores members : List ℕ) : Type 0 where
+  pub few : n ≤ 512
+  pub short : m ≤ 4096
+  pub long : 2 * m ≤ length ends
+  pub numbers : cores ≡ core-numbers (list-of n m ends)
+  pub unmarked : members ≡ replicate n 0
+
+-- READ_BODY: after a refusal members and shares are free
+pub record BodyRead (body : Outcome Body) (members shares : List ℕ) (number : ℕ) : Type 0 where
+  pub found : body ≡ unless-number number (record { members = members; shares = shares })
+
+-- the sheet of a head, member bytes and shares
+unfoldable pub sheet-of : Head → (members shares : List ℕ) → Sheet
+sheet-of h s xs = record { p = h .p; q = h .q; k = h .k; coresize = h .coresize; members = s; shares = xs }
+
+-- READ_SHEET: after a refusal members and shares are free
+pub record SheetRead (sheet : Outcome Sheet) (members shares : List ℕ) (h : Head) : Type 0 where
+  pub found : sheet ≡ unless-number (h .number) (sheet-of h members shares)
+  pub some : h .number ≡ 0 → 1 ≤ h .q
+
+-- how many numbers are k or more
+unfoldable pub at-least : (k : ℕ) → List ℕ → ℕ
+at-least k [] = 0
+at-least k (c ∷ cs) = mark (leb k c) + at-least k cs
+
+-- JUDGE_HEAD: 107 where the ratio line is not what check counted, 108 where the core line is not P/Q rounded up and the size of that core
+unfoldable pub judged-head : Head → Verdict → (cores : List ℕ) → Verdict
+judged-head h v cores =
+    cond (eqb (h .p) (v .p) && eqb (h .q) (v .q))
+    (cond (eqb (h .k) (rounded-up (h .p) (h .q)) && eqb (h .coresize) (at-least (h .k) cores)) v (refused-by 108))
+    (refused-by 107)
+
+-- weights of 1 beside the list in words
+pub record Ones (n m : ℕ) (ends weights : List ℕ) : Type 0 where
+  pub held : is-list (list-of n m ends) ≡ true
+  pub long : 2 * m ≤ length ends
+  pub weights-long : m ≤ length weights
+  pub once : (j : ℕ) → j < m → getD weights j 0 ≡ 1
+
+-- buffers for n core numbers, n member bytes that are 0, and m shares
+pub record Blank (n m : ℕ) (cores members shares : List ℕ) : Type 0 where
+  pub cores-long : n ≤ length cores
+  pub members-long : n ≤ length members
+  pub shares-long : m ≤ length shares
+  pub unmarked : take n members ≡ replicate n 0
