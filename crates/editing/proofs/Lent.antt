@@ -2,33 +2,27 @@
 --   start-list, length-start-list       the records 0,0 that the words are put over; a list that no goal computes
 --   lent-list, lent-as, length-lent     the list that is lent
 --   enough-in, enough-out               what the two copies ask is met
---   Outcome, add-outcome, remove-outcome   the one answer and the one list that a call's contract allows
 --   through                             the contract of a call on words
 --   too-wide, holds-of                  whether the words are those of `len` records, by what `thin` answers
 --   on-full, on-short, on-none          the contract of a call on words of any number, by what they hold
 -- Assumes nothing.
-use mathlib.Core.Path.{_≡_, refl, sym, ap, _∙_, subst}
-use Prim.Native.Nat.{ℕ, _+_, _-_, _*_, _<_, _≤_, _^_}
+use mathlib.Core.Path.{_≡_, refl, ap, _∙_, subst}
+use Prim.Native.Nat.{ℕ, _+_, _*_, _≤_}
 use native.Mathlib.Omega.{arith}
 use mathlib.Core.Bool.{Bool, true, false, not}
 use mathlib.Core.List.{List}
 use mathlib.Core.Logic.{_↔_}
-use lib.ListN.{length, getD}
-use lib.Dec.{lit<}
-use denote.Builtin.{u32}
-use denote.Slice.{Room}
+use lib.ListN.{length}
 use borrow.Author.Tests.{not-false}
 use Rattle.theory.proofs.Tests.{no}
-use Rattle.theory.specs.Refusals.{if-taken}
 use Rattle.records.specs.declared.Pair.{Pair}
 use Rattle.records.specs.declared.Head.{Head}
 use Rattle.records.specs.Records.{blank, laid-out, put-back, narrow}
 use Rattle.records.proofs.Arrays.{copies, copies-are, length-copies}
 use Rattle.records.proofs.Steps.{Enough, Enough-back}
 use Rattle.records.proofs.Copies.{length-put-back, length-laid-out}
-use Rattle.records.proofs.Pair as P
 use Rattle.kandurzo.specs.declared.Changed.{Changed}
-use Rattle.kandurzo.specs.Listing.{head-of, add-number, added, Add-says, remove-number, removed, Remove-says}
+use Rattle.kandurzo.proofs.Outcomes.{Call, Outcome}
 use Rattle.editing.specs.Lent.{Thin, Holds, lent, Through, unlent, On-words}
 
 abbrev pub start-list : ℕ → List Pair
@@ -36,33 +30,6 @@ start-list len = copies len blank
 
 pub length-start-list : (len : ℕ) → length (start-list len) ≡ len
 length-start-list len = length-copies len blank
-
--- what a call's contract speaks of: head and list, the pair, the answer, the list after it
-abbrev pub Call : Type 1
-Call = Head → List Pair → ℕ → ℕ → Changed → List Pair → Type 0
-
--- what a call is: what it answers and leaves, and that its contract allows nothing else
-pub record Outcome (Says : Call) (h : Head) (ps : List Pair) (a b : ℕ) : Type 0 where
-  pub answer : Changed
-  pub left : List Pair
-  pub says : Says h ps a b answer left
-  pub only : (r : Changed) (qs : List Pair) → Says h ps a b r qs → (r ≡ answer) × (qs ≡ left)
-
-pub add-outcome : (h : Head) (ps : List Pair) (a b : ℕ) → Outcome Add-says h ps a b
-add-outcome h ps a b = record {
-  answer = record { number = add-number h ps a b; head = if-taken (add-number h ps a b) (head-of (h .n) (h .m + 1)) h };
-  left = if-taken (add-number h ps a b) (added h ps a b) ps;
-  says = record { number = refl; head = refl; list = refl };
-  only = λ r qs e. (λ i. record { number = e .number i; head = e .head i }, e .list);
-}
-
-pub remove-outcome : (h : Head) (ps : List Pair) (a b : ℕ) → Outcome Remove-says h ps a b
-remove-outcome h ps a b = record {
-  answer = record { number = remove-number h ps a b; head = if-taken (remove-number h ps a b) (head-of (h .n) (h .m - 1)) h };
-  left = if-taken (remove-number h ps a b) (removed h ps a b) ps;
-  says = record { number = refl; head = refl; list = refl };
-  only = λ r qs e. (λ i. record { number = e .number i; head = e .head i }, e .list);
-}
 
 module _ (len : ℕ) (few : len ≤ 4096) (ws : List ℕ) (holds : Holds len ws) where
   abbrev pub lent-list : List Pair

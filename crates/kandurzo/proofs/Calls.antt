@@ -1,8 +1,8 @@
 -- From the records to the words and back: what add and remove do on words is what they do to the lent records.
---   out                        the words after the records went out
---   out-ready                  what add and remove on words ask of them
---   out-number, back-is        the refusal number, and the records that come back
---   add-says, remove-says      the calls' promises
+--   out                                what the words are after the records went out
+--   out-enough, out-ready              what the way out asks, and what add and remove on words ask
+--   Making, made-out                   what a change makes, and what it makes of the words after the records went out
+--   Change, add-change, remove-change  a change of the words makes the call's answer and its list
 -- Assumes nothing.
 use mathlib.Core.Path.{_≡_, refl, sym, ap, _∙_}
 use mathlib.Core.Bool.{Bool, true, false, not, cond}
@@ -27,14 +27,20 @@ use Rattle.records.specs.declared.Head.{Head}
 use Rattle.records.specs.Records.{held-list, agrees, laid-out, word-record, records-in, put-back}
 use Rattle.records.proofs.Copies.{length-laid-out, pairs-laid-out}
 use Rattle.records.proofs.Steps.{Enough, Enough-back}
+use Rattle.kandurzo.specs.declared.Edit.{Edit}
 use Rattle.kandurzo.specs.Listing.{head-of, as-record, as-records, is-full, add-number, added, Add-says, remove-number, removed, Remove-says}
 use Rattle.kandurzo.specs.Edits.{word-list, records-out, Ready, edit-of, add-on-number, add-edit, add-words, remove-on-number, remove-edit, remove-words}
 use Rattle.kandurzo.proofs.Orders.{add-13, remove-13}
+use Rattle.kandurzo.proofs.Outcomes.{Call, answer}
 use Rattle.kandurzo.proofs.Changes.{Edited, add-edited, remove-edited}
 use Rattle.kandurzo.proofs.Taken.{held-few, held-is-list, length-held}
 
+-- what a change of the words makes: of the head, whether it agrees with the list, the list's length, the words, and the pair
+abbrev pub Making : Type 0 → Type 0
+Making X = Head → Bool → ℕ → List ℕ → ℕ → ℕ → X
+
 -- the words zs after the records went out to them
-unfoldable pub out : List ℕ → Head → List Pair → List ℕ
+abbrev pub out : List ℕ → Head → List Pair → List ℕ
 out zs h ps = laid-out ps zs (records-out h (agrees h ps))
 
 -- the records that lie in words are those of the pairs
@@ -50,7 +56,7 @@ records-ones m ws = table-map m (word-pair ws (replicate m 1)) (word-record ws) 
 module _ (zs : List ℕ) (long : length zs ≡ 8192) (h : Head) (ps : List Pair) where
   -- where head and list agree, the words hold the list
   out-list : agrees h ps ≡ true → word-list h (out zs h ps) ≡ held-list h ps
-  unfolding word-list held-list out records-out ones-in
+  unfolding word-list held-list records-out ones-in
   out-list e =
       rw e
       (ap (λ (qs : List Lists.Pair). record { n = h .n; pairs = qs })
@@ -72,7 +78,6 @@ module _ (zs : List ℕ) (long : length zs ≡ 8192) (h : Head) (ps : List Pair)
   out-enough = (out-count .0, out-count .1, omega (arith, out-count .1))
 
   pub out-ready : Ready h (agrees h ps) (length ps) (out zs h ps)
-  unfolding out
   out-ready =
       record {
         long =
@@ -120,6 +125,16 @@ unfolding as-records as-record pair
 freed [] rest = refl
 freed (q ∷ qs) rest = ap (λ (ps : List Pair). as-record q ∷ ps) (freed qs rest)
 
+-- what a change makes of the words zs, once the records went out to them
+abbrev pub made-out : {X : Type 0} → Making X → List ℕ → Head → List Pair → (a b : ℕ) → X
+made-out x zs h ps a b = x h (agrees h ps) (length ps) (out zs h ps) a b
+
+-- the words after a change are as many, what comes back fits the list, and the call's contract holds
+pub record Change (Says : Call) (edit : Making Edit) (words : Making (List ℕ)) (zs : List ℕ) (h : Head) (ps : List Pair) (a b : ℕ) : Type 0 where
+  pub long : length (made-out words zs h ps a b) ≡ 8192
+  pub back : Enough-back ps (made-out words zs h ps a b) (made-out edit zs h ps a b .count)
+  pub says : Says h ps a b (answer (made-out edit zs h ps a b)) (put-back ps (made-out words zs h ps a b) (made-out edit zs h ps a b .count))
+
 -- what comes back is said of the held pairs: where head and list disagree, nothing does
 module _ (zs : List ℕ) (long : length zs ≡ 8192) (h : Head) (ps : List Pair) (a b : ℕ) where
   held-out : agrees h ps ≡ true → ones-in (h .m) (out zs h ps) ≡ held-list h ps .pairs
@@ -144,50 +159,44 @@ module _ (zs : List ℕ) (long : length zs ≡ 8192) (h : Head) (ps : List Pair)
   back-enough e = (e .in-list, e .room, omega (arith, e .room, e .long), e .fit)
 
   -- ADD: the answer on words is the call's
-  pub add-says : let e = add-edit h t (length ps) (out zs h ps) a b in
-      Add-says h ps a b (record { number = e .number; head = e .head }) (put-back ps (add-words h t (length ps) (out zs h ps) a b) (e .count))
+  pub add-change : Change Add-says add-edit add-words zs h ps a b
   unfolding added add-edit edit-of add-on-number
-  add-says =
+  add-change =
       let same = out-add-number zs long h ps a b in
+      let done = add-edited h t (length ps) (out zs h ps) a b (out-ready zs long h ps) in
       let new : List Lists.Pair → List Pair = λ qs. as-records (insert-pair (smaller-first-pair a b) qs) ++ drop (h .m + 1) ps in
       record {
-        number = same;
-        head = ap (λ (k : ℕ). if-taken k (head-of (h .n) (h .m + 1)) h) same;
-        list =
-            back-is h _ _ _ (h .m + 1) _ _ ps (add-edited h t (length ps) (out zs h ps) a b (out-ready zs long h ps))
-            ∙ ap (λ (k : ℕ). if-taken k (new (ones-in (h .m) (out zs h ps))) ps) same
-            ∙ taken-held (add-number h ps a b) new (λ d. unfold add-number in (add-13 _ _ _ a b (rw d)));
+        long = done .long;
+        back = back-enough done;
+        says = record {
+          number = same;
+          head = ap (λ (k : ℕ). if-taken k (head-of (h .n) (h .m + 1)) h) same;
+          list =
+              back-is h _ _ _ (h .m + 1) _ _ ps done
+              ∙ ap (λ (k : ℕ). if-taken k (new (ones-in (h .m) (out zs h ps))) ps) same
+              ∙ taken-held (add-number h ps a b) new (λ d. unfold add-number in (add-13 _ _ _ a b (rw d)));
+        };
       }
 
-  pub add-long : length (add-words h t (length ps) (out zs h ps) a b) ≡ 8192
-  add-long = add-edited h t (length ps) (out zs h ps) a b (out-ready zs long h ps) .long
-
-  pub add-back : Enough-back ps (add-words h t (length ps) (out zs h ps) a b) (add-edit h t (length ps) (out zs h ps) a b .count)
-  unfolding add-edit
-  add-back = back-enough (add-edited h t (length ps) (out zs h ps) a b (out-ready zs long h ps))
-
   -- REMOVE likewise
-  pub remove-says : let e = remove-edit h t (out zs h ps) a b in
-      Remove-says h ps a b (record { number = e .number; head = e .head }) (put-back ps (remove-words h t (out zs h ps) a b) (e .count))
+  pub remove-change : Change Remove-says (λ g s len. remove-edit g s) (λ g s len. remove-words g s) zs h ps a b
   unfolding removed remove-edit edit-of remove-on-number
-  remove-says =
+  remove-change =
       let same = out-remove-number zs long h ps a b in
+      let done = remove-edited h t (length ps) (out zs h ps) a b (out-ready zs long h ps) in
       let new : List Lists.Pair → List Pair =
       λ qs. as-records (remove-pair (smaller-first-pair a b) qs) ++ (record { a = 0; b = 0 } ∷ drop (h .m) ps) in
       record {
-        number = same;
-        head = ap (λ (k : ℕ). if-taken k (head-of (h .n) (h .m - 1)) h) same;
-        list =
-            back-is h _ _ _ (h .m) _ _ ps (remove-edited h t (length ps) (out zs h ps) a b (out-ready zs long h ps))
-            ∙ ap (λ (qs : List Pair). if-taken (refusal (remove-causes (not (agrees h ps)) (word-list h (out zs h ps)) a b)) qs ps)
-            (freed (remove-pair (smaller-first-pair a b) (ones-in (h .m) (out zs h ps))) (drop (h .m) ps))
-            ∙ ap (λ (k : ℕ). if-taken k (new (ones-in (h .m) (out zs h ps))) ps) same
-            ∙ taken-held (remove-number h ps a b) new (λ d. unfold remove-number in (remove-13 _ _ a b (rw d)));
+        long = done .long;
+        back = back-enough done;
+        says = record {
+          number = same;
+          head = ap (λ (k : ℕ). if-taken k (head-of (h .n) (h .m - 1)) h) same;
+          list =
+              back-is h _ _ _ (h .m) _ _ ps done
+              ∙ ap (λ (qs : List Pair). if-taken (refusal (remove-causes (not (agrees h ps)) (word-list h (out zs h ps)) a b)) qs ps)
+              (freed (remove-pair (smaller-first-pair a b) (ones-in (h .m) (out zs h ps))) (drop (h .m) ps))
+              ∙ ap (λ (k : ℕ). if-taken k (new (ones-in (h .m) (out zs h ps))) ps) same
+              ∙ taken-held (remove-number h ps a b) new (λ d. unfold remove-number in (remove-13 _ _ a b (rw d)));
+        };
       }
-
-  pub remove-long : length (remove-words h t (out zs h ps) a b) ≡ 8192
-  remove-long = remove-edited h t (length ps) (out zs h ps) a b (out-ready zs long h ps) .long
-
-  pub remove-back : Enough-back ps (remove-words h t (out zs h ps) a b) (remove-edit h t (out zs h ps) a b .count)
-  unfolding remove-edit
-  remove-back = back-enough (remove-edited h t (length ps) (out zs h ps) a b (out-ready zs long h ps))

@@ -5,6 +5,7 @@
 --   work-in-words        so the calls on words may go on
 --   work-in-shut         where the gate refuses it is untouched
 --   work-in-left         a call leaves of it what it leaves of the buffer as it was
+--   the-gate, the-words, enough, length-words, words-ready, if-open    the way of a call to its function on words
 -- Assumes nothing.
 use mathlib.Core.Path.{_≡_, refl, sym, ap, _∙_}
 use mathlib.Core.Bool.{Bool, true, false, _||_, not, cond}
@@ -24,10 +25,12 @@ use Rattle.pairs.proofs.Weights.{ones-at}
 use Rattle.records.specs.declared.Pair.{Pair}
 use Rattle.records.specs.declared.Head.{Head}
 use Rattle.records.specs.Records.{held-list, agrees, ends-of, laid-out}
+use Rattle.records.proofs.Steps.{Enough}
 use Rattle.records.proofs.Copies.{length-ends-of, length-laid-out, laid-out-none, pairs-laid-out}
 use Rattle.kandurzo.specs.Edits.{word-list}
 use Rattle.kandurzo.specs.Buffers.{in-front, work-words, work-left}
-use Rattle.kandurzo.specs.Gate.{gate-causes, gate-number, records-through, On-words}
+use Rattle.kandurzo.specs.declared.Gate.{Gate}
+use Rattle.kandurzo.specs.Gate.{gate-causes, gate-number, records-through, gate-of, On-words}
 use Rattle.kandurzo.proofs.Filling.{work-zeros}
 use Rattle.kandurzo.proofs.Taken.{held-few, held-is-list, length-held}
 
@@ -127,3 +130,28 @@ module _ (h : Head) (ps : List Pair) (short : Bool) where
         go : (t : Bool) → eqb k 0 ≡ t → work-left k (work-in work) ≡ work-left k work
         go true e = let z = eqb-true k 0 e in zeros z (work-in work) ∙ work-in-zeroed ∙ sym (zeros z work)
         go false e = ap (work-left k) (work-in-shut (eqb-false k 0 e))
+
+-- what the gate says
+abbrev pub the-gate : Head → List Pair → (short : Bool) → Gate
+the-gate h ps short = gate-of h (agrees h ps) short
+
+pub if-open : (h : Head) (ps : List Pair) (short : Bool) → the-gate h ps short .number ≡ 0 → short ≡ false
+unfolding gate-of gate-number
+if-open h ps short e = gate-open h ps short e .1
+
+-- the words once the records are out
+abbrev pub the-words : Head → List Pair → (short : Bool) → List ℕ → List ℕ
+the-words h ps short work = laid-out ps work (the-gate h ps short .out)
+
+-- what the copy asks, and what the function on words asks
+module _ (h : Head) (ps : List Pair) (short : Bool) (work : List ℕ) (long : short ≡ false → 16384 ≤ length work) where
+  pub enough : Enough ps work (the-gate h ps short .out)
+  unfolding gate-of gate-number
+  enough = (through-count h ps short .0, through-count h ps short .1, through-room h ps short work long)
+
+  pub length-words : length (the-words h ps short work) ≡ length work
+  length-words = length-laid-out ps work (the-gate h ps short .out) (enough .0) (enough .2)
+
+  pub words-ready : On-words h (the-gate h ps short .number) (the-words h ps short work)
+  unfolding gate-of gate-number work-in
+  words-ready = work-in-words h ps short work long

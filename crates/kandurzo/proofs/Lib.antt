@@ -2,7 +2,12 @@
 pub mod Orders
 pub mod Changes
 pub mod Taken
+pub mod Outcomes
 pub mod Calls
+pub mod Written
+pub mod Types
+pub mod Editing
+pub mod InPlace
 pub mod Filling
 pub mod Gates
 pub mod Parts

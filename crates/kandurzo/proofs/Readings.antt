@@ -45,6 +45,7 @@ use Rattle.kandurzo.specs.declared.Edit.{Edit}
 use Rattle.kandurzo.specs.Listing.{head-of, as-records}
 use Rattle.kandurzo.specs.Buffers.{in-front, filled, work-words, work-left}
 use Rattle.kandurzo.specs.Reading.{read-outcome, read-head, records-front, Read-call, Read-on}
+use Rattle.kandurzo.proofs.Outcomes.{answer}
 use Rattle.kandurzo.proofs.Filling.{work-zeros}
 use Rattle.kandurzo.proofs.Calls.{records-ones}
 use Rattle.kandurzo.proofs.Taken.{held-front, agrees-front}
@@ -267,7 +268,7 @@ module _ (bytes : List ℕ) (ps : List Pair) (work after : List ℕ) (e : Edit) 
 
   -- READ: number, head, every record, and the work buffer
   pub read-says :
-      Read-call bytes ps work (record { number = e .number; head = e .head }) (put-back ps after (e .count)) (work-left (e .number) after)
+      Read-call bytes ps work (answer e) (put-back ps after (e .count)) (work-left (e .number) after)
   unfolding put-back records-front
   read-says =
       record {

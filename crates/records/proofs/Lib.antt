@@ -11,3 +11,4 @@ pub mod Records
 pub mod Steps
 pub mod Copies
 pub mod Scans
+pub mod Cited

@@ -5,17 +5,12 @@ use contract.Running.{givenOf, tables, tablesOf}
 use Rattle.records.proofs.Frame.{big-lit}
 use denote.Triple.Spec.{tripleOf}
 use denote.Triple.Table.{entered, cited}
+use Rattle.records.proofs.Cited.{cites-out, cites-in}
 use Rattle.kandurzo.specs.Listing.{Add-says}
-use Rattle.records.proofs.copy_in.Symbol as copy-in-def
-use Rattle.records.proofs.copy_in.Symbol.{name as #records·copy-in}
-use Rattle.records.proofs.copy_in.Met as copy-in-thm
-use Rattle.records.proofs.copy_out.Symbol as copy-out-def
-use Rattle.records.proofs.copy_out.Symbol.{name as #records·copy-out}
-use Rattle.records.proofs.copy_out.Met as copy-out-thm
 use Rattle.kandurzo.proofs.kandurzo_add.Symbol as call-def
 use Rattle.kandurzo.proofs.kandurzo_add.Symbol.{name as #call}
 use Rattle.kandurzo.proofs.kandurzo_add.Met as call-thm
-use Rattle.editing.proofs.Lent.{add-outcome}
+use Rattle.kandurzo.proofs.Outcomes.{add-outcome}
 use Rattle.editing.proofs.Walk.{meets}
 use Rattle.editing.proofs.add_4096.Key.{name as #this}
 use Rattle.editing.proofs.add_4096 as f
@@ -29,6 +24,6 @@ add-4096-spec 𝓤 H 𝓜 𝓖 𝓡 =
     (tables 𝓤 H 𝓜 𝓡 code.env .C) (tables 𝓤 H 𝓜 𝓡 code.env .Λ) #this code.function (code.unfolded 𝓤 H 𝓜 𝓡)
     (meets 4096 (lit≤ tt) (intBig w64 4096) #call Add-says add-outcome
     𝓤 H (𝓖 .A) (givenOf 𝓤 H 𝓜 𝓖) (𝓜 .mem) (𝓡 .run) (tablesOf 𝓤 H 𝓜 (tables 𝓤 H 𝓜 𝓡 code.env)) (λ K Γ E t. big-lit t (lit< tt))
-    (cited 𝓤 H _ 𝓜 𝓡 code.env #records·copy-in copy-in-def.routine code.calls-records·copy-in (copy-in-thm.met 𝓤 H 𝓜 𝓖 𝓡))
-    (cited 𝓤 H _ 𝓜 𝓡 code.env #records·copy-out copy-out-def.routine code.calls-records·copy-out (copy-out-thm.met 𝓤 H 𝓜 𝓖 𝓡))
+    (cites-in 𝓤 H 𝓜 𝓖 𝓡 code.env code.calls-records·copy-in)
+    (cites-out 𝓤 H 𝓜 𝓖 𝓡 code.env code.calls-records·copy-out)
     (cited 𝓤 H _ 𝓜 𝓡 code.env #call call-def.routine code.calls-kandurzo·kandurzo-add (call-thm.met 𝓤 H 𝓜 𝓖 𝓡)))

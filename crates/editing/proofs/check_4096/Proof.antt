@@ -1,9 +1,9 @@
 -- `check_4096` meets its contract: a walk of its MIR, straight on.
 -- Positions: the rows of the words, the members, the shares and the work buffer at 0 to 3, what closes them at 4, local j at 5 + j; one further on while
 -- the list is a row too. Assumes nothing.
-use mathlib.Core.Path.{_≡_, refl, sym, _∙_, subst}
-use Prim.Native.Nat.{ℕ, _+_, _<_, _≤_, _^_}
-use mathlib.Core.Bool.{Bool, not}
+use mathlib.Core.Path.{_≡_, refl, subst}
+use Prim.Native.Nat.{ℕ, _+_, _≤_}
+use mathlib.Core.Bool.{not}
 use mathlib.Core.List.{List, [], _∷_}
 use lib.ListN.{length}
 use lib.Dec.{eqb, lit<, lit≤}
@@ -26,7 +26,6 @@ use sound.WpLaws.{FmC, fmOf}
 use denote.Builtin.{u8, u16, u32}
 use denote.Ref.{now}
 use denote.Slice.{Room}
-use denote.Struct.Laws as Struct
 use denote.Triple.Entry.{onEntry}
 use denote.Triple.Spec.{Meets, tripleOf}
 use denote.Triple.Statement.{Triple}
@@ -36,24 +35,21 @@ use Rattle.records.specs.Records.{blank}
 use Rattle.records.specs.declared.Pair.{Pair}
 use Rattle.records.specs.declared.Head.{Head}
 use Rattle.verify.specs.declared.Verdict.{Verdict}
+use Rattle.records.proofs.Cited.{cites-in}
 use Rattle.kandurzo.specs.Judging.{Check-call}
 use Rattle.editing.specs.Lent.{Holds, lent}
 use Rattle.records.proofs.Plain.{Plain, Fits, typed-as, plain-record, plain-byte, plain-half, plain-word}
-use Rattle.records.proofs.Rows.{Row, lend-mut, lend-shr}
+use Rattle.records.proofs.Rows.{lend-mut, lend-shr}
 use Rattle.records.proofs.Calls.{Arg, plain as by-value, loan, bound, calls-rows}
 use Rattle.records.proofs.Frame.{env, block, empty, fit-slice, var, ptr-of, slice-again, array-slice, sets, lands-in, leaves}
 use Rattle.records.proofs.Entry.{Par, plain, held, hold-mut, hold-shr, entry, passed, begins, ends}
 use Rattle.records.proofs.Signs.{Kinds, record-kind, mut-kind, shr-kind, stays, meets-by}
 use Rattle.records.proofs.Arrays.{array-typed, opens-array, closes-array}
-use Rattle.records.proofs.Records.{plain-pair, plain-head, pair-row, word-row}
+use Rattle.records.proofs.Records.{plain-pair, plain-head, pair-row, word-row, half-row, byte-row, blank-fits}
 use Rattle.records.proofs.Steps.{CopiesIn, copies-in}
 use Rattle.records.proofs.Pair as P
-use Rattle.records.proofs.Pair.Laws as P′
 use Rattle.records.proofs.Head as N
 use Rattle.records.proofs.Head.Laws as N′
-use Rattle.records.proofs.copy_in.Symbol as copy-in-def
-use Rattle.records.proofs.copy_in.Symbol.{name as #records·copy-in}
-use Rattle.records.proofs.copy_in.Met as copy-in-thm
 use Rattle.verify.proofs.Verdict as D
 use Rattle.verify.proofs.Verdict.Laws as D′
 use Rattle.kandurzo.proofs.kandurzo_check as check
@@ -61,6 +57,7 @@ use Rattle.kandurzo.proofs.kandurzo_check.Symbol as check-def
 use Rattle.kandurzo.proofs.kandurzo_check.Symbol.{name as #check}
 use Rattle.kandurzo.proofs.kandurzo_check.Met as check-thm
 use Rattle.editing.proofs.Lent.{start-list, length-start-list, lent-list, lent-as, length-lent, enough-in}
+use Rattle.editing.proofs.Walk.{room-of}
 use Rattle.editing.proofs.check_4096.Key.{name as #this}
 use Rattle.editing.proofs.check_4096 as f
 use Rattle.editing.proofs.check_4096.Statement as stated
@@ -72,14 +69,11 @@ kinds = (record-kind N.the-type N′.the-laws (λ x w. refl), (shr-kind 0 tt u32
 abbrev few : 4096 ≤ 4096
 few = lit≤ tt
 
-room-of : (l : List Pair) → length l ≡ 4096 → Room P.the-row (length l)
-room-of l e = subst (Room P.the-row) (sym e) (lit< tt, lit< tt)
-
 abbrev zs : List Pair
 zs = start-list 4096
 
 room-zs : Room P.the-row (length zs)
-room-zs = room-of zs (length-start-list 4096)
+room-zs = room-of 4096 few zs (length-start-list 4096)
 
 module _ {M : Type 1} (𝓤 : URA M) (H : Heap 𝓤) (A : Atoms 𝓤) (W : Given 𝓤 H A) (mem : Memory → SProp 𝓤) (run : Routine → Fun 𝓤) (𝓣 : Tables 𝓤 H)
     (known-in : CopiesIn 𝓤 H A mem run (𝓣 .C)) (known : Triple 𝓤 (𝓣 .C #check) (tripleOf 𝓤 H A check.signature (check.spec 𝓤 H A mem run))) where
@@ -88,15 +82,6 @@ module _ {M : Type 1} (𝓤 : URA M) (H : Heap 𝓤) (A : Atoms 𝓤) (W : Given
 
   abbrev plain-verdict : Plain W D.the-row
   plain-verdict = plain-record W D.the-type D′.the-laws D′.the-plain D′.the-copy
-
-  blank-fits : Fits P.the-row (plain-pair W) blank
-  blank-fits = Struct.owes P.the-type P′.the-laws blank ((refl, lit< tt), ((refl, lit< tt), tt))
-
-  abbrev byte-row : Share → (b o : ℕ) → Row W
-  byte-row q b o = record { type = u8; plain = plain-byte W; share = q; block = b; offset = o }
-
-  abbrev half-row : Share → (b o : ℕ) → Row W
-  half-row q b o = record { type = u16; plain = plain-half W; share = q; block = b; offset = o }
 
   module _ (κ₀ κ₁ κ₂ κ₃ : Lft) (q₀ q₁ q₂ q₃ : Share) (h : Head) (b₀ o₀ : ℕ) (γ₀ : GName) (us : List ℕ) (b₁ o₁ : ℕ) (γ₁ : GName) (ms : List ℕ)
       (b₂ o₂ : ℕ) (γ₂ : GName) (xs : List ℕ) (b₃ o₃ : ℕ) (γ₃ : GName) (ws : List ℕ)
@@ -117,14 +102,14 @@ module _ {M : Type 1} (𝓤 : URA M) (H : Heap 𝓤) (A : Atoms 𝓤) (W : Given
     length-ps = length-lent 4096 few us has
 
     room-ps : Room P.the-row (length ps)
-    room-ps = room-of ps length-ps
+    room-ps = room-of 4096 few ps length-ps
 
     says : (r : Verdict) (ws′ : List ℕ) → Check-call h ps ms xs ws r ws′ → Check-call h (lent 4096 us) ms xs ws r ws′
     says r ws′ call = subst (λ (l : List Pair). Check-call h l ms xs ws r ws′) (lent-as 4096 few us has) call
 
     abbrev args : ℕ → (s₁ s₂ : Share) → List (Arg W)
     args l s₁ s₂ = by-value N.the-row (plain-head W) h is-head ∷ loan (lend-shr (pair-row W fullShare l 0) ps room-ps)
-        ∷ loan (lend-shr (byte-row s₁ b₁ o₁) ms room₁) ∷ loan (lend-shr (half-row s₂ b₂ o₂) xs room₂) ∷ loan (lend-mut (word-row W fullShare b₃ o₃) ws room₃) ∷ []
+        ∷ loan (lend-shr (byte-row W s₁ b₁ o₁) ms room₁) ∷ loan (lend-shr (half-row W s₂ b₂ o₂) xs room₂) ∷ loan (lend-mut (word-row W fullShare b₃ o₃) ws room₃) ∷ []
 
     walk : ent 𝓤 (onEntry 𝓤 H A f.signature (κ₀, (κ₁, (κ₂, (κ₃, tt)))) (q₀, (q₁, (q₂, (q₃, tt)))) (entry pars .3) (entry pars .4))
         (WpFn 𝓤 H (𝓣 .C) (𝓣 .Λ) code.function (passed pars) Post)
@@ -132,9 +117,9 @@ module _ {M : Type 1} (𝓤 : URA M) (H : Heap 𝓤) (A : Atoms 𝓤) (W : Given
         (λ bs. (typed-as (plain-head W) h is-head, (fit-slice (room₀ .0), (fit-slice (room₁ .0), (fit-slice (room₂ .0), (fit-slice (room₃ .0), tt)))))) (λ bs os.
         let at : ℕ = block (env (code.function .locals) bs) 6 in
         -- let mut list = [Pair { a: 0, b: 0 }; 4096]
-        sets ! (5 + 7) empty (agg ! (and-then ! (lit ! tt) (and-then ! (lit ! tt) (no-more !)))) (typed-as (plain-pair W) blank blank-fits) $
-        sets ! (5 + 6) empty (rep ! 4096 (var ! (5 + 7) refl)) (array-typed W P.the-row (plain-pair W) 4096 blank blank-fits) $
-        opens-array ! (5 + 6) P.the-row (plain-pair W) 4096 blank blank-fits tt at refl $
+        sets ! (5 + 7) empty (agg ! (and-then ! (lit ! tt) (and-then ! (lit ! tt) (no-more !)))) (typed-as (plain-pair W) blank (blank-fits W)) $
+        sets ! (5 + 6) empty (rep ! 4096 (var ! (5 + 7) refl)) (array-typed W P.the-row (plain-pair W) 4096 blank (blank-fits W)) $
+        opens-array ! (5 + 6) P.the-row (plain-pair W) 4096 blank (blank-fits W) tt at refl $
         -- copy_in(&mut list, words, 4096)
         sets ! (6 + 9) empty (addr ! (from ! (stop !))) (tt, tt) $
         sets ! (6 + 10) empty (array-slice ! (6 + 9) (length zs) refl (lit< tt) (length-start-list 4096)) (fit-slice (room-zs .0)) $
@@ -170,5 +155,5 @@ check-4096-spec 𝓤 H 𝓜 𝓖 𝓡 =
     entered 𝓤 H (tripleOf 𝓤 H (𝓖 .A) f.signature (f.spec 𝓤 H (𝓖 .A) (𝓜 .mem) (𝓡 .run)))
     (tables 𝓤 H 𝓜 𝓡 code.env .C) (tables 𝓤 H 𝓜 𝓡 code.env .Λ) #this code.function (code.unfolded 𝓤 H 𝓜 𝓡)
     (meets 𝓤 H (𝓖 .A) (givenOf 𝓤 H 𝓜 𝓖) (𝓜 .mem) (𝓡 .run) (tablesOf 𝓤 H 𝓜 (tables 𝓤 H 𝓜 𝓡 code.env))
-    (cited 𝓤 H _ 𝓜 𝓡 code.env #records·copy-in copy-in-def.routine code.calls-records·copy-in (copy-in-thm.met 𝓤 H 𝓜 𝓖 𝓡))
+    (cites-in 𝓤 H 𝓜 𝓖 𝓡 code.env code.calls-records·copy-in)
     (cited 𝓤 H _ 𝓜 𝓡 code.env #check check-def.routine code.calls-kandurzo·kandurzo-check (check-thm.met 𝓤 H 𝓜 𝓖 𝓡)))

@@ -2,7 +2,7 @@
 -- Positions: the rows of the bytes, the words and the work buffer at 0 to 2, what closes them at 3, local j at 4 + j; one further on while the list is
 -- a row too. Assumes nothing.
 use mathlib.Core.Path.{_≡_, refl, _∙_, subst}
-use Prim.Native.Nat.{ℕ, _+_, _*_, _≤_}
+use Prim.Native.Nat.{ℕ, _+_, _≤_}
 use native.Mathlib.Omega.{arith}
 use mathlib.Core.Bool.{not}
 use mathlib.Core.List.{List, [], _∷_}
@@ -35,26 +35,24 @@ use denote.Triple.Table.{entered, cited}
 use denote.Triple.Walked.{needs, walkOf, ends-at}
 use Rattle.records.specs.Records.{laid-out}
 use Rattle.records.specs.declared.Pair.{Pair}
+use Rattle.records.proofs.Cited.{cites-out}
 use Rattle.kandurzo.specs.declared.Changed.{Changed}
 use Rattle.kandurzo.specs.Reading.{Read-call}
 use Rattle.editing.specs.Lent.{seven-nine, Read-through}
-use Rattle.records.proofs.Plain.{Plain, Fits, typed-as, plain-record, plain-byte, plain-word}
-use Rattle.records.proofs.Rows.{Row, lend-mut, lend-shr}
+use Rattle.records.proofs.Plain.{Fits, typed-as, plain-byte, plain-word}
+use Rattle.records.proofs.Rows.{lend-mut, lend-shr}
 use Rattle.records.proofs.Calls.{Arg, loan, bound, calls-rows}
 use Rattle.records.proofs.Copies.{length-laid-out}
 use Rattle.records.proofs.Frame.{env, block, empty, fit-slice, var, ptr-of, slice-again, sets, lands-in, leaves}
 use Rattle.records.proofs.Entry.{Par, held, hold-mut, hold-shr, entry, passed, begins, ends}
 use Rattle.records.proofs.Signs.{Kinds, mut-kind, shr-kind, stays, meets-by}
 use Rattle.records.proofs.Arrays.{copies, copies-are, length-copies, array-typed, opens-array, closes-array}
-use Rattle.records.proofs.Records.{plain-pair, pair-row, word-row}
+use Rattle.records.proofs.Records.{plain-pair, pair-row, word-row, byte-row}
 use Rattle.records.proofs.Steps.{CopiesOut, copies-out}
 use Rattle.records.proofs.Pair as P
 use Rattle.records.proofs.Pair.Laws as P′
-use Rattle.records.proofs.copy_out.Symbol as copy-out-def
-use Rattle.records.proofs.copy_out.Symbol.{name as #records·copy-out}
-use Rattle.records.proofs.copy_out.Met as copy-out-thm
 use Rattle.kandurzo.proofs.Changed as D
-use Rattle.kandurzo.proofs.Changed.Laws as D′
+use Rattle.kandurzo.proofs.Types.{plain-changed}
 use Rattle.kandurzo.proofs.kandurzo_read as read
 use Rattle.kandurzo.proofs.kandurzo_read.Symbol as read-def
 use Rattle.kandurzo.proofs.kandurzo_read.Symbol.{name as #read}
@@ -95,14 +93,8 @@ module _ {M : Type 1} (𝓤 : URA M) (H : Heap 𝓤) (A : Atoms 𝓤) (W : Given
   is-100 : Sized W (int w64 100) 100
   is-100 K Γ E t = lit t tt
 
-  abbrev plain-changed : Plain W D.the-row
-  plain-changed = plain-record W D.the-type D′.the-laws D′.the-plain D′.the-copy
-
   fits : Fits P.the-row (plain-pair W) seven-nine
   fits = Struct.owes P.the-type P′.the-laws seven-nine ((refl, lit< tt), ((refl, lit< tt), tt))
-
-  abbrev byte-row : Share → (b o : ℕ) → Row W
-  byte-row q b o = record { type = u8; plain = plain-byte W; share = q; block = b; offset = o }
 
   module _ (κ₀ κ₁ κ₂ : Lft) (q₀ q₁ q₂ : Share) (b₀ o₀ : ℕ) (γ₀ : GName) (bytes : List ℕ) (b₁ o₁ : ℕ) (γ₁ : GName) (us : List ℕ)
       (b₂ o₂ : ℕ) (γ₂ : GName) (ws : List ℕ) (room₀ : Room u8 (length bytes)) (room₁ : Room u32 (length us)) (room₂ : Room u32 (length ws))
@@ -115,7 +107,7 @@ module _ {M : Type 1} (𝓤 : URA M) (H : Heap 𝓤) (A : Atoms 𝓤) (W : Given
     Post = walkOf 𝓤 H A f.ended (stays f.ended kinds) (f.clauses 𝓤 H A mem run) .post (entry pars, tt)
 
     abbrev args : ℕ → Share → List (Arg W)
-    args l s = loan (lend-shr (byte-row s b₀ o₀) bytes room₀) ∷ loan (lend-mut (pair-row W fullShare l 0) zs (room-100 zs length-zs))
+    args l s = loan (lend-shr (byte-row W s b₀ o₀) bytes room₀) ∷ loan (lend-mut (pair-row W fullShare l 0) zs (room-100 zs length-zs))
         ∷ loan (lend-mut (word-row W fullShare b₂ o₂) ws room₂) ∷ []
 
     walk : ent 𝓤 (onEntry 𝓤 H A f.signature (κ₀, (κ₁, (κ₂, tt))) (q₀, (q₁, (q₂, tt))) (entry pars .3) (entry pars .4))
@@ -133,7 +125,7 @@ module _ {M : Type 1} (𝓤 : URA M) (H : Heap 𝓤) (A : Atoms 𝓤) (W : Given
         sets ! (5 + 10) empty (slice-again ! (5 + 9) (5 + 3) refl refl refl) (fit-slice (room₂ .0)) $
         -- [list; bytes; words; work]
         move ! (1 ∷ 0 ∷ 3 ∷ []) $
-        calls-rows ! fm (args at (os .0)) D.the-row plain-changed (emp 𝓤) (λ r l. Read-call bytes zs ws r (l .1 .0) (l .1 .1 .0)) refl (id⊢ 𝓤 _)
+        calls-rows ! fm (args at (os .0)) D.the-row (plain-changed W) (emp 𝓤) (λ r l. Read-call bytes zs ws r (l .1 .0) (l .1 .1 .0)) refl (id⊢ 𝓤 _)
         (λ ks. known (bound (args at (os .0)) ks, tt))
         (and-then ! (var ! (5 + 1) refl) (and-then ! (var ! (5 + 8) refl) (and-then ! (var ! (5 + 10) refl) (no-more !))))
         (λ r l r-fits sized says.
@@ -141,7 +133,7 @@ module _ {M : Type 1} (𝓤 : URA M) (H : Heap 𝓤) (A : Atoms 𝓤) (W : Given
         let ws′ : List ℕ = l .1 .1 .0 in
         let kept : length ps ≡ 100 = sized .1 .0 ∙ length-zs in
         let laid : length (laid-out ps us 100) ≡ length us = length-laid-out ps us 100 (omega (arith, kept)) (omega (arith, enough)) in
-        lands-in ! (5 + 5) empty (typed-as plain-changed r r-fits) $
+        lands-in ! (5 + 5) empty (typed-as (plain-changed W) r r-fits) $
         -- copy_out(&list, words, 100)
         sets ! (5 + 12) empty (addr ! (from ! (stop !))) (tt, tt) $
         sets ! (5 + 13) empty (list-slice W (int w64 100) 100 is-100 ! (5 + 12) (length ps) refl kept) (fit-slice (room-100 ps kept .0)) $
@@ -152,11 +144,11 @@ module _ {M : Type 1} (𝓤 : URA M) (H : Heap 𝓤) (A : Atoms 𝓤) (W : Given
         copies-out mem run ! fm known-out fullShare at 0 ps b₁ o₁ us 100 (room-100 ps kept) room₁ (lit< tt) (omega (arith, kept), lit≤ tt, omega (arith, enough))
         (and-then ! (var ! (5 + 13) refl) (and-then ! (var ! (5 + 15) refl) (and-then ! (lit ! tt) (no-more !)))) $
         lands-in ! (5 + 11) empty (tt, tt) $
-        sets ! (5 + 0) empty (of-opd ! (var ! (5 + 5) refl)) (typed-as plain-changed r r-fits) $
+        sets ! (5 + 0) empty (of-opd ! (var ! (5 + 5) refl)) (typed-as (plain-changed W) r r-fits) $
         -- [list; words; bytes; work]
         closes-array ! (4 + 4) P.the-row (plain-pair W) 100 at ps kept $ move ! (1 ∷ []) $
         leaves ! 4 (λ j. not (eqb j 4)) _ refl (look ! (4 + 0) refl) $
-        by ! (ends pars os (tt, (laid-out ps us 100, (ws′, tt))) (tt, (laid, (sized .1 .1 .0, tt))) D.the-row plain-changed r r-fits (fact 𝓤 _)
+        by ! (ends pars os (tt, (laid-out ps us 100, (ws′, tt))) (tt, (laid, (sized .1 .1 .0, tt))) D.the-row (plain-changed W) r r-fits (fact 𝓤 _)
         (factI 𝓤 _ _ (through bytes us ws r ps ws′ says))
         (ends-at 𝓤 H A f.ended (stays f.ended kinds) (f.clauses 𝓤 H A mem run) W (entry pars, tt) _ r (tt, (laid-out ps us 100, (ws′, tt)))
         (tt, (laid, (sized .1 .1 .0, tt)))))))
@@ -173,5 +165,5 @@ read-100-spec 𝓤 H 𝓜 𝓖 𝓡 =
     entered 𝓤 H (tripleOf 𝓤 H (𝓖 .A) f.signature (f.spec 𝓤 H (𝓖 .A) (𝓜 .mem) (𝓡 .run)))
     (tables 𝓤 H 𝓜 𝓡 code.env .C) (tables 𝓤 H 𝓜 𝓡 code.env .Λ) #this code.function (code.unfolded 𝓤 H 𝓜 𝓡)
     (meets 𝓤 H (𝓖 .A) (givenOf 𝓤 H 𝓜 𝓖) (𝓜 .mem) (𝓡 .run) (tablesOf 𝓤 H 𝓜 (tables 𝓤 H 𝓜 𝓡 code.env))
-    (cited 𝓤 H _ 𝓜 𝓡 code.env #records·copy-out copy-out-def.routine code.calls-records·copy-out (copy-out-thm.met 𝓤 H 𝓜 𝓖 𝓡))
+    (cites-out 𝓤 H 𝓜 𝓖 𝓡 code.env code.calls-records·copy-out)
     (cited 𝓤 H _ 𝓜 𝓡 code.env #read read-def.routine code.calls-kandurzo·kandurzo-read (read-thm.met 𝓤 H 𝓜 𝓖 𝓡)))

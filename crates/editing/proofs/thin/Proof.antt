@@ -1,5 +1,5 @@
 -- `thin` meets its contract. The loop keeps: all words passed are of 16 bits. Assumes nothing.
-use mathlib.Core.Path.{_≡_, refl}
+use mathlib.Core.Path.{refl}
 use Prim.Native.Nat.{ℕ, _≤_, _<_, _-_}
 use lib.ListN.{length, getD}
 use native.Mathlib.Omega.{arith}

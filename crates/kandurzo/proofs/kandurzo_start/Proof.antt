@@ -1,6 +1,4 @@
 -- `kandurzo_start` meets its contract: N outside 1 to 512 is refused. Assumes nothing.
-use mathlib.Core.Path.{_≡_}
-use Prim.Native.Nat.{_≤_}
 use native.Mathlib.Omega.{arith}
 use borrow.Author.Tests.{le-leb, lt-leb}
 use Rattle.theory.specs.Refusals.{cause, refusal, if-taken}
