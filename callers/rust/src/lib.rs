@@ -40,7 +40,7 @@ impl Refusal {
         self.0
     }
 
-    /// Document 01's text.
+    /// Document 01's text, that of 11, 13 and 15 shortened.
     pub fn text(self) -> &'static str {
         match self.0 {
             1 => "a line is missing, isn't of the form due there, or lacks its LF",

@@ -1,2 +1,3 @@
 -- What is answered to a pair file.
 pub mod Answers
+pub mod Audited

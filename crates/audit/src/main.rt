@@ -1,6 +1,6 @@
 // Whether a sheet is the best there is of the list that a pair file names: `audit FILE SHEET`. Prints the refusal number, or 0 and the ratio. A file that
 // cannot be read has no bytes, and standard error says why. A pair file is decided by its first 65,536 bytes (pairfile, reads-first), a sheet by its
-// first 100,000: no sheet that is accepted has more than 98,344, and no line more than 21.
+// first 100,000 (counted, not proved): no sheet that is accepted has more than 98,344, and no line more than 21.
 ghost use Rattle.io.specs.Counts.{Counts};
 use printing::one;
 use printing::two;

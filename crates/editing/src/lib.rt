@@ -117,7 +117,7 @@ fn unlent(head: Head) -> Changed
     Changed { number: 99, head }
 }
 
-// add on a list of as many records as the words hold.
+// add on the 4,096 or 100 records that the words hold; 99 where they hold neither.
 pub fn add_words(head: Head, words: &mut [u32], a: u32, b: u32) -> Changed
     ensures { λ r. ⌜ On-words Add-says head (now (words .entry)) a b r (now (words .exit)) ⌝ }
 {
@@ -133,7 +133,7 @@ pub fn add_words(head: Head, words: &mut [u32], a: u32, b: u32) -> Changed
     unlent(head)
 }
 
-// remove on a list of as many records as the words hold.
+// remove on the 4,096 or 100 records that the words hold; 99 where they hold neither.
 pub fn remove_words(head: Head, words: &mut [u32], a: u32, b: u32) -> Changed
     ensures { λ r. ⌜ On-words Remove-says head (now (words .entry)) a b r (now (words .exit)) ⌝ }
 {
@@ -149,7 +149,7 @@ pub fn remove_words(head: Head, words: &mut [u32], a: u32, b: u32) -> Changed
     unlent(head)
 }
 
-// check on a list of as many records as the words hold.
+// check on the 4,096 records that the words hold; 99 where they do not.
 pub fn check_lent(
     head: Head,
     words: &[u32],

@@ -1,5 +1,5 @@
 -- The promise of the split search, in slots: units held at the ends of pairs move within their pairs until no load is above p; or a set of modules
--- shows that none of the ways to do so ends there. (A maximum flow, or a minimum cut.)
+-- shows that no way of moving them does that. (A maximum flow, or a minimum cut.)
 --   Sub                every member of one set is in another
 --   Tight              a set that cannot get below p a module
 --   Busy, Denser       a set that cannot get down to p a module: the cut

@@ -1,6 +1,6 @@
 -- What the chain search does, on the way to the promise of specs/Flow.antt. A set of modules is given by numbers above 0 (`rank`).
 --   leads, Closed, Exit        slots that hold units and lead out of a set
---   Step, Tree                 how each module was reached (a breadth-first tree)
+--   Step, Tree                 how each module was reached (a search tree)
 --   Full                       every module of a set is loaded p or more
 --   Reached, Searched          one module more; a search's answer
 --   excess, Pulled             what lies above p; units moved back along a chain

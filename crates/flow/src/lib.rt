@@ -151,7 +151,7 @@ fn search(
     found
 }
 
-// Units move back along the chain by which `found` was reached, until a module on it keeps p or more.
+// Units move towards `found` along the chain by which it was reached, from its end backward, until a module on it keeps p or more.
 fn pull(
     n: usize,
     m: usize,

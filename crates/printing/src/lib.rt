@@ -1,4 +1,4 @@
-// What the programs `group` and `sheet` print of an answer, on standard output. Only programs use this crate: it carries the I/O library's
+// What the programs `group`, `sheet` and `audit` print, on standard output. Only programs use this crate: it carries the I/O library's
 // assumptions.
 use answer::Answer;
 use libc::STDOUT_FILENO;

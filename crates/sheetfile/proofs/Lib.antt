@@ -5,4 +5,5 @@ pub mod Bodies
 pub mod Tallies
 pub mod Auditing
 pub mod Promises
+pub mod Short
 pub mod Written

@@ -1,7 +1,7 @@
 -- A sheet that is written reads back.
 --   members-back, numbers-back, shares-back     the parts
 --   sheet-back                                  Sheet-back: the whole sheet
---   accepts-back                                Accepts-back: a best sheet is accepted
+--   accepts-back                                Accepts-back: every best sheet is accepted
 -- Assumes nothing.
 use mathlib.Core.Path.{_≡_, refl, sym, ap, _∙_}
 use mathlib.Core.Bool.{true, false, _&&_}
@@ -56,6 +56,7 @@ use Rattle.sheetfile.specs.Writer.{member-lines, number-lines, share-lin
 use Rattle.sheetfile.specs.Audit.{ratio-good, core-good, head-causes, sheet-causes, audit-sheet, audit}
 use Rattle.sheetfile.proofs.Judging.{line-taken}
 use Rattle.sheetfile.proofs.Auditing.{check-then}
+use Rattle.sheetfile.proofs.Short.{best-written}
 
 -- ---- lines that are written
 
@@ -185,5 +186,5 @@ none-met g s o ek ec =
 
 pub accepts-back : Accepts-back
 unfolding Accepts-back Sheet-back audit audit-sheet _>>=_ _>>_
-accepts-back file g s e w o ek ec =
-    rw (e, sheet-back g s (accepted 4096 file g e .list) w, judge-passed (sheet-causes g s) (none-met g s o ek ec))
+accepts-back file g s e o ek ec =
+    rw (e, sheet-back g s (accepted 4096 file g e .list) (best-written file g s e o ek ec), judge-passed (sheet-causes g s) (none-met g s o ek ec))

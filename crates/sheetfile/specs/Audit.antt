@@ -1,4 +1,4 @@
--- What `audit` answers of a pair file and a sheet: the pair file's refusals (1 to 11); the sheet's, line by line (101 to 106); check's, of the group and
+-- What `audit` answers of a pair file and a sheet: the pair file's refusals (1 to 6, 10); the sheet's, line by line (101 to 106); check's, of the group and
 -- the shares on it (7, 8, 9); last 107, 108, of its head.
 --   sheet-causes           7, 8, 9, 107, 108
 --   audit-sheet, audit     the sheet of the file's list that is accepted, or the refusal number

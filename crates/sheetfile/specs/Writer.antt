@@ -1,7 +1,7 @@
 -- The text of a sheet, as the program `sheet` prints it, and that it reads back.
 --   member-lines, number-lines, share-lines, sheet-file      the lines of a sheet of a list
 --   Written                                                  a sheet that can be written: a group, a share for each pair, numbers of at most four digits
---   Sheet-back, Accepts-back                                 what is written reads back, and a best sheet is accepted; the theorems are `sheet-back`
+--   Sheet-back, Accepts-back                                 what is written reads back, and every best sheet is accepted; the theorems are `sheet-back`
 --                                                            and `accepts-back`
 -- Assumes nothing: these are definitions.
 use mathlib.Core.Path.{_≡_}
@@ -61,10 +61,10 @@ pub record Written (g : Pairs) (s : Sheet) : Type 0 where
 unfoldable pub Sheet-back : Type 0
 Sheet-back = (g : Pairs) (s : Sheet) → is-list g ≡ true → Written g s → read-sheet g (sheet-file g s) ≡ taken s
 
--- AND A BEST SHEET IS ACCEPTED, whoever made it: beside a pair file that names the list, group and shares that are optimal with their P and Q, and the
--- list's core line
+-- AND EVERY BEST SHEET IS ACCEPTED, whoever made it: beside a pair file that names the list, group and shares that are optimal with their P and Q, and
+-- the list's core line
 unfoldable pub Accepts-back : Type 0
 Accepts-back =
-    (file : List ℕ) (g : Pairs) (s : Sheet) → read-file 4096 file ≡ taken g → Written g s →
+    (file : List ℕ) (g : Pairs) (s : Sheet) → read-file 4096 file ≡ taken g →
     Optimal g (s .members) (s .shares) (s .p) (s .q) → s .k ≡ rounded-up (s .p) (s .q) → s .coresize ≡ size (core g (s .k)) →
     audit file (sheet-file g s) ≡ taken s
