@@ -116,7 +116,7 @@ def renumbered(r, n, pairs):
 
 
 def lists():
-    """Name, seed, N and pairs. Of the kinds without chance, the second and third list have shuffled numbers."""
+    """Name, seed, N and pairs. The second and third list of a kind have shuffled numbers: in kinds without chance they differ in nothing else."""
     for name, make in KINDS.items():
         for seed in SEEDS:
             n, pairs = make(random.Random(seed))
