@@ -264,7 +264,8 @@ def main():
         compared(times, f"solve, {way}", "solve ours", {engine: f"solve {engine} {way}" for engine in engines} | slow)
     best(times, engines, ways)
     compared(times, "check", "check ours", {f"solving again: {other}": f"solve {other}" for other in ["ours", "LEMON core", "LEMON whole"]})
-    for call, others in {"peel": ["igraph", "Boost", "networkx"], "read": ["scanf", "LEMON", "igraph", "networkx"]}.items():
+    made = ["igraph from pairs", "Boost from pairs", "Boost-CSR from pairs"]
+    for call, others in {"peel": ["igraph", "Boost", "networkx", *made], "read": ["scanf", "LEMON", "igraph", "networkx"]}.items():
         compared(times, call, f"{call} ours", {other: f"{call} {other}" for other in others})
     compared(times, "add, a pair", "add ours", {other: f"add {other}" for other in ["std::set", "Boost", "igraph", "networkx"]})
     calls = ["solve", "peel", "check", "read", "add"]

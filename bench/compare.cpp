@@ -375,7 +375,7 @@ int main(int count, char **words) {
         if (v.number || v.p != ours.p || v.q != ours.q) fail("check declines");
     });
 
-    // peel; the graphs of the others stand already, and only ours gives the leaving order
+    // peel; the graphs of the others stand already, or are made of the pairs within the time; only ours gives the leaving order
     using Adjacent = boost::adjacency_list<boost::vecS, boost::vecS, boost::undirectedS>;
     Adjacent adjacent(pairs.begin(), pairs.end(), n);
     igraph_t drawn;
@@ -390,6 +390,23 @@ int main(int count, char **words) {
     });
     time("peel igraph", [&] { igraph_coreness(&drawn, &numbers, IGRAPH_ALL); });
     time("peel Boost", [&] { core_numbers(adjacent, cored); });
+    time("peel igraph from pairs", [&] {
+        igraph_t graph;
+        igraph_create(&graph, &ends, n, false);
+        igraph_coreness(&graph, &numbers, IGRAPH_ALL);
+        igraph_destroy(&graph);
+    });
+    time("peel Boost from pairs", [&] {
+        Adjacent graph(pairs.begin(), pairs.end(), n);
+        core_numbers(graph, boost::make_iterator_property_map(cores.begin(), get(boost::vertex_index, graph)));
+    });
+    time("peel Boost-CSR from pairs", [&] {
+        std::vector<std::pair<int, int>> both;
+        both.reserve(2 * m);
+        for (auto [a, b] : pairs) both.push_back({a, b}), both.push_back({b, a});
+        boost::compressed_sparse_row_graph<boost::directedS> graph(boost::edges_are_unsorted, both.begin(), both.end(), n);
+        core_numbers(graph, boost::make_iterator_property_map(cores.begin(), get(boost::vertex_index, graph)));
+    });
 
     // read; each library's own format, from memory
     std::string edges, dimacs = "p mat " + std::to_string(n) + " " + std::to_string(m) + "\n";

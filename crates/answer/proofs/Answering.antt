@@ -36,7 +36,7 @@ use Rattle.kandurzo.proofs.Gates.{gate-open}
 use Rattle.kandurzo.proofs.Readings.{read-held, read-agrees}
 use Rattle.kandurzo.proofs.Taken.{held-is-list}
 use Rattle.answer.specs.declared.Answer.{Answer}
-use Rattle.answer.specs.Answers.{refusal-of, Room-enough, solved-of, Handed-over, Sheeted, Answered, Answers}
+use Rattle.answer.specs.Answers.{refusal-of, Room-enough, solved-of, Handed-over, Sheeted, Answers}
 
 abbrev pub answer-of : Changed → Solved → Answer
 answer-of file found = record {

@@ -1,4 +1,4 @@
--- What is answered to the bytes of a pair file: what the programs `group` (document 01, end of "Lists tried by hand") and `sheet` print.
+-- What is answered to the bytes of a pair file; crate `texts` writes it out.
 --   refusal-of           the answer beside a refusal
 --   Room-enough          the buffers that are lent for a sheet
 --   solved-of            the answer as solve's record

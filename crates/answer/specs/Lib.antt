@@ -1,3 +1,2 @@
 -- What is answered to a pair file.
 pub mod Answers
-pub mod Audited

@@ -1,4 +1,4 @@
-// The answer to the bytes of a pair file: what the programs `group` and `sheet` print.
+// The answer to the bytes of a pair file, which crate `texts` writes out.
 ghost use Prim.Native.Nat.{_≤_};
 ghost use lib.ListN.{length};
 ghost use Rattle.answer.specs.Answers.{Answers, Room-enough, Sheeted};

@@ -1,9 +1,8 @@
 // Whether a sheet is the best there is of the list that a pair file names: `audit FILE SHEET`. Prints the refusal number, or 0 and the ratio. A file that
-// cannot be read has no bytes, and standard error says why. A pair file is decided by its first 65,536 bytes (pairfile, reads-first), a sheet by its
-// first 100,000 (counted, not proved): no sheet that is accepted has more than 98,344, and no line more than 21.
+// cannot be read has no bytes, and standard error says why. A pair file is decided by its first 65,536 bytes and a sheet by its first 100,000
+// (sheetfile, audit-first). What is printed is proved (texts, audit_text).
 ghost use Rattle.io.specs.Counts.{Counts};
-use printing::one;
-use printing::two;
+use libc::STDOUT_FILENO;
 
 // Reads the file that argument i names; answers how many bytes were read.
 fn read_named(i: usize, file: &mut [u8]) -> usize
@@ -24,11 +23,9 @@ fn read_named(i: usize, file: &mut [u8]) -> usize
 fn main() {
     let mut file = io::large_buffer();
     let mut sheet = [0u8; 100000];
+    let mut out = [0u8; 64];
     let n = read_named(1, &mut file);
     let k = read_named(2, &mut sheet);
-    let verdict = sheetfile::audit(&file[..n], &sheet[..k]);
-    one(b"status=", verdict.number);
-    if verdict.number == 0 {
-        two(b"ratio=", verdict.p, b"/", verdict.q);
-    }
+    let r = texts::audit_text(&file[..n], &sheet[..k], &mut out);
+    io::write_all(STDOUT_FILENO, &out[..r]);
 }

@@ -1,7 +1,10 @@
-// Check of a sheet by both computations: accepted sheets altered in one place each, and every sheet of small lists.
+// Check of a sheet by both computations: accepted sheets altered in one place each, and every sheet of a small list.
+use crate::calls::can_call;
 use crate::codes::spell_bytes;
 use crate::codes::spell_shares;
 use crate::plain;
+use crate::plain::Group;
+use crate::plain::read_group;
 use crate::sheets;
 use crate::sheets::Change;
 use crate::sheets::Sheet;
@@ -21,45 +24,44 @@ fn answer(number: u32) -> usize {
 }
 
 // Whether p and q are those of the group, or both 0 beside a refusal.
-fn counts_right(n: u32, pairs: &[u32], members: &[u8], verdict: verify::Verdict) -> bool {
+fn counts_right(group: Group, verdict: verify::Verdict) -> bool {
     if verdict.number != 0 {
         return verdict.p == 0 && verdict.q == 0;
     }
-    verdict.p == plain::inside(pairs, members) && verdict.q == plain::size(wide(n), members)
+    verdict.p == group.inside && verdict.q == group.size
 }
 
 // Whether check's answer is the plain one.
-fn agrees(n: u32, pairs: &[u32], members: &[u8], shares: &[u16], verdict: verify::Verdict) -> bool {
-    if verdict.number != plain::check_number(n, pairs, members, shares) {
+fn agrees(
+    n: usize,
+    m: usize,
+    ends: &[u32],
+    group: Group,
+    shares: &[u16],
+    verdict: verify::Verdict,
+) -> bool {
+    if verdict.number != plain::check_number(n, m, ends, group, shares) {
         return false;
     }
-    counts_right(n, pairs, members, verdict)
+    counts_right(group, verdict)
 }
 
-// Check of one sheet, by both.
+// Check of one sheet, by both: the members are the group as it was read.
 fn judge(
-    n: u32,
+    n: usize,
     m: usize,
     ends: &[u32],
     weights: &[u32],
     members: &[u8],
+    group: Group,
     shares: &[u16],
     seen: Tally,
 ) -> Tally {
-    let size = wide(n);
-    if !lists::is_held(size, m, ends, weights) {
+    if !can_call(n, m, ends, weights, members.len(), shares.len(), m) {
         return seen.not_held();
     }
-    let words = 2 * m;
-    let pairs = &ends[..words];
-    if members.len() < size {
-        return seen.not_held();
-    }
-    if shares.len() < m {
-        return seen.not_held();
-    }
-    let verdict = verify::check_words(size, m, ends, weights, members, shares);
-    if agrees(n, pairs, members, shares, verdict) {
+    let verdict = verify::check_words(n, m, ends, weights, members, shares);
+    if agrees(n, m, ends, group, shares, verdict) {
         seen.same(answer(verdict.number))
     } else {
         seen.differs()
@@ -80,11 +82,12 @@ fn try_sheet(sheet: Sheet, change: Change, at: usize, seen: Tally) -> Tally {
         return seen;
     }
     sheets::mark(wide(group), &mut members);
-    sheets::share_out(kind, group, &ends, &mut shares);
+    sheets::share_out(kind, group, m, &ends, &mut shares);
     if !sheets::alter(change, at, group, &mut members, &mut shares) {
         return seen;
     }
-    judge(n, m, &ends, &weights, &members, &shares, seen)
+    let counts = read_group(wide(n), m, &ends, &members);
+    judge(wide(n), m, &ends, &weights, &members, counts, &shares, seen)
 }
 
 // A change at places 0, step, twice the step and so on, below `count`.
@@ -127,12 +130,13 @@ fn try_shares(
     ends: &[u32],
     weights: &[u32],
     members: &[u8],
+    group: Group,
     code: u32,
     seen: Tally,
 ) -> Tally {
     let mut shares = [0u16; 4];
     spell_shares(code, m, &mut shares);
-    judge(4, m, ends, weights, members, &shares, seen)
+    judge(4, m, ends, weights, members, group, &shares, seen)
 }
 
 // 6 to the power of m, where m is at most 4, else 0.
@@ -148,48 +152,34 @@ fn share_codes(m: usize) -> u32 {
 }
 
 // All shares of 0 to 5.
-fn every_share(m: usize, ends: &[u32], weights: &[u32], members: &[u8], seen: Tally) -> Tally {
+fn every_share(
+    m: usize,
+    ends: &[u32],
+    weights: &[u32],
+    members: &[u8],
+    group: Group,
+    seen: Tally,
+) -> Tally {
     let count = share_codes(m);
     let mut now = seen;
     let mut code = 0;
     while code < count {
-        now = try_shares(m, ends, weights, members, code, now);
+        now = try_shares(m, ends, weights, members, group, code, now);
         code += 1;
     }
     now
 }
 
-fn try_members(m: usize, ends: &[u32], weights: &[u32], code: u32, seen: Tally) -> Tally {
+// The member bytes of a number below 81, with all shares.
+pub(crate) fn try_members(
+    m: usize,
+    ends: &[u32],
+    weights: &[u32],
+    code: u32,
+    seen: Tally,
+) -> Tally {
     let mut members = [0u8; 4];
     spell_bytes(code, &mut members);
-    every_share(m, ends, weights, &members, seen)
-}
-
-// All member bytes of 0 to 2.
-fn every_member(m: usize, ends: &[u32], weights: &[u32], seen: Tally) -> Tally {
-    let mut now = seen;
-    let mut code = 0;
-    while code < 81 {
-        now = try_members(m, ends, weights, code, now);
-        code += 1;
-    }
-    now
-}
-
-fn try_list(mask: u32, seen: Tally) -> Tally {
-    let mut ends = [0u32; 8192];
-    let mut weights = [0u32; 4096];
-    let m = lists::fill(Kind::Mask(mask), 4, 1, &mut ends, &mut weights).m;
-    every_member(m, &ends, &weights, seen)
-}
-
-// Every sheet of every list of 4 modules and up to 4 pairs.
-pub(crate) fn every_sheet() -> Tally {
-    let mut now = Tally::new();
-    let mut mask = 0;
-    while mask < 64 {
-        now = try_list(mask, now);
-        mask += 1;
-    }
-    now
+    let group = read_group(4, m, ends, &members);
+    every_share(m, ends, weights, &members, group, seen)
 }

@@ -3,14 +3,17 @@
 // Sheets that check accepts (module `sheets`) are altered in one place each; then every sheet of small lists is tried, good and bad; then the
 // surplus of every two sets of bytes of small lists, and of large groups around equal ratios. Prints a line for each kind: how often both gave
 // each answer, how many lists the words did not hold, and how many answers differ.
+mod calls;
 mod checks;
 mod codes;
 mod plain;
 mod sheets;
+mod small;
 mod surpluses;
 mod tally;
 
 use sheets::Change;
+use small::Asked;
 use tally::Tally;
 
 fn print_checks(name: &[u8], seen: Tally) {
@@ -38,11 +41,11 @@ fn main() {
     altered(b"no member", Change::Emptied);
     print_checks(
         b"every sheet of 4 modules and up to 4 pairs",
-        checks::every_sheet(),
+        small::every_list(Asked::Sheets),
     );
     print_surpluses(
         b"surplus, every two sets of 4 modules",
-        surpluses::every_set(),
+        small::every_list(Asked::Sets),
     );
     print_surpluses(b"surplus, large groups", surpluses::large_groups());
 }

@@ -3,9 +3,12 @@
 use crate::plain::byte_at;
 use crate::plain::share_at;
 use lists::Kind;
+use lists::narrow;
 use std::num::wrapping_add_u32;
 use std::num::wrapping_add_usize;
 use std::num::wrapping_sub_u32;
+use trials::Ends;
+use trials::pair_at;
 
 // A list of n modules of a kind, with the first `group` modules as members.
 pub struct Sheet {
@@ -90,16 +93,16 @@ pub(crate) fn mark(group: usize, members: &mut [u8]) {
     }
 }
 
+// A fair share of a pair.
+fn pair_share(kind: Kind, q: u32, pair: Ends) -> u32 {
+    fair_share(kind, q, narrow(pair.a), narrow(pair.b))
+}
+
 // A fair share for each pair.
-pub(crate) fn share_out(kind: Kind, q: u32, pairs: &[u32], shares: &mut [u16]) {
-    let m = pairs.len() / 2;
+pub(crate) fn share_out(kind: Kind, q: u32, m: usize, ends: &[u32], shares: &mut [u16]) {
     let mut j = 0;
     while j < m {
-        put_share(
-            shares,
-            j,
-            fair_share(kind, q, pairs[2 * j], pairs[2 * j + 1]),
-        );
+        put_share(shares, j, pair_share(kind, q, pair_at(ends, j)));
         j += 1;
     }
 }

@@ -1,10 +1,11 @@
-// Surplus by both computations: of every two sets of bytes of small lists, and of large groups around equal ratios.
+// Surplus by both computations: of two sets of bytes of a small list, and of large groups around equal ratios.
+use crate::calls::can_call;
 use crate::codes::spell_bytes;
 use crate::plain;
+use crate::plain::read_group;
 use crate::sheets::mark;
 use crate::tally::Tally;
 use lists::Kind;
-use lists::wide;
 
 // The answers are counted as above zero, zero, below zero, refused by 7.
 fn answer(number: u32, value: i64) -> usize {
@@ -19,25 +20,27 @@ fn answer(number: u32, value: i64) -> usize {
 
 // Whether surplus's answer is the plain one: 7 and the value 0 where one of the sets is no group.
 fn agrees(
-    n: u32,
-    pairs: &[u32],
+    n: usize,
+    m: usize,
+    ends: &[u32],
     first: &[u8],
     second: &[u8],
     difference: verify::Difference,
 ) -> bool {
-    let size = wide(n);
-    if plain::size(size, first) == 0 {
+    let one = read_group(n, m, ends, first);
+    if one.size == 0 {
         return difference.number == 7 && difference.value == 0;
     }
-    if plain::size(size, second) == 0 {
+    let other = read_group(n, m, ends, second);
+    if other.size == 0 {
         return difference.number == 7 && difference.value == 0;
     }
-    difference.number == 0 && difference.value == plain::surplus(size, pairs, first, second)
+    difference.number == 0 && difference.value == plain::surplus(one, other)
 }
 
 // Surplus of two sets, by both.
 fn weigh(
-    n: u32,
+    n: usize,
     m: usize,
     ends: &[u32],
     weights: &[u32],
@@ -45,61 +48,24 @@ fn weigh(
     second: &[u8],
     seen: Tally,
 ) -> Tally {
-    let size = wide(n);
-    if !lists::is_held(size, m, ends, weights) {
+    if !can_call(n, m, ends, weights, first.len(), second.len(), n) {
         return seen.not_held();
     }
-    let words = 2 * m;
-    let pairs = &ends[..words];
-    if first.len() < size {
-        return seen.not_held();
-    }
-    if second.len() < size {
-        return seen.not_held();
-    }
-    let difference = verify::surplus_words(size, m, ends, weights, first, second);
-    if agrees(n, pairs, first, second, difference) {
+    let difference = verify::surplus_words(n, m, ends, weights, first, second);
+    if agrees(n, m, ends, first, second, difference) {
         seen.same(answer(difference.number, difference.value))
     } else {
         seen.differs()
     }
 }
 
-// A number below 6,561: 81 for each set.
-fn try_sets(m: usize, ends: &[u32], weights: &[u32], code: u32, seen: Tally) -> Tally {
+// The two sets of bytes of a number below 6,561: 81 for each set.
+pub(crate) fn try_sets(m: usize, ends: &[u32], weights: &[u32], code: u32, seen: Tally) -> Tally {
     let mut first = [0u8; 4];
     let mut second = [0u8; 4];
     spell_bytes(code % 81, &mut first);
     spell_bytes(code / 81, &mut second);
     weigh(4, m, ends, weights, &first, &second, seen)
-}
-
-fn every_two(m: usize, ends: &[u32], weights: &[u32], seen: Tally) -> Tally {
-    let mut now = seen;
-    let mut code = 0;
-    while code < 6561 {
-        now = try_sets(m, ends, weights, code, now);
-        code += 1;
-    }
-    now
-}
-
-fn try_list(mask: u32, seen: Tally) -> Tally {
-    let mut ends = [0u32; 8192];
-    let mut weights = [0u32; 4096];
-    let m = lists::fill(Kind::Mask(mask), 4, 1, &mut ends, &mut weights).m;
-    every_two(m, &ends, &weights, seen)
-}
-
-// Every two sets of bytes of 0 to 2 of every list of 4 modules.
-pub(crate) fn every_set() -> Tally {
-    let mut now = Tally::new();
-    let mut mask = 0;
-    while mask < 64 {
-        now = try_list(mask, now);
-        mask += 1;
-    }
-    now
 }
 
 // The first k modules against the first l, of 512.

@@ -10,8 +10,7 @@ use native.Mathlib.Omega.{arith}
 use native.Mathlib.Nat.{mul-le-mul-left, mul-le-mul-right, le-of-mul-le-mul-right, div-mul-le-self, le-div-iff-mul-le}
 use lib.ListN.{length, getD}
 use Rattle.theory.specs.Lists.{is-list}
-use Rattle.theory.specs.Groups.{is-in, size, is-group, inside, at-most, within, Found}
-use Rattle.theory.specs.Leaving.{degree}
+use Rattle.theory.specs.Groups.{size, is-group, inside, at-most, within, Found}
 use Rattle.theory.specs.Cores.{core}
 use Rattle.theory.specs.Splits.{rounded-up}
 use Rattle.theory.specs.Words.{list-in}
@@ -19,34 +18,30 @@ use Rattle.theory.specs.Promise.{Found-there}
 use Rattle.theory.proofs.Tests.{tests}
 use Rattle.theory.proofs.Groups.{size-pos, group-bits, bits-group, within-both, within-size}
 use Rattle.theory.proofs.Best.{found-there}
-use Rattle.theory.proofs.Cores.{found-degree, good-in-core, round-le}
 use Rattle.slots.specs.Slots.{slot-load, own-of}
 use Rattle.slots.specs.Split.{Split}
 use Rattle.flow.specs.Flow.{Largest}
 use Rattle.densest.proofs.Units.{own-none}
 use Rattle.densest.proofs.Answers.{none-denser, largest-set}
+use Rattle.densest.proofs.InnerCores.{found-ratio, dense-in-core}
 
--- s is the group at hand, of q modules with p pairs inside; no module has an own load
+-- s is a group of ratio p over q or more; no module has an own load
 pub drained-found : (n m p q : ℕ) (own ends weights hold s t : List ℕ) → is-list (list-in n m ends weights) ≡ true →
-    is-group (list-in n m ends weights) s ≡ true → inside (list-in n m ends weights) s ≡ p → size s ≡ q → ((v : ℕ) → v < n → getD own v 0 ≡ 0) →
+    is-group (list-in n m ends weights) s ≡ true → p * size s ≤ inside (list-in n m ends weights) s * q → 1 ≤ q → ((v : ℕ) → v < n → getD own v 0 ≡ 0) →
     Split m q ends weights (core (list-in n m ends weights) (rounded-up p q)) hold → ((v : ℕ) → v < n → slot-load m own ends hold v ≤ p) →
     Largest n m p own (core (list-in n m ends weights) (rounded-up p q)) ends hold t → Found (list-in n m ends weights) t
 unfolding at-most list-in Found-there
-drained-found n m p q own ends weights hold s t l gs ep eq none sp most d =
+drained-found n m p q own ends weights hold s t l gs reached pq none sp most d =
     let g = list-in n m ends weights in
     let scope = core g (rounded-up p q) in
     let there = found-there g l in
     let f = there .0 in
     let ff = there .1 in
-    let pq : 0 < q = omega (arith, size-pos g s gs) in
     let fs : 0 < size f = size-pos g f (ff .group) in
     let lf : length f ≡ n = group-bits g f (ff .group) .0 in
     let zero : (x : List ℕ) → length x ≡ n → own-of own x ≡ 0 = λ x e. own-none own x (λ v h. none v (omega arith)) in
-    let ge : p * size f ≤ inside g f * q =
-    omega (arith, simp tests at (ff .greatest s gs), ap (λ (z : ℕ). z * size f) ep, ap (λ (z : ℕ). inside g f * z) eq) in
-    let deg : (v : ℕ) → is-in f v ≡ true → rounded-up p q ≤ degree g f v =
-    λ v i. round-le p q (degree g f v) pq (le-of-mul-le-mul-right (omega (arith, ge, mul-le-mul-right q (found-degree g f v l ff i))) fs) in
-    let sub = good-in-core g (rounded-up p q) f lf deg in
+    let ge : p * size f ≤ inside g f * q = found-ratio g p q s l pq gs reached f ff in
+    let sub = dense-in-core g p q s l pq gs reached f ff in
     let lar = largest-set n m p q own ends weights scope hold sp t d in
     let ft : within f t ≡ true = lar .all f (ff .group) sub (omega arith) in
     let gt : is-group g t ≡ true = bits-group g t (lar .long, lar .bytes) (omega (arith, within-size f t ft)) in

@@ -1,4 +1,6 @@
 -- Slots against lists, groups and splits; each file opens with what it gives.
+pub mod InnerPairs
+pub mod InnerCores
 pub mod Units
 pub mod Loads
 pub mod Answers
@@ -7,3 +9,5 @@ pub mod Counts
 pub mod Rounds
 pub mod Sheets
 pub mod Solving
+pub mod Gathering
+pub mod Narrowing

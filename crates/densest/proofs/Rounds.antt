@@ -1,5 +1,6 @@
 -- What a round learns, and what all rounds do.
---   Bounded, candidate-bounded    a group's inside count and size are small
+--   Bounded, candidate-bounded    p and q of a candidate are small
+--   group-candidate               a group's own ratio is one
 --   round-of                      a round, from what `flow` answers
 --   Going, going-on               what holds from round to round
 --   steps, steps-fall             how many rounds are left at most: ratios rise
@@ -18,15 +19,16 @@ use Rattle.theory.specs.Cores.{core}
 use Rattle.theory.specs.Splits.{rounded-up}
 use Rattle.theory.specs.Words.{list-in}
 use Rattle.theory.proofs.Tests.{tests}
+use Rattle.theory.proofs.Lists.{listed}
 use Rattle.theory.proofs.Groups.{size-pos, group-bits}
-use Rattle.theory.proofs.Bounds.{inside-bound, size-bound, size-le-length}
+use Rattle.theory.proofs.Bounds.{inside-bound, size-le-length}
 use Rattle.slots.specs.Slots.{Room}
 use Rattle.slots.specs.Split.{Split}
 use Rattle.slots.proofs.Held.{zero-at}
 use Rattle.slots.proofs.Words.{list-weights}
 use Rattle.flow.specs.Flow.{Flowed, Largest}
 use Rattle.theory.specs.Words.{Held-words as Held}
-use Rattle.densest.specs.Search.{Candidate, Cored, Linked, Round, Searched}
+use Rattle.densest.specs.Search.{Candidate, Cored, Link-room, Round, Searched}
 use Rattle.densest.proofs.Units.{split-kept, split-room, own-none}
 use Rattle.densest.proofs.Answers.{denser-group}
 use Rattle.densest.proofs.Enough.{drained-found, ratio-rises}
@@ -37,11 +39,19 @@ pub record Bounded (p q : ℕ) : Type 0 where
   pub small : q ≤ 512
 
 pub candidate-bounded : (g : Pairs) (p q : ℕ) → is-list g ≡ true → Candidate g p q → Bounded p q
-candidate-bounded g p q l c = record {
-  few = omega (arith, c .inside-count, inside-bound g (c .members) l);
-  some = omega (arith, c .modules, size-pos g (c .members) (c .group));
-  small = omega (arith, c .modules, size-bound g (c .members) l (c .group));
-}
+candidate-bounded g p q l c = record { few = c .few; some = c .some; small = omega (arith, c .small, listed g l .few) }
+
+-- a group's own ratio
+pub group-candidate : (g : Pairs) (s : List ℕ) (p q : ℕ) → is-list g ≡ true → is-group g s ≡ true → p ≡ inside g s → q ≡ size s → Candidate g p q
+group-candidate g s p q l h ep eq =
+    let b = group-bits g s h in record {
+      members = s;
+      group = h;
+      reached = rw (ep, eq) (omega arith);
+      few = omega (arith, inside-bound g s l);
+      some = omega (arith, size-pos g s h);
+      small = omega (arith, b .0, size-le-length s (b .1));
+    }
 
 module _ (n m p q : ℕ) (ends weights : List ℕ) (h : Held n m ends weights) (c : Candidate (list-in n m ends weights) p q) where
   pub round-of : (k : ℕ) (scope hold hold' t : List ℕ) (r : Bool) → scope ≡ core (list-in n m ends weights) (rounded-up p q) →
@@ -61,7 +71,7 @@ module _ (n m p q : ℕ) (ends weights : List ℕ) (h : Held n m ends weights) (
         good = λ z v b. omega (arith, f .good z v b);
         found = λ z.
             let lar : Largest n m p own (core g (rounded-up p q)) ends hold' t = rw e at (f .largest z) in
-            drained-found n m p q own ends weights hold' (c .members) t (h .listed) (c .group) (sym (c .inside-count)) (sym (c .modules)) (λ v b. zero-at k v)
+            drained-found n m p q own ends weights hold' (c .members) t (h .listed) (c .group) (c .reached) (c .some) (λ v b. zero-at k v)
             core-split (f .good z) lar;
         is-a-group = λ z. dg z .group;
         denser = λ z. omega (arith, dg z .more, own-none own t (λ v b. zero-at k v));
@@ -73,7 +83,7 @@ module _ (n m p q : ℕ) (ends weights : List ℕ) (h : Held n m ends weights) (
 pub record Going (n m : ℕ) (ends weights cores first next scope hold group : List ℕ) (p q : ℕ) (done settled : Bool) : Type 0 where
   pub held : Held n m ends weights
   pub cored : Cored (list-in n m ends weights) cores
-  pub linked : Linked n m first next
+  pub linked : Link-room n m first next
   pub scope-long : length scope ≡ n
   pub group-long : length group ≡ n
   pub room : Room m hold
@@ -113,12 +123,12 @@ module _ (n m : ℕ) (ends weights cores first next scope hold group scope' hold
     scope-long = ls;
     group-long = lg;
     room = d .room;
-    at-hand = record { members = group'; group = round-group n m p q ends weights scope' hold' group' r d; inside-count = hp; modules = hq };
+    at-hand = group-candidate (list-in n m ends weights) group' p' q' (s .held .listed) (round-group n m p q ends weights scope' hold' group' r d) hp hq;
     ended = λ e. record { found = d .found e; inside-count = hp; modules = hq; room = d .room; last = round-again et e };
   }
 
   pub steps-fall : done ≡ false → steps n p' q' r < steps n p q done
-  unfolding steps
+  unfolding steps list-in
   steps-fall e = rw e (go r d)
     where
       go : (r : Bool) → Round n m p q ends weights scope' hold' group' r →
@@ -132,6 +142,6 @@ module _ (n m : ℕ) (ends weights cores first next scope hold group scope' hold
           let up : p * q' < p' * q =
           omega (arith, d .denser refl, ap (λ (z : ℕ). p * z) hq, ap (λ (z : ℕ). z * q) hp) in
           let rise = ratio-rises p q p' q' n (b .some) (omega (arith, size-pos g group' gs))
-          (omega (arith, c .modules, size-most n m ends weights (c .members) (c .group))) (omega (arith, size-most n m ends weights group' gs)) up in
+          (c .small) (omega (arith, size-most n m ends weights group' gs)) up in
           let most : p' ≤ 4096000 = omega (arith, inside-bound g group' (s .held .listed)) in
           omega (arith, rise, div-le-self (p' * (n * n)) q', mul-le-mul-right (n * n) most)

@@ -1,8 +1,9 @@
 -- From the leaving order to the answer.
 --   peeled-cored, peeled-candidate, peeled-by-place    what `peel` gives the search
 --   peelable-zeros, room-zeros    buffers of zeros are long enough
---   searched-bounded              the found group's inside count and size are small
---   solved-of                     the answer, from the last round; its split search answers true
+--   searched-candidate, searched-bounded    the found group's inside count and size
+--   searched-last                 the search with a last round: that answers true
+--   solved-of                     the answer
 --   solves-of                     where it stands in the buffers
 -- Assumes nothing.
 use mathlib.Core.Path.{_≡_, refl, sym, ap, _∙_}
@@ -36,7 +37,7 @@ use Rattle.peel.proofs.Promises.{peel-promised}
 use Rattle.densest.specs.declared.Solution.{Solution}
 use Rattle.densest.specs.Search.{Candidate, Cored, Round, Searched, sheet-share}
 use Rattle.densest.specs.Solve.{Solved, Solves}
-use Rattle.densest.proofs.Rounds.{Bounded, candidate-bounded}
+use Rattle.densest.proofs.Rounds.{Bounded, candidate-bounded, group-candidate}
 use Rattle.densest.proofs.Sheets.{Sheet, sheet-optimal, sheet-outside}
 
 -- ---- the leaving order
@@ -56,12 +57,8 @@ module _ (g : Pairs) (l : is-list g ≡ true) (order cores place order' cores' p
   pub peeled-candidate : Candidate g (r .p) (r .q)
   unfolding Peel-promised
   peeled-candidate =
-      let k = peel-promised g 1 order cores place order' cores' place' r l (omega arith) (listed g l .some) h in record {
-        members = remainder g (r .at);
-        group = remainder-group g (r .at) (omega (arith, k .rest, k .enough));
-        inside-count = h .p-is;
-        modules = h .q-is;
-      }
+      let k = peel-promised g 1 order cores place order' cores' place' r l (omega arith) (listed g l .some) h in
+      group-candidate g (remainder g (r .at)) (r .p) (r .q) l (remainder-group g (r .at) (omega (arith, k .rest, k .enough))) (h .p-is) (h .q-is)
 
   pub peeled-by-place : (a b : ℕ) → a < g .n → b < g .n → before (leaving g) a b ≡ ltb (getD place' a 0) (getD place' b 0)
   unfolding Peel-promised
@@ -82,7 +79,7 @@ room-zeros m k h = record { long = omega (arith, length-replicate {A = ℕ} k 0)
 module _ (n m : ℕ) (ends weights : List ℕ) (h : Held n m ends weights) (scope₀ hold₀ s : List ℕ) (p q : ℕ) (settled : Bool)
     (f : Searched n m ends weights scope₀ hold₀ s p q settled) where
   pub searched-candidate : Candidate (list-in n m ends weights) p q
-  searched-candidate = record { members = s; group = f .found .group; inside-count = f .inside-count; modules = f .modules }
+  searched-candidate = group-candidate (list-in n m ends weights) s p q (h .listed) (f .found .group) (f .inside-count) (f .modules)
 
   pub searched-bounded : Bounded p q
   searched-bounded = candidate-bounded (list-in n m ends weights) p q (h .listed) searched-candidate
@@ -101,30 +98,44 @@ module _ (n m : ℕ) (ends weights : List ℕ) (h : Held n m ends weights) (scop
         ap (λ (z : ℕ). inside g t * z) (f .modules),
       ))
 
-  pub solved-of : (scope place hold t shares : List ℕ) (r : Bool) (x : Solution) → Round n m p q ends weights scope hold t r →
+  -- with that round the search is settled
+  pub searched-last : (scope hold t : List ℕ) (r : Bool) → Round n m p q ends weights scope hold t r → Searched n m ends weights scope hold t p q true
+  unfolding Found-alone
+  searched-last scope hold t r d =
+      let g = list-in n m ends weights in
+      let yes = last-true scope hold t r d in
+      let same : s ≡ t = found-alone g s t (h .listed) (f .found) (d .found yes) in record {
+        found = d .found yes;
+        inside-count = f .inside-count ∙ ap (inside g) same;
+        modules = f .modules ∙ ap size same;
+        room = d .room;
+        last = λ _. rw yes at d;
+      }
+
+module _ (n m : ℕ) (ends weights : List ℕ) (h : Held n m ends weights) (scope hold t : List ℕ) (p q : ℕ)
+    (f : Searched n m ends weights scope hold t p q true) where
+  pub solved-of : (place shares : List ℕ) (x : Solution) →
       ((a b : ℕ) → a < n → b < n → before (leaving (list-in n m ends weights)) a b ≡ ltb (getD place a 0) (getD place b 0)) →
       length shares ≡ m → ((j : ℕ) → j < m → getD shares j 0 ≡ sheet-share q ends weights scope place hold j) →
       x .p ≡ p → x .q ≡ q → x .k ≡ rounded-up p q → x .core ≡ size scope → Solved (list-in n m ends weights) t shares x
-  unfolding Found-alone
-  solved-of scope place hold t shares r x d by long written xp xq xk xc =
+  solved-of place shares x by long written xp xq xk xc =
       let g = list-in n m ends weights in
-      let yes = last-true scope hold t r d in
-      let same : s ≡ t = found-alone g s t (h .listed) (f .found) (d .found yes) in
-      let ep : p ≡ inside g t = f .inside-count ∙ ap (inside g) same in
-      let eq : q ≡ size t = f .modules ∙ ap size same in
+      let d : Round n m p q ends weights scope hold t true = f .last refl in
+      let ep : p ≡ inside g t = f .inside-count in
+      let eq : q ≡ size t = f .modules in
       let ek : rounded-up p q ≡ rounded-up (inside g t) (size t) = rw (ep, eq) in
       let sheet : Sheet n m ends weights scope place hold t shares = record {
         held = h;
-        found = d .found yes;
+        found = f .found;
         scope-is = d .scope-is ∙ ap (core g) ek;
         split = rw eq at (d .split);
-        most = λ v b. omega (arith, d .good yes v b);
+        most = λ v b. omega (arith, d .good refl v b);
         by-place = by;
         long = long;
         written = rw eq at written;
       } in
       record {
-        found = d .found yes;
+        found = f .found;
         optimal = rw (xp, xq, ep, eq) (sheet-optimal n m ends weights scope place hold t shares sheet);
         outside = rw (xq, eq) (sheet-outside n m ends weights scope place hold t shares sheet);
         order = xk ∙ ek;

@@ -1,6 +1,6 @@
 -- What the functions under `solve` take and leave; only this crate cites it.
---   Candidate      a group at hand, by its inside count and size
---   Cored, Linked  buffers that have the core numbers; buffers for the links
+--   Candidate      a ratio that some group reaches
+--   Cored, Link-room    buffers that have the core numbers; buffers for the links
 --   Round          what one round learns
 --   Searched       what all rounds learn
 --   sheet-share    a pair's share, from its slots and the leaving places
@@ -19,12 +19,14 @@ use Rattle.theory.specs.Words.{word-pair, list-in}
 use Rattle.slots.specs.Slots.{held-by, Room}
 use Rattle.slots.specs.Split.{Split}
 
--- some group of the list has p inside and q modules
+-- some group of the list has a ratio of p over q or more; p and q are small enough for words
 pub record Candidate (g : Pairs) (p q : ℕ) : Type 0 where
   pub members : List ℕ
   pub group : is-group g members ≡ true
-  pub inside-count : p ≡ inside g members
-  pub modules : q ≡ size members
+  pub reached : p * size members ≤ inside g members * q
+  pub few : p ≤ 4096000
+  pub some : 1 ≤ q
+  pub small : q ≤ g .n
 
 -- the first n entries are the core numbers
 pub record Cored (g : Pairs) (cores : List ℕ) : Type 0 where
@@ -32,7 +34,7 @@ pub record Cored (g : Pairs) (cores : List ℕ) : Type 0 where
   pub numbers : (v : ℕ) → v < g .n → getD cores v 0 ≡ core-number g v
 
 -- links are free: they only say where to look first
-pub record Linked (n m : ℕ) (first next : List ℕ) : Type 0 where
+pub record Link-room (n m : ℕ) (first next : List ℕ) : Type 0 where
   pub first-long : n ≤ length first
   pub next-long : 2 * m ≤ length next
 

@@ -1,11 +1,13 @@
 // The set search (document 01, "The list and its calls", solve), on a held list in words: the found group and its load sheet.
 //
 // It stands above the split search (crate `flow`) and knows only its promise. The densest remainder of the leaving order is the first group at
-// hand. A round asks for a split at the group's size with no load above its inside count, inside the core of the group's ratio rounded up. Where
+// hand. Whatever is as dense lies in the core of its ratio rounded up; so, where that group has less than half of the pairs, those inside the core are
+// gathered, and the search goes on among them.
+// A round asks for a split at the group's size with no load above its inside count, inside the core of the group's ratio rounded up. Where
 // there is none, `flow` hands over a denser group, and the next round starts from that; where there is one, what does not drain is the found
 // group. A round at the found group's size makes the load sheet; mostly it is the last one. (The Dinkelbach iteration for the maximal densest
 // subgraph.)
-// Cost: peeling, and a few rounds; ratios rise from round to round, so the rounds end. Nothing is refused, and 15 never comes.
+// Cost: peeling, and a few rounds over the core's pairs; ratios rise from round to round, so the rounds end. Nothing is refused, and 15 never comes.
 ghost use mathlib.Core.Path.{_≡_};
 ghost use mathlib.Core.Bool.{true, _&&_, cond};
 ghost use mathlib.Core.List.{_++_};
@@ -19,7 +21,8 @@ ghost use Rattle.theory.specs.Splits.{rounded-up};
 ghost use Rattle.theory.specs.Words.{list-in};
 ghost use Rattle.slots.specs.Slots.{Ends, Room};
 ghost use Rattle.theory.specs.Words.{Held-words as Held};
-ghost use Rattle.densest.specs.Search.{Candidate, Cored, Linked, Round, Searched, sheet-share};
+ghost use Rattle.densest.specs.Search.{Candidate, Cored, Link-room, Round, Searched, sheet-share};
+ghost use Rattle.densest.specs.Gather.{Gathered, Scattered};
 ghost use Rattle.densest.specs.Solve.{Solved, Solves};
 
 // The found group's inside count p and size q, k = p/q rounded up, and the size of the core of order k.
@@ -158,7 +161,7 @@ fn round(
     requires { ⌜ Held n m (now ends) (now weights) ⌝ }
     requires { ⌜ Candidate (list-in n m (now ends) (now weights)) p q ⌝ }
     requires { ⌜ Cored (list-in n m (now ends) (now weights)) (now cores) ⌝ }
-    requires { ⌜ Linked n m (now first) (now next) ⌝ }
+    requires { ⌜ Link-room n m (now first) (now next) ⌝ }
     requires { ⌜ (length (now scope) ≡ n) × (length (now group) ≡ n) ⌝ }
     requires { ⌜ Room m (now hold) ⌝ }
     ensures { λ r. ⌜ Round n m p q (now (ends .entry)) (now (weights .entry)) (now (scope .exit)) (now (hold .exit)) (now (group .exit)) r ⌝ }
@@ -188,7 +191,7 @@ fn search(
     requires { ⌜ Held n m (now ends) (now weights) ⌝ }
     requires { ⌜ Candidate (list-in n m (now ends) (now weights)) p0 q0 ⌝ }
     requires { ⌜ Cored (list-in n m (now ends) (now weights)) (now cores) ⌝ }
-    requires { ⌜ Linked n m (now first) (now next) ⌝ }
+    requires { ⌜ Link-room n m (now first) (now next) ⌝ }
     requires { ⌜ (length (now scope) ≡ n) × (length (now group) ≡ n) ⌝ }
     requires { ⌜ Room m (now hold) ⌝ }
     ensures { λ r. ⌜ Searched n m (now (ends .entry)) (now (weights .entry)) (now (scope .exit)) (now (hold .exit)) (now (group .exit)) (r .p) (r .q)
@@ -244,7 +247,7 @@ fn last_round(
     requires { ⌜ Held n m (now ends) (now weights) ⌝ }
     requires { ⌜ Candidate (list-in n m (now ends) (now weights)) p q ⌝ }
     requires { ⌜ Cored (list-in n m (now ends) (now weights)) (now cores) ⌝ }
-    requires { ⌜ Linked n m (now first) (now next) ⌝ }
+    requires { ⌜ Link-room n m (now first) (now next) ⌝ }
     requires { ⌜ (length (now scope) ≡ n) × (length (now group) ≡ n) ⌝ }
     requires { ⌜ Room m (now hold) ⌝ }
     requires { ⌜ (settled ≡ true → Round n m p q (now ends) (now weights) (now scope) (now hold) (now group) true) ⌝ }
@@ -268,6 +271,61 @@ fn last_round(
         hold,
         group,
     )
+}
+
+// Rounds from p over q on, and a split at the found group's size.
+fn find(
+    n: usize,
+    m: usize,
+    p: u32,
+    q: u32,
+    ends: &[u32],
+    weights: &[u32],
+    cores: &[u32],
+    scope: &mut [u8],
+    hold: &mut [u32],
+    group: &mut [u8],
+) -> Ratio
+    requires { ⌜ Held n m (now ends) (now weights) ⌝ }
+    requires { ⌜ Candidate (list-in n m (now ends) (now weights)) p q ⌝ }
+    requires { ⌜ Cored (list-in n m (now ends) (now weights)) (now cores) ⌝ }
+    requires { ⌜ (length (now scope) ≡ n) × (length (now group) ≡ n) ⌝ }
+    requires { ⌜ Room m (now hold) ⌝ }
+    ensures { λ r. ⌜ Searched n m (now (ends .entry)) (now (weights .entry)) (now (scope .exit)) (now (hold .exit)) (now (group .exit)) (r .p) (r .q) true ⌝ }
+{
+    let mut first = [0u32; 512];
+    let mut next = [0u32; 8192];
+    slots::links(n, m, ends, &mut first, &mut next);
+    let best = search(
+        n,
+        m,
+        p,
+        q,
+        ends,
+        weights,
+        cores,
+        &first,
+        &next,
+        scope,
+        hold,
+        group,
+    );
+    last_round(
+        n,
+        m,
+        best.p,
+        best.q,
+        best.settled,
+        ends,
+        weights,
+        cores,
+        &first,
+        &next,
+        scope,
+        hold,
+        group,
+    );
+    best
 }
 
 // A pair's share: what its first slot holds where both ends are in the core, else all or nothing.
@@ -302,30 +360,157 @@ fn write_shares(
     }
 }
 
-// Solve, where the buffers are exactly as long as the list; `scope` is for its use.
+// 1 or 0.
+fn step(b: bool) -> usize
+    ensures { λ r. ⌜ r ≡ cond b 1 0 ⌝ }
+{
+    if b { 1 } else { 0 }
+}
+
+// The pairs with both ends in the scope, in order, at the front of `few` and `heavy`; how many they are. Every pair is written behind those kept so
+// far, and the place moves on where it is kept: no branch goes by chance.
+fn gather(
+    n: usize,
+    m: usize,
+    ends: &[u32],
+    weights: &[u32],
+    scope: &[u8],
+    few: &mut [u32],
+    heavy: &mut [u32],
+) -> usize
+    requires { ⌜ Held n m (now ends) (now weights) ⌝ }
+    requires { ⌜ length (now scope) ≡ n ⌝ }
+    requires { ⌜ (2 * m ≤ length (now few)) × (m ≤ length (now heavy)) ⌝ }
+    ensures { λ r. ⌜ Gathered n m (now (ends .entry)) (now (weights .entry)) (now (scope .entry)) (now (few .exit)) (now (heavy .exit)) r ⌝ }
+{
+    let mut i = 0;
+    for j in 0..m {
+        few[2 * i] = ends[2 * j];
+        few[2 * i + 1] = ends[2 * j + 1];
+        heavy[i] = weights[j];
+        i = i + step(inner(n, m, j, ends, scope));
+    }
+    i
+}
+
+// A core number that is k or more, else 0.
+fn at_least(k: u32, number: u32) -> u32
+    ensures { λ r. ⌜ r ≡ cond (leb k number) number 0 ⌝ }
+{
+    if k <= number { number } else { 0 }
+}
+
+// The core numbers that are k or more, and 0 for the others.
+fn cut(n: usize, k: u32, cores: &[u32], high: &mut [u32])
+    requires { ⌜ n ≤ length (now cores) ⌝ }
+    requires { ⌜ n ≤ length (now high) ⌝ }
+    ensures { λ r. ⌜ ((v : ℕ) → v < n → getD (now (high .exit)) v 0 ≡ cond (leb k (getD (now (cores .entry)) v 0)) (getD (now (cores .entry)) v 0) 0) ⌝ }
+{
+    for v in 0..n {
+        high[v] = at_least(k, cores[v]);
+    }
+}
+
+// The units of the pairs gathered, back in the slots of all pairs; the other pairs hold nothing.
+fn scatter(n: usize, m: usize, ends: &[u32], scope: &[u8], units: &[u32], hold: &mut [u32])
+    requires { ⌜ Ends n m (now ends) ⌝ }
+    requires { ⌜ length (now scope) ≡ n ⌝ }
+    requires { ⌜ (2 * m ≤ length (now units)) × (2 * m ≤ length (now hold)) ⌝ }
+    ensures { λ r. ⌜ Scattered m (now (ends .entry)) (now (scope .entry)) (now (units .entry)) (now (hold .exit)) ⌝ }
+{
+    let mut i = 0;
+    for j in 0..m {
+        let kept = inner(n, m, j, ends, scope);
+        hold[2 * j] = pick(kept, units[2 * i]);
+        hold[2 * j + 1] = pick(kept, units[2 * i + 1]);
+        i = i + step(kept);
+    }
+}
+
+// The found group, looked for among the pairs inside the core of p over q rounded up: all that is as dense lies there. Then the units of all pairs.
+fn find_in_core(
+    n: usize,
+    m: usize,
+    p: u32,
+    q: u32,
+    ends: &[u32],
+    weights: &[u32],
+    cores: &[u32],
+    core: &mut [u8],
+    scope: &mut [u8],
+    hold: &mut [u32],
+    group: &mut [u8],
+) -> Ratio
+    requires { ⌜ Held n m (now ends) (now weights) ⌝ }
+    requires { ⌜ Candidate (list-in n m (now ends) (now weights)) p q ⌝ }
+    requires { ⌜ Cored (list-in n m (now ends) (now weights)) (now cores) ⌝ }
+    requires { ⌜ (length (now core) ≡ n) × (length (now scope) ≡ n) × (length (now group) ≡ n) ⌝ }
+    requires { ⌜ 2 * m ≤ length (now hold) ⌝ }
+    ensures { λ r. ⌜ Searched n m (now (ends .entry)) (now (weights .entry)) (now (scope .exit)) (now (hold .exit)) (now (group .exit)) (r .p) (r .q) true ⌝ }
+{
+    let mut few = [0u32; 8192];
+    let mut heavy = [0u32; 4096];
+    let mut high = [0u32; 512];
+    let mut units = [0u32; 8192];
+    let k = rounded_up(p, q);
+    mark_core(n, k, cores, core);
+    let r = gather(n, m, ends, weights, core, &mut few, &mut heavy);
+    cut(n, k, cores, &mut high);
+    let best = find(n, r, p, q, &few, &heavy, &high, scope, &mut units, group);
+    scatter(n, m, ends, core, &units, hold);
+    best
+}
+
+// The found group: among the pairs inside the core where the group at hand has less than half of all pairs, else among all of them.
+fn find_best(
+    n: usize,
+    m: usize,
+    p: u32,
+    q: u32,
+    ends: &[u32],
+    weights: &[u32],
+    cores: &[u32],
+    core: &mut [u8],
+    scope: &mut [u8],
+    hold: &mut [u32],
+    group: &mut [u8],
+) -> Ratio
+    requires { ⌜ Held n m (now ends) (now weights) ⌝ }
+    requires { ⌜ Candidate (list-in n m (now ends) (now weights)) p q ⌝ }
+    requires { ⌜ Cored (list-in n m (now ends) (now weights)) (now cores) ⌝ }
+    requires { ⌜ (length (now core) ≡ n) × (length (now scope) ≡ n) × (length (now group) ≡ n) ⌝ }
+    requires { ⌜ Room m (now hold) ⌝ }
+    ensures { λ r. ⌜ Searched n m (now (ends .entry)) (now (weights .entry)) (now (scope .exit)) (now (hold .exit)) (now (group .exit)) (r .p) (r .q) true ⌝ }
+{
+    if slots::wide(p) < m / 2 {
+        return find_in_core(n, m, p, q, ends, weights, cores, core, scope, hold, group);
+    }
+    find(n, m, p, q, ends, weights, cores, scope, hold, group)
+}
+
+// Solve, where the buffers are exactly as long as the list; `core` and `scope` are for its use.
 fn solve_in(
     n: usize,
     m: usize,
     ends: &[u32],
     weights: &[u32],
+    core: &mut [u8],
     scope: &mut [u8],
     members: &mut [u8],
     cores: &mut [u32],
     shares: &mut [Share],
 ) -> Solution
     requires { ⌜ Held n m (now ends) (now weights) ⌝ }
-    requires { ⌜ (length (now scope) ≡ n) × (length (now members) ≡ n) × (n ≤ length (now cores)) × (length (now shares) ≡ m) ⌝ }
+    requires { ⌜ (length (now core) ≡ n) × (length (now scope) ≡ n) ⌝ }
+    requires { ⌜ (length (now members) ≡ n) × (n ≤ length (now cores)) × (length (now shares) ≡ m) ⌝ }
     ensures { λ r. ⌜ now (cores .exit) ≡ core-numbers (list-in n m (now (ends .entry)) (now (weights .entry))) ++ drop n (now (cores .entry)) ⌝ }
     ensures { λ r. ⌜ Solved (list-in n m (now (ends .entry)) (now (weights .entry))) (now (members .exit)) (now (shares .exit)) r ⌝ }
 {
     let mut order = [0u32; 512];
     let mut place = [0u32; 512];
-    let mut first = [0u32; 512];
-    let mut next = [0u32; 8192];
     let mut hold = [0u32; 8192];
     let start = peel::peel(n, m, 1, ends, weights, &mut order, cores, &mut place);
-    slots::links(n, m, ends, &mut first, &mut next);
-    let best = search(
+    let best = find_best(
         n,
         m,
         start.p,
@@ -333,23 +518,7 @@ fn solve_in(
         ends,
         weights,
         cores,
-        &first,
-        &next,
-        scope,
-        &mut hold,
-        members,
-    );
-    last_round(
-        n,
-        m,
-        best.p,
-        best.q,
-        best.settled,
-        ends,
-        weights,
-        cores,
-        &first,
-        &next,
+        core,
         scope,
         &mut hold,
         members,
@@ -379,12 +548,14 @@ pub fn solve(
     ensures { λ r. ⌜ Solves (list-in n m (now (ends .entry)) (now (weights .entry))) (now (members .entry)) (now (cores .entry)) (now (shares .entry))
         (now (members .exit)) (now (cores .exit)) (now (shares .exit)) r ⌝ }
 {
+    let mut core = [0u8; 512];
     let mut scope = [0u8; 512];
     solve_in(
         n,
         m,
         ends,
         weights,
+        &mut core[..n],
         &mut scope[..n],
         &mut members[..n],
         cores,

@@ -1,8 +1,9 @@
 // add and remove, step by step, against a plain model (module `model`). Steps are drawn: pairs of the list and others, in either order, some
 // with numbers out of range or a module with itself. Each step's answer must be the model's number and head; the records are compared with
 // the model's table in rising order, and those past them with what they were before (0,0 for one that remove has freed). At the end of each
-// run, heads and records that do not agree must be refused by 13 and left as they are. Prints a line a kind of run: steps, lists compared,
-// answers of each number, and how many differ. Then runs with an altered answer, in which every step or list must differ.
+// run, heads and records that do not agree must be refused by 13 and left as they are. On lists of 100 records each step is made by add_to or
+// remove_from too, on a copy: answer, head and records must be those by value. Prints a line a kind of run: steps, those made both ways, lists
+// compared, answers of each number, and how many differ. Then runs with an altered answer, in which every step or list must differ.
 mod model;
 mod words;
 
@@ -35,6 +36,7 @@ enum Altered {
     Number,
     Count,
     Records,
+    Own,
 }
 
 // How a run goes: modules, steps of adds alone, steps of both, what is altered.
@@ -101,13 +103,6 @@ fn modelled(number: u32, ask: Ask, count: usize, table: &mut [u8], expected: &mu
     less
 }
 
-fn call(ask: Ask, head: Head, list: &mut [u32]) -> Changed {
-    if ask.adds {
-        return editing::add_words(head, list, ask.a, ask.b);
-    }
-    editing::remove_words(head, list, ask.a, ask.b)
-}
-
 fn altered_answer(altered: Altered, answer: Changed) -> Changed {
     let head = answer.head;
     match altered {
@@ -124,6 +119,17 @@ fn altered_answer(altered: Altered, answer: Changed) -> Changed {
         },
         Altered::Nothing => answer,
         Altered::Records => answer,
+        Altered::Own => answer,
+    }
+}
+
+fn altered_own(altered: Altered, answer: Changed) -> Changed {
+    match altered {
+        Altered::Own => altered_answer(Altered::Number, answer),
+        Altered::Nothing => answer,
+        Altered::Number => answer,
+        Altered::Count => answer,
+        Altered::Records => answer,
     }
 }
 
@@ -138,11 +144,42 @@ fn answers(answer: Changed, number: u32, n: u32, count: usize) -> bool {
     wide(answer.head.m) == count
 }
 
-// The tally's entries: 1 steps, 2 lists compared, 3 what differs, and each number's answers under the number.
+// The tally's entries: 1 steps, 2 lists compared, 3 what differs, 6 steps by add_to and remove_from too, and each number's answers under the number.
 fn note(same: bool, tally: &mut [u32]) {
     if !same {
         bump(tally, 3);
     }
+}
+
+// The same call on a head of its own, by add_to or remove_from: answer and records must be the same.
+fn own_call(
+    altered: Altered,
+    ask: Ask,
+    head: Head,
+    answer: Changed,
+    other: &mut [u32],
+    list: &[u32],
+    tally: &mut [u32],
+) {
+    let own = altered_own(
+        altered,
+        editing::edit_own(ask.adds, head, other, ask.a, ask.b),
+    );
+    let after = answer.head;
+    note(answers(own, answer.number, after.n, wide(after.m)), tally);
+    note(same_words(list.len(), list, other), tally);
+    bump(tally, 6);
+}
+
+// The call by value, and on lists of 100 records the other too.
+fn call(altered: Altered, ask: Ask, head: Head, list: &mut [u32], tally: &mut [u32]) -> Changed {
+    let mut other = [0u32; 200];
+    words::copy(list, &mut other);
+    let answer = editing::edit_words(ask.adds, head, list, ask.a, ask.b);
+    if list.len() == 200 {
+        own_call(altered, ask, head, answer, &mut other, list, tally);
+    }
+    answer
 }
 
 fn step(
@@ -162,8 +199,8 @@ fn step(
     }
     let count = modelled(number, ask, run.count, table, expected);
     let before = run.head;
-    let answer = call(ask, before, list);
     let altered = plan.altered;
+    let answer = call(altered, ask, before, list, tally);
     note(
         answers(altered_answer(altered, answer), number, plan.n, count),
         tally,
@@ -184,6 +221,7 @@ fn alter_records(altered: Altered, expected: &mut [u32]) {
         Altered::Nothing => {}
         Altered::Number => {}
         Altered::Count => {}
+        Altered::Own => {}
     }
 }
 
@@ -307,16 +345,13 @@ fn spoil(way: u32, n: u32, list: &mut [u32]) {
 
 // A call that must be refused by 13, with head and list as before.
 fn refused(adds: bool, head: Head, list: &mut [u32], before: &[u32], tally: &mut [u32]) {
-    let answer = call(
-        Ask {
-            adds,
-            a: 0,
-            b: 1,
-            state: 0,
-        },
-        head,
-        list,
-    );
+    let ask = Ask {
+        adds,
+        a: 0,
+        b: 1,
+        state: 0,
+    };
+    let answer = call(Altered::Nothing, ask, head, list, tally);
     note(answers(answer, 13, head.n, wide(head.m)), tally);
     note(same_words(list.len(), list, before), tally);
     bump(tally, 1);
@@ -460,6 +495,7 @@ fn field(label: &[u8], value: u32) {
 fn line(name: &[u8], tally: &[u32]) {
     io::write_all(1, name);
     field(b": steps=", word_at(tally, 1));
+    field(b" own=", word_at(tally, 6));
     field(b" lists=", word_at(tally, 2));
     field(b" done=", word_at(tally, 0));
     field(b" 4=", word_at(tally, 4));
@@ -472,46 +508,30 @@ fn line(name: &[u8], tally: &[u32]) {
     io::write_all(1, b"\n");
 }
 
-// Lists of every number of modules from 2 to 512.
-fn every_size() {
-    let mut tally = [0u32; 16];
-    let mut state = 2463534242;
-    let mut n = 2;
-    while n < 513 {
-        state = on_4096(
-            Plan {
-                n,
-                adds: 6,
-                mixed: 10,
-                altered: Altered::Nothing,
-            },
-            state,
-            &mut tally,
-        );
-        n += 1;
+// A run on a list of 100 records, or of 4,096.
+fn on_either(short: bool, plan: Plan, state: u32, tally: &mut [u32]) -> u32 {
+    if short {
+        return on_100(plan, state, tally);
     }
-    line(b"4,096 records, 2 to 512 modules", &tally);
+    on_4096(plan, state, tally)
 }
 
-// Short lists that fill up, of 2 to 40 modules.
-fn short() {
+// Lists of every number of modules from 2 to below `past`.
+fn every_size(name: &[u8], past: u32, short: bool, adds: u32, mixed: u32) {
     let mut tally = [0u32; 16];
     let mut state = 2463534242;
     let mut n = 2;
-    while n < 41 {
-        state = on_100(
-            Plan {
-                n,
-                adds: 250,
-                mixed: 100,
-                altered: Altered::Nothing,
-            },
-            state,
-            &mut tally,
-        );
+    while n < past {
+        let plan = Plan {
+            n,
+            adds,
+            mixed,
+            altered: Altered::Nothing,
+        };
+        state = on_either(short, plan, state, &mut tally);
         n += 1;
     }
-    line(b"100 records, 2 to 40 modules", &tally);
+    line(name, &tally);
 }
 
 // One long run on 4,096 records.
@@ -547,11 +567,13 @@ fn altered_run(name: &[u8], altered: Altered) {
 }
 
 fn main() {
-    every_size();
-    short();
+    every_size(b"4,096 records, 2 to 512 modules", 513, false, 6, 10);
+    // these fill up
+    every_size(b"100 records, 2 to 40 modules", 41, true, 250, 100);
     long(b"4,096 records filled, 512 modules", 512, 9000, 2000);
     long(b"4,096 records filled, 100 modules", 100, 20000, 2000);
     altered_run(b"number altered", Altered::Number);
     altered_run(b"count altered", Altered::Count);
     altered_run(b"records altered", Altered::Records);
+    altered_run(b"number of add_to altered", Altered::Own);
 }

@@ -3,10 +3,12 @@
 --   lent-list, lent-as, length-lent     the list that is lent
 --   enough-in, enough-out               what the two copies ask is met
 --   through                             the contract of a call on words
---   too-wide, holds-of                  whether the words are those of `len` records, by what `thin` answers
+--   as-add, as-remove                   what add says, or remove, by the flag
 --   on-full, on-short, on-none          the contract of a call on words of any number, by what they hold
+--   has, has-not                        whether the words are those of `len` records, by the answer of `are_records`
+--   lent-taken, lent-refused            the contract of a call on words of `len` records, by what they hold
 -- Assumes nothing.
-use mathlib.Core.Path.{_≡_, refl, ap, _∙_, subst}
+use mathlib.Core.Path.{_≡_, refl, sym, ap, _∙_, subst}
 use Prim.Native.Nat.{ℕ, _+_, _*_, _≤_}
 use native.Mathlib.Omega.{arith}
 use mathlib.Core.Bool.{Bool, true, false, not}
@@ -22,8 +24,9 @@ use Rattle.records.proofs.Arrays.{copies, copies-are, length-copies}
 use Rattle.records.proofs.Steps.{Enough, Enough-back}
 use Rattle.records.proofs.Copies.{length-put-back, length-laid-out}
 use Rattle.kandurzo.specs.declared.Changed.{Changed}
+use Rattle.kandurzo.specs.Listing.{Add-says, Remove-says}
 use Rattle.kandurzo.proofs.Outcomes.{Call, Outcome}
-use Rattle.editing.specs.Lent.{Thin, Holds, lent, Through, unlent, On-words}
+use Rattle.editing.specs.Lent.{Thin, Holds, lent, Through, unlent, Edit-says, On-words, If-lent}
 
 abbrev pub start-list : ℕ → List Pair
 start-list len = copies len blank
@@ -59,14 +62,6 @@ module _ (len : ℕ) (few : len ≤ 4096) (ws : List ℕ) (holds : Holds len ws)
     pub through : Through Says len h ws a b (o .answer) (laid-out (o .left) ws len)
     through = record { left = o .left; says = subst (λ (l : List Pair). Says h l a b (o .answer) (o .left)) lent-as (o .says); laid = refl }
 
--- words by the answer t of `thin`: not those of `len` records where it is no, those of `len` where it is yes and there are so many
-pub too-wide : {len : ℕ} {ws : List ℕ} (t : Bool) → ((t ≡ true) ↔ Thin ws) → not t ≡ true → Holds len ws → ⊥
-too-wide true says e holds = no e
-too-wide false says e holds = no (says .1 (holds .thin))
-
-pub holds-of : {len : ℕ} {ws : List ℕ} (t : Bool) → ((t ≡ true) ↔ Thin ws) → not t ≡ false → length ws ≡ 2 * len → Holds len ws
-holds-of t says e long = record { long = long; thin = says .0 (not-false t e) }
-
 -- words are not those of two numbers of records
 not-both : {A : Type 0} (ws : List ℕ) → Holds 4096 ws → Holds 100 ws → A
 not-both ws full short = absurd (omega (arith, full .long, short .long))
@@ -81,3 +76,26 @@ module _ {Says : Call} {h : Head} {ws : List ℕ} {a b : ℕ} {r : Changed} {aft
   pub on-none : (Holds 4096 ws → ⊥) → (Holds 100 ws → ⊥) → r ≡ unlent h → after ≡ ws → On-words Says h ws a b r after
   on-none no-full no-short answer same =
       record { full = λ e. absurd (no-full e); short = λ e. absurd (no-short e); refused = λ f s. (answer, same) }
+
+-- the flag says which of the two calls it was
+module _ {adds : Bool} {len : ℕ} {h : Head} {ws : List ℕ} {a b : ℕ} {r : Changed} {after : List ℕ} where
+  pub as-add : adds ≡ true → Through Add-says len h ws a b r after → Through (Edit-says adds) len h ws a b r after
+  as-add e said = subst (λ (t : Bool). Through (Edit-says t) len h ws a b r after) (sym e) (unfold Edit-says in said)
+
+  pub as-remove : adds ≡ false → Through Remove-says len h ws a b r after → Through (Edit-says adds) len h ws a b r after
+  as-remove e said = subst (λ (t : Bool). Through (Edit-says t) len h ws a b r after) (sym e) (unfold Edit-says in said)
+
+-- t is the answer of `are_records`, where the code tests that it is not so
+pub has : {X : Type 0} {t : Bool} → not t ≡ false → ((t ≡ true) ↔ X) → X
+has {t = t} e says = says .0 (not-false t e)
+
+pub has-not : {X : Type 0} {t : Bool} → not t ≡ true → ((t ≡ true) ↔ X) → X → ⊥
+has-not {t = true} e says x = no e
+has-not {t = false} e says x = no (says .1 x)
+
+module _ {len : ℕ} {ws : List ℕ} {Says Refused : Type 0} where
+  pub lent-taken : Holds len ws → Says → If-lent len ws Says Refused
+  lent-taken has said = record { taken = λ e. said; refused = λ no-list. absurd (no-list has) }
+
+  pub lent-refused : (Holds len ws → ⊥) → Refused → If-lent len ws Says Refused
+  lent-refused no-list answer = record { taken = λ has. absurd (no-list has); refused = λ e. answer }

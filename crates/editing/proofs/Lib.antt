@@ -1,3 +1,5 @@
 -- Laws behind the calls on records kept in words; each file opens with what it gives.
 pub mod Lent
+pub mod Own
 pub mod Walk
+pub mod Full

@@ -1,23 +1,29 @@
-// The calls add and remove, for callers that keep the records in words, two a record: the words are put together to a list of that length,
-// the list is lent to the call, and what the call leaves goes back to the words. Lists of 4,096 records and of 100. Check likewise, and read into
-// a list of 100.
+// The calls, for callers that keep the records in words, two a record: the words are put together to a list of that length, the list is lent to
+// the call, and what the call leaves goes back to the words. add and remove on lists of 4,096 records and of 100, add_to and remove_from on lists
+// of 100, check, peel and surplus on lists of 4,096, and read into a list of 100.
 ghost use mathlib.Core.Path.{_≡_};
 ghost use mathlib.Core.Bool.{true};
 ghost use mathlib.Core.Logic.{_↔_};
 ghost use Prim.Native.Nat.{_≤_};
 ghost use lib.ListN.{length};
 ghost use Rattle.kandurzo.specs.Listing.{Add-says, Remove-says};
-ghost use Rattle.kandurzo.specs.Judging.{Check-call};
-ghost use Rattle.editing.specs.Lent.{Thin, Holds, lent, Through, unlent, On-words, Check-words, Read-through, seven-nine};
+ghost use Rattle.kandurzo.specs.Judging.{Check-call, Surplus-call};
+ghost use Rattle.kandurzo.specs.Peeling.{Peel-call};
+ghost use Rattle.editing.specs.Lent.{Thin, Holds, lent, Through, unlent, Edit-says, On-words, Own-words, Check-words, Peel-words, Surplus-words, Read-through, seven-nine};
 use kandurzo::Changed;
 use kandurzo::add;
+use kandurzo::add_to;
 use kandurzo::check;
+use kandurzo::peel;
 use kandurzo::read;
 use kandurzo::remove;
+use kandurzo::remove_from;
+use kandurzo::surplus;
 use records::Head;
 use records::Pair;
 use records::copy_in;
 use records::copy_out;
+use verify::Difference;
 use verify::Verdict;
 
 // add on the 4,096 records that the words hold.
@@ -85,6 +91,75 @@ pub fn check_4096(
     check(head, &list, members, shares, work)
 }
 
+// peel on the 4,096 records that the words hold.
+pub fn peel_4096(
+    head: Head,
+    words: &[u32],
+    order: &mut [u16],
+    cores: &mut [u16],
+    work: &mut [u32],
+) -> u32
+    requires { ⌜ Holds 4096 (now words) ⌝ }
+    ensures { λ r. ⌜ Peel-call head (lent 4096 (now (words .entry))) (now (order .entry)) (now (cores .entry)) (now (work .entry)) r
+        (now (order .exit)) (now (cores .exit)) (now (work .exit)) ⌝ }
+{
+    let mut list = [Pair { a: 0, b: 0 }; 4096];
+    copy_in(&mut list, words, 4096);
+    peel(head, &list, order, cores, work)
+}
+
+// surplus on the 4,096 records that the words hold.
+pub fn surplus_4096(head: Head, words: &[u32], first: &[u8], second: &[u8]) -> Difference
+    requires { ⌜ Holds 4096 (now words) ⌝ }
+    ensures { λ r. ⌜ Surplus-call head (lent 4096 (now (words .entry))) (now (first .entry)) (now (second .entry)) r ⌝ }
+{
+    let mut list = [Pair { a: 0, b: 0 }; 4096];
+    copy_in(&mut list, words, 4096);
+    surplus(head, &list, first, second)
+}
+
+// add by way of add_to, on a head of its own.
+fn add_own(head: Head, list: &mut [Pair], a: u32, b: u32) -> Changed
+    ensures { λ r. ⌜ Add-says head (now (list .entry)) a b r (now (list .exit)) ⌝ }
+{
+    let mut own = head;
+    let number = add_to(&mut own, list, a, b);
+    Changed { number, head: own }
+}
+
+// remove by way of remove_from, on a head of its own.
+fn remove_own(head: Head, list: &mut [Pair], a: u32, b: u32) -> Changed
+    ensures { λ r. ⌜ Remove-says head (now (list .entry)) a b r (now (list .exit)) ⌝ }
+{
+    let mut own = head;
+    let number = remove_from(&mut own, list, a, b);
+    Changed { number, head: own }
+}
+
+// add_to on the 100 records that the words hold.
+pub fn add_to_100(head: Head, words: &mut [u32], a: u32, b: u32) -> Changed
+    requires { ⌜ Holds 100 (now words) ⌝ }
+    ensures { λ r. ⌜ Through Add-says 100 head (now (words .entry)) a b r (now (words .exit)) ⌝ }
+{
+    let mut list = [Pair { a: 0, b: 0 }; 100];
+    copy_in(&mut list, words, 100);
+    let answer = add_own(head, &mut list, a, b);
+    copy_out(&list, words, 100);
+    answer
+}
+
+// remove_from on the 100 records that the words hold.
+pub fn remove_from_100(head: Head, words: &mut [u32], a: u32, b: u32) -> Changed
+    requires { ⌜ Holds 100 (now words) ⌝ }
+    ensures { λ r. ⌜ Through Remove-says 100 head (now (words .entry)) a b r (now (words .exit)) ⌝ }
+{
+    let mut list = [Pair { a: 0, b: 0 }; 100];
+    copy_in(&mut list, words, 100);
+    let answer = remove_own(head, &mut list, a, b);
+    copy_out(&list, words, 100);
+    answer
+}
+
 // read into a list of 100 records, each 7,9 before the call; the words are then the list's.
 pub fn read_100(bytes: &[u8], words: &mut [u32], work: &mut [u32]) -> Changed
     requires { ⌜ 200 ≤ length (now words) ⌝ }
@@ -117,36 +192,47 @@ fn unlent(head: Head) -> Changed
     Changed { number: 99, head }
 }
 
-// add on the 4,096 or 100 records that the words hold; 99 where they hold neither.
-pub fn add_words(head: Head, words: &mut [u32], a: u32, b: u32) -> Changed
-    ensures { λ r. ⌜ On-words Add-says head (now (words .entry)) a b r (now (words .exit)) ⌝ }
+// Whether the words are those of so many records.
+fn are_records(len: usize, words: &[u32]) -> bool
+    requires { ⌜ len ≤ 4096 ⌝ }
+    ensures { λ r. ⌜ ((r ≡ true) ↔ Holds len (now (words .entry))) ⌝ }
 {
-    if !thin(words) {
-        return unlent(head);
+    if words.len() != 2 * len {
+        return false;
     }
-    if words.len() == 8192 {
-        return add_4096(head, words, a, b);
+    thin(words)
+}
+
+// add or remove on the 4,096 or 100 records that the words hold; 99 where they hold neither.
+pub fn edit_words(adds: bool, head: Head, words: &mut [u32], a: u32, b: u32) -> Changed
+    ensures { λ r. ⌜ On-words (Edit-says adds) head (now (words .entry)) a b r (now (words .exit)) ⌝ }
+{
+    if are_records(4096, words) {
+        if adds {
+            return add_4096(head, words, a, b);
+        }
+        return remove_4096(head, words, a, b);
     }
-    if words.len() == 200 {
-        return add_100(head, words, a, b);
+    if are_records(100, words) {
+        if adds {
+            return add_100(head, words, a, b);
+        }
+        return remove_100(head, words, a, b);
     }
     unlent(head)
 }
 
-// remove on the 4,096 or 100 records that the words hold; 99 where they hold neither.
-pub fn remove_words(head: Head, words: &mut [u32], a: u32, b: u32) -> Changed
-    ensures { λ r. ⌜ On-words Remove-says head (now (words .entry)) a b r (now (words .exit)) ⌝ }
+// add_to or remove_from on the 100 records that the words hold; 99 where they do not.
+pub fn edit_own(adds: bool, head: Head, words: &mut [u32], a: u32, b: u32) -> Changed
+    ensures { λ r. ⌜ Own-words (Edit-says adds) head (now (words .entry)) a b r (now (words .exit)) ⌝ }
 {
-    if !thin(words) {
+    if !are_records(100, words) {
         return unlent(head);
     }
-    if words.len() == 8192 {
-        return remove_4096(head, words, a, b);
+    if adds {
+        return add_to_100(head, words, a, b);
     }
-    if words.len() == 200 {
-        return remove_100(head, words, a, b);
-    }
-    unlent(head)
+    remove_from_100(head, words, a, b)
 }
 
 // check on the 4,096 records that the words hold; 99 where they do not.
@@ -159,14 +245,7 @@ pub fn check_lent(
 ) -> Verdict
     ensures { λ r. ⌜ Check-words head (now (words .entry)) (now (members .entry)) (now (shares .entry)) (now (work .entry)) r (now (work .exit)) ⌝ }
 {
-    if !thin(words) {
-        return Verdict {
-            number: 99,
-            p: 0,
-            q: 0,
-        };
-    }
-    if words.len() != 8192 {
+    if !are_records(4096, words) {
         return Verdict {
             number: 99,
             p: 0,
@@ -174,4 +253,34 @@ pub fn check_lent(
         };
     }
     check_4096(head, words, members, shares, work)
+}
+
+// peel on the 4,096 records that the words hold; 99 where they do not.
+pub fn peel_lent(
+    head: Head,
+    words: &[u32],
+    order: &mut [u16],
+    cores: &mut [u16],
+    work: &mut [u32],
+) -> u32
+    ensures { λ r. ⌜ Peel-words head (now (words .entry)) (now (order .entry)) (now (cores .entry)) (now (work .entry)) r
+        (now (order .exit)) (now (cores .exit)) (now (work .exit)) ⌝ }
+{
+    if !are_records(4096, words) {
+        return 99;
+    }
+    peel_4096(head, words, order, cores, work)
+}
+
+// surplus on the 4,096 records that the words hold; 99 where they do not.
+pub fn surplus_lent(head: Head, words: &[u32], first: &[u8], second: &[u8]) -> Difference
+    ensures { λ r. ⌜ Surplus-words head (now (words .entry)) (now (first .entry)) (now (second .entry)) r ⌝ }
+{
+    if !are_records(4096, words) {
+        return Difference {
+            number: 99,
+            value: 0,
+        };
+    }
+    surplus_4096(head, words, first, second)
 }

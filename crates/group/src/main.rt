@@ -1,12 +1,13 @@
 // Reads a pair file on standard input, to its end or 65,536 bytes, and prints the refusal number or 0; the found group's ratio; K and the size of
 // the core of that order; and the members, rising. A refused file has the first line only. A file is decided by its first
-// 65,536 bytes (pairfile, reads-first).
+// 65,536 bytes (pairfile, reads-first). What is printed is proved (texts, group_text).
 use libc::STDIN_FILENO;
+use libc::STDOUT_FILENO;
 
 fn main() {
     let mut file = io::large_buffer();
-    let mut members = [0u8; 512];
+    let mut out = [0u8; 8192];
     let n = io::read_full(STDIN_FILENO, &mut file);
-    let found = answer::solve_file(&file[..n], &mut members);
-    printing::print_group(found, &members);
+    let r = texts::group_text(&file[..n], &mut out);
+    io::write_all(STDOUT_FILENO, &out[..r]);
 }

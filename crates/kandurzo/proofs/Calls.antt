@@ -21,6 +21,7 @@ use Rattle.theory.proofs.Lists.{listed}
 use Rattle.pairs.specs.Held.{insert-pair, remove-pair, smaller-first-pair}
 use Rattle.pairs.specs.Causes.{add-causes, remove-causes}
 use Rattle.pairs.specs.Located.{ones-in}
+use Rattle.pairs.proofs.General.{by-test}
 use Rattle.pairs.proofs.Weights.{ones-at}
 use Rattle.records.specs.declared.Pair.{Pair}
 use Rattle.records.specs.declared.Head.{Head}
@@ -88,25 +89,18 @@ module _ (zs : List ℕ) (long : length zs ≡ 8192) (h : Head) (ps : List Pair)
       }
 
   -- the number on words is the number on records: where head and list disagree it is 13 for both
+  out-number : (k : (disagree : Bool) → Pairs → ℕ) → ((g : Pairs) → k true g ≡ 13) →
+      k (not (agrees h ps)) (word-list h (out zs h ps)) ≡ k (not (agrees h ps)) (held-list h ps)
+  out-number k first = by-test (agrees h ps) (λ e. rw (out-list e)) (λ e. rw e (first _ ∙ sym (first _)))
+
   module _ (a b : ℕ) where
     out-add-number : refusal (add-causes (not (agrees h ps)) (word-list h (out zs h ps)) (is-full h (length ps)) a b) ≡ add-number h ps a b
     unfolding add-number
-    out-add-number = go (agrees h ps) refl
-      where
-        go : (t : Bool) → agrees h ps ≡ t →
-            refusal (add-causes (not t) (word-list h (out zs h ps)) (is-full h (length ps)) a b)
-            ≡ refusal (add-causes (not t) (held-list h ps) (is-full h (length ps)) a b)
-        go true e = rw (out-list e)
-        go false e = add-13 _ _ _ a b refl ∙ sym (add-13 _ _ _ a b refl)
+    out-add-number = out-number (λ d g. refusal (add-causes d g (is-full h (length ps)) a b)) (λ g. add-13 true g _ a b refl)
 
     out-remove-number : refusal (remove-causes (not (agrees h ps)) (word-list h (out zs h ps)) a b) ≡ remove-number h ps a b
     unfolding remove-number
-    out-remove-number = go (agrees h ps) refl
-      where
-        go : (t : Bool) → agrees h ps ≡ t →
-            refusal (remove-causes (not t) (word-list h (out zs h ps)) a b) ≡ refusal (remove-causes (not t) (held-list h ps) a b)
-        go true e = rw (out-list e)
-        go false e = remove-13 _ _ a b refl ∙ sym (remove-13 _ _ a b refl)
+    out-remove-number = out-number (λ d g. refusal (remove-causes d g a b)) (λ g. remove-13 true g a b refl)
 
 -- the records that come back: none after a refusal, else those of the pairs in the words
 back-is : (h : Head) (len k : ℕ) (new : Head) (back : ℕ) (after : List Lists.Pair) (words : List ℕ) (ps : List Pair) →

@@ -1,12 +1,12 @@
 -- What add and remove do on words.
 --   Edited                      what the words are after an answer
 --   edit-refused, edit-taken    an answer and the words, by its number
---   ready-rising, ready-few     the words hold a list
---   lookup-says, full-all, full-list, not-full    what lookup and the list's length say
+--   lookup-says, full-less      what lookup says; a list that is not full has room for a record
+--   few, find-asks, insert-asks, delete-asks    what the functions on words ask
 --   add-edited, remove-edited   what add and remove leave
 -- Assumes nothing.
 use mathlib.Core.Path.{_≡_, refl, sym, ap, _∙_}
-use mathlib.Core.Bool.{Bool, true, false, _||_, not, cond}
+use mathlib.Core.Bool.{Bool, true, false, _||_, not}
 use mathlib.Core.List.{List, [], _∷_, _++_}
 use Prim.Native.Nat.{ℕ, zero, suc, _+_, _*_, _-_, _≤_, _<_, min, max}
 use native.Mathlib.Omega.{arith}
@@ -24,6 +24,7 @@ use Rattle.pairs.specs.Causes.{pair-causes}
 use Rattle.pairs.specs.Located.{ones-in, located}
 use Rattle.pairs.specs.declared.Place.{Place}
 use Rattle.pairs.specs.Shifts.{inserted, closed}
+use Rattle.pairs.proofs.General.{by-test}
 use Rattle.pairs.proofs.Causes.{pair-good}
 use Rattle.pairs.proofs.Keeps.{insert-list, remove-list}
 use Rattle.pairs.proofs.Rising.{place-le, held-place}
@@ -35,7 +36,7 @@ use Rattle.records.specs.Records.{narrow}
 use Rattle.kandurzo.specs.declared.Edit.{Edit}
 use Rattle.kandurzo.specs.Listing.{head-of, is-full}
 use Rattle.kandurzo.specs.Edits.{word-list, Ready, edit-of, pair-place, add-on-number, add-words, remove-on-number, remove-words}
-use Rattle.kandurzo.proofs.Orders.{add-none, remove-none}
+use Rattle.kandurzo.proofs.Orders.{First, first-none, add-none, remove-none}
 
 -- the answer k with its head; where k is 0, the pairs `after` in the words, of which `back` records come back to the list
 pub record Edited (h : Head) (len k : ℕ) (new : Head) (back : ℕ) (after : List Pair) (words : List ℕ) : Type 0 where
@@ -64,11 +65,11 @@ edit-taken h k new back words after e f g = let z : eqb k 0 ≡ true = eq-eqb k 
 -- ---- the words hold a list
 
 module _ {h : Head} {t : Bool} {len : ℕ} {words : List ℕ} (ready : Ready h t len words) (yes : t ≡ true) where
-  pub ready-rising : rising (ones-in (h .m) words) ≡ true
+  ready-rising : rising (ones-in (h .m) words) ≡ true
   unfolding word-list
   ready-rising = listed (word-list h words) (ready .held yes) .rises
 
-  pub ready-few : h .m ≤ 4096
+  ready-few : h .m ≤ 4096
   unfolding word-list
   ready-few = omega (arith, listed (word-list h words) (ready .held yes) .short, length-ones (h .m) words)
 
@@ -96,18 +97,46 @@ unfolding located smaller-first-pair
 lookup-says a b ps e f g =
     (ap (λ (x : Place). x .held) g ∙ rw (e, f), ap (λ (x : Place). x .at) g ∙ rw (e, f))
 
--- 11: M is 4,096 or the length of the list
-pub full-all : (h : Head) (len : ℕ) → h .m ≡ 4096 → is-full h len ≡ true
+-- a list that is not full has room for a record
+pub full-less : (h : Head) (len : ℕ) → h .m ≤ 4096 → h .m ≤ len → is-full h len ≡ false → (h .m < 4096) × (h .m < len)
 unfolding is-full
-full-all h len e = rw (eq-eqb (h .m) 4096 e)
+full-less h len few fits e = go (eqb (h .m) 4096) (eqb (h .m) len) refl refl e
+  where
+    go : (t u : Bool) → eqb (h .m) 4096 ≡ t → eqb (h .m) len ≡ u → (t || u) ≡ false → (h .m < 4096) × (h .m < len)
+    go true u f g e = no (sym e)
+    go false true f g e = no (sym e)
+    go false false f g e =
+        let d : h .m ≡ 4096 → ⊥ = eqb-false (h .m) 4096 f in
+        let b : h .m ≡ len → ⊥ = eqb-false (h .m) len g in
+        (omega arith, omega arith)
 
-pub full-list : (h : Head) (len : ℕ) → (h .m ≡ 4096 → ⊥) → h .m ≡ len → is-full h len ≡ true
-unfolding is-full
-full-list h len n e = rw (ne-eqb (h .m) 4096 n, eq-eqb (h .m) len e)
+-- ---- what find, and the two changes behind it, ask
 
-pub not-full : (h : Head) (len : ℕ) → (h .m ≡ 4096 → ⊥) → (h .m ≡ len → ⊥) → is-full h len ≡ false
-unfolding is-full
-not-full h len n e = rw (ne-eqb (h .m) 4096 n, ne-eqb (h .m) len e)
+module _ (m : ℕ) (words : List ℕ) (p : Pair) where
+  place-in-reach : place-of p (ones-in m words) ≤ m
+  place-in-reach = omega (arith, place-le p (ones-in m words), length-ones m words)
+
+  place-held : is-held p (ones-in m words) ≡ true → place-of p (ones-in m words) < m
+  place-held held = omega (arith, held-place p (ones-in m words) held, length-ones m words)
+
+module _ (a b : ℕ) {h : Head} {t : Bool} {len : ℕ} {words : List ℕ} (ready : Ready h t len words) (fine : First (not t) (h .n) a b ≡ 0) where
+  yes : t ≡ true
+  yes = not-false t (first-none (not t) (h .n) a b fine .0)
+
+  pub few : h .m ≤ 4096
+  few = ready-few ready yes
+
+  pub find-asks : (h .m ≤ 4096) × (2 * h .m ≤ length words) × (rising (ones-in (h .m) words) ≡ true)
+  find-asks = (few, omega (arith, few, ready .long), ready-rising ready yes)
+
+  module _ {at : ℕ} (is : at ≡ place-of (smaller-first-pair a b) (ones-in (h .m) words)) where
+    pub insert-asks : is-full h len ≡ false → (at ≤ h .m) × (2 * h .m + 2 ≤ length words)
+    insert-asks e =
+        let less = full-less h len few (ready .fits yes) e in
+        (omega (arith, is, place-in-reach (h .m) words (smaller-first-pair a b)), omega (arith, less .0, ready .long))
+
+    pub delete-asks : is-held (smaller-first-pair a b) (ones-in (h .m) words) ≡ true → (at < h .m) × (2 * h .m ≤ length words)
+    delete-asks held = (omega (arith, is, place-held (h .m) words _ held), omega (arith, few, ready .long))
 
 -- ---- a pair more
 
@@ -118,9 +147,6 @@ module _ (h : Head) (t : Bool) (len : ℕ) (words : List ℕ) (a b : ℕ) (ready
 
   abbrev new-pair : Pair
   new-pair = smaller-first-pair a b
-
-  pub place-in-reach : place-of new-pair now-held ≤ h .m
-  place-in-reach = omega (arith, place-le new-pair now-held, length-ones (h .m) words)
 
   pub edit-added : (k : ℕ) → k ≡ 0 → is-held new-pair now-held ≡ false → (h .m < 4096) × (h .m < len) →
       Edited h len k (head-of (h .n) (h .m + 1)) (h .m + 1) (insert-pair new-pair now-held)
@@ -135,7 +161,7 @@ module _ (h : Head) (t : Bool) (len : ℕ) (words : List ℕ) (a b : ℕ) (ready
       insert-list (word-list h words) new-pair (ready .held yes) (good .0) (good .1) (good .2) free (omega (arith, length-ones (h .m) words)) in
       let l = listed (with-pair new-pair (word-list h words)) list in
       record {
-        long = length-inserted _ _ _ _ (omega (arith, place-in-reach)) (omega arith) ∙ ready .long;
+        long = length-inserted _ _ _ _ (omega (arith, place-in-reach (h .m) words new-pair)) (omega arith) ∙ ready .long;
         in-list = rw k0 (omega arith);
         room = rw k0 (omega arith);
         pairs = λ w. same;
@@ -168,30 +194,28 @@ all-zero n (p ∷ ps) h e = let e′ = simp tests at e in simp tests (e′ .0, a
 
 module _ (h : Head) (t : Bool) (len : ℕ) (words : List ℕ) (p : Pair) (ready : Ready h t len words) (yes : t ≡ true)
     (held : is-held p (ones-in (h .m) words) ≡ true) where
-  pub place-held : place-of p (ones-in (h .m) words) < h .m
-  place-held = omega (arith, held-place p (ones-in (h .m) words) held, length-ones (h .m) words)
-
   pub edit-removed : (k : ℕ) → k ≡ 0 →
       Edited h len k (head-of (h .n) (h .m - 1)) (h .m) (remove-pair p (ones-in (h .m) words) ++ (pair 0 0 ∷ []))
       (closed (2 * place-of p (ones-in (h .m) words)) (2 * h .m) 2 words)
   unfolding edit-of if-taken word-list without-pair
   edit-removed k z =
       let i : ℕ = 2 * place-of p (ones-in (h .m) words) in
+      let there = place-held (h .m) words p held in
       let after : List ℕ = closed i (2 * h .m) 2 words in
       let k0 : eqb k 0 ≡ true = eq-eqb k 0 z in
       let few : h .m ≤ 4096 = ready-few ready yes in
       let long : 2 * h .m ≤ length words = omega (arith, ready .long) in
-      let up : suc (h .m - 1) ≡ h .m = omega (arith, place-held) in
+      let up : suc (h .m - 1) ≡ h .m = omega (arith, there) in
       let low : getD after (2 * (h .m - 1)) 0 ≡ 0 =
-      closed-freed i (2 * h .m) 2 words (omega (arith, place-held)) long (2 * (h .m - 1)) (omega arith) (omega arith) in
+      closed-freed i (2 * h .m) 2 words (omega (arith, there)) long (2 * (h .m - 1)) (omega arith) (omega arith) in
       let high : getD after (2 * (h .m - 1) + 1) 0 ≡ 0 =
-      closed-freed i (2 * h .m) 2 words (omega (arith, place-held)) long (2 * (h .m - 1) + 1) (omega arith) (omega arith) in
+      closed-freed i (2 * h .m) 2 words (omega (arith, there)) long (2 * (h .m - 1) + 1) (omega arith) (omega arith) in
       let same : ones-in (h .m) after ≡ remove-pair p (ones-in (h .m) words) ++ (pair 0 0 ∷ []) =
       ap (λ (m : ℕ). ones-in m after) (sym up) ∙ ones-next (h .m - 1) after
       ∙ cc (ones-deleted (h .m) p words long (ready-rising ready yes) held, low, high) in
       let list = listed (without-pair p (word-list h words)) (remove-list (word-list h words) p (ready .held yes) held) in
       record {
-        long = length-closed i (2 * h .m) 2 words (omega (arith, place-held)) long ∙ ready .long;
+        long = length-closed i (2 * h .m) 2 words (omega (arith, there)) long ∙ ready .long;
         in-list = rw k0 (ready .fits yes);
         room = rw k0 few;
         pairs = λ w. same;
@@ -209,50 +233,26 @@ edit-none h len k new back after words some l =
     let z : eqb k 0 ≡ false = ne-eqb k 0 some in
     record { long = l; in-list = rw z (omega arith); room = rw z (omega arith); pairs = λ w. absurd (some w); fit = rw z (λ i w. absurd (omega arith)) }
 
--- a list that is not full has room for a record
-full-less : (h : Head) (len : ℕ) → h .m ≤ 4096 → h .m ≤ len → is-full h len ≡ false → (h .m < 4096) × (h .m < len)
-unfolding is-full
-full-less h len few fits e = go (eqb (h .m) 4096) (eqb (h .m) len) refl refl e
-  where
-    go : (t u : Bool) → eqb (h .m) 4096 ≡ t → eqb (h .m) len ≡ u → (t || u) ≡ false → (h .m < 4096) × (h .m < len)
-    go true u f g e = no (sym e)
-    go false true f g e = no (sym e)
-    go false false f g e =
-        let d : h .m ≡ 4096 → ⊥ = eqb-false (h .m) 4096 f in
-        let b : h .m ≡ len → ⊥ = eqb-false (h .m) len g in
-        (omega arith, omega arith)
-
 module _ (h : Head) (t : Bool) (len : ℕ) (words : List ℕ) (a b : ℕ) (ready : Ready h t len words) where
   pub add-edited : Edited h len (add-on-number h t len words a b) (head-of (h .n) (h .m + 1)) (h .m + 1)
       (insert-pair (smaller-first-pair a b) (ones-in (h .m) words)) (add-words h t len words a b)
   unfolding add-words add-on-number word-list if-taken pair-place
-  add-edited = go (eqb (add-on-number h t len words a b) 0) refl
-    where
-      K : ℕ
-      K = add-on-number h t len words a b
-
-      go : (c : Bool) → eqb K 0 ≡ c →
-          Edited h len K (head-of (h .n) (h .m + 1)) (h .m + 1) (insert-pair (smaller-first-pair a b) (ones-in (h .m) words))
-          (cond c (inserted (2 * place-of (smaller-first-pair a b) (ones-in (h .m) words)) (2 * h .m) (min a b ∷ max a b ∷ []) words) words)
-      go true e =
-          let z : K ≡ 0 = eqb-true K 0 e in
-          let x = add-none (not t) (word-list h words) (is-full h len) a b z in
-          edit-added h t len words a b ready (not-false t (x .0)) (x .1) K z (x .2) (full-less h len (ready-few ready (not-false t (x .0))) (ready .fits (not-false t (x .0))) (x .3))
-      go false e = edit-none h len K _ _ _ words (eqb-false K 0 e) (ready .long)
+  add-edited =
+      let K = add-on-number h t len words a b in
+      by-test (eqb K 0)
+      (λ e.
+      let x = add-none (not t) (word-list h words) (is-full h len) a b (eqb-true K 0 e) in
+      let yes = not-false t (x .0) in
+      rw e (edit-added h t len words a b ready yes (x .1) K (eqb-true K 0 e) (x .2) (full-less h len (ready-few ready yes) (ready .fits yes) (x .3))))
+      (λ e. rw e (edit-none h len K _ _ _ words (eqb-false K 0 e) (ready .long)))
 
   pub remove-edited : Edited h len (remove-on-number h t words a b) (head-of (h .n) (h .m - 1)) (h .m)
       (remove-pair (smaller-first-pair a b) (ones-in (h .m) words) ++ (pair 0 0 ∷ [])) (remove-words h t words a b)
   unfolding remove-words remove-on-number word-list if-taken pair-place
-  remove-edited = go (eqb (remove-on-number h t words a b) 0) refl
-    where
-      K : ℕ
-      K = remove-on-number h t words a b
-
-      go : (c : Bool) → eqb K 0 ≡ c →
-          Edited h len K (head-of (h .n) (h .m - 1)) (h .m) (remove-pair (smaller-first-pair a b) (ones-in (h .m) words) ++ (pair 0 0 ∷ []))
-          (cond c (closed (2 * place-of (smaller-first-pair a b) (ones-in (h .m) words)) (2 * h .m) 2 words) words)
-      go true e =
-          let z : K ≡ 0 = eqb-true K 0 e in
-          let x = remove-none (not t) (word-list h words) a b z in
-          edit-removed h t len words (smaller-first-pair a b) ready (not-false t (x .0)) (x .1) K z
-      go false e = edit-none h len K _ _ _ words (eqb-false K 0 e) (ready .long)
+  remove-edited =
+      let K = remove-on-number h t words a b in
+      by-test (eqb K 0)
+      (λ e.
+      let x = remove-none (not t) (word-list h words) a b (eqb-true K 0 e) in
+      rw e (edit-removed h t len words (smaller-first-pair a b) ready (not-false t (x .0)) (x .1) K (eqb-true K 0 e)))
+      (λ e. rw e (edit-none h len K _ _ _ words (eqb-false K 0 e) (ready .long)))

@@ -5,7 +5,7 @@
 --   work-in-words        so the calls on words may go on
 --   work-in-shut         where the gate refuses it is untouched
 --   work-in-left         a call leaves of it what it leaves of the buffer as it was
---   the-gate, the-words, enough, length-words, words-ready, if-open    the way of a call to its function on words
+--   the-gate, the-words, enough, length-words, words-ready, if-open, Way, the-way    the way of a call to its function on words
 -- Assumes nothing.
 use mathlib.Core.Path.{_≡_, refl, sym, ap, _∙_}
 use mathlib.Core.Bool.{Bool, true, false, _||_, not, cond}
@@ -16,15 +16,19 @@ use lib.Dec.{eqb}
 use lib.ListN.{length, take, drop, replicate, length-replicate}
 use lib.Seq.{drop-drop, length-take-le, drop-append-add}
 use borrow.Author.Tests.{eqb-true, eqb-false, ne-eqb, not-false}
+use denote.Builtin.{u32}
+use denote.Slice.{Room}
 use Rattle.theory.specs.Lists as Lists
 use Rattle.theory.specs.Refusals.{cause, refusal, if-taken}
 use Rattle.theory.proofs.Refusals.{refusal-none}
 use Rattle.theory.proofs.Lists.{listed}
 use Rattle.pairs.specs.Located.{ones-in}
+use Rattle.pairs.proofs.General.{by-test}
 use Rattle.pairs.proofs.Weights.{ones-at}
 use Rattle.records.specs.declared.Pair.{Pair}
 use Rattle.records.specs.declared.Head.{Head}
 use Rattle.records.specs.Records.{held-list, agrees, ends-of, laid-out}
+use Rattle.records.proofs.Records.{room-as}
 use Rattle.records.proofs.Steps.{Enough}
 use Rattle.records.proofs.Copies.{length-ends-of, length-laid-out, laid-out-none, pairs-laid-out}
 use Rattle.kandurzo.specs.Edits.{word-list}
@@ -56,24 +60,20 @@ module _ (h : Head) (ps : List Pair) (short : Bool) where
 
   pub through-count : (records-through h (gate-number h ps short) ≤ length ps) × (records-through h (gate-number h ps short) ≤ 4096)
   unfolding records-through if-taken
-  through-count = go (eqb (gate-number h ps short) 0) refl
-    where
-      go : (t : Bool) → eqb (gate-number h ps short) 0 ≡ t → (cond t (h .m) 0 ≤ length ps) × (cond t (h .m) 0 ≤ 4096)
-      go true e =
-          let a = gate-open (eqb-true _ 0 e) .0 in
-          (held-few h ps a, omega (arith, listed (held-list h ps) (held-is-list h ps a) .short, length-held h ps a))
-      go false e = (omega arith, omega arith)
+  through-count =
+      by-test (eqb (gate-number h ps short) 0)
+      (λ e.
+      let a = gate-open (eqb-true _ 0 e) .0 in
+      rw e (held-few h ps a, omega (arith, listed (held-list h ps) (held-is-list h ps a) .short, length-held h ps a)))
+      (λ e. rw e (omega arith, omega arith))
 
   module _ (work : List ℕ) (enough : short ≡ false → 16384 ≤ length work) where
     pub through-room : 2 * records-through h (gate-number h ps short) ≤ length work
     unfolding records-through if-taken
-    through-room = go (eqb (gate-number h ps short) 0) refl
-      where
-        go : (t : Bool) → eqb (gate-number h ps short) 0 ≡ t → 2 * cond t (h .m) 0 ≤ length work
-        go true e =
-            let o = gate-open (eqb-true _ 0 e) in
-            omega (arith, listed (held-list h ps) (held-is-list h ps (o .0)) .short, length-held h ps (o .0), enough (o .1))
-        go false e = omega arith
+    through-room =
+        by-test (eqb (gate-number h ps short) 0)
+        (λ e. let w = enough (gate-open (eqb-true _ 0 e) .1) in omega (arith, through-count .1))
+        (λ e. rw e (omega arith))
 
     pub length-work-in : length (work-in work) ≡ length work
     unfolding work-in
@@ -119,17 +119,14 @@ module _ (h : Head) (ps : List Pair) (short : Bool) where
         ∙ ap (λ (i : ℕ). drop i work) rest)
 
     pub work-in-left : work-left (gate-number h ps short) (work-in work) ≡ work-left (gate-number h ps short) work
-    work-in-left = go (eqb (gate-number h ps short) 0) refl
-      where
-        k : ℕ
-        k = gate-number h ps short
-
-        zeros : k ≡ 0 → (w : List ℕ) → work-left k w ≡ in-front (replicate work-words 0) w
-        zeros z w = work-zeros k w (λ e. omega (arith, z, e)) (λ e. omega (arith, z, e))
-
-        go : (t : Bool) → eqb k 0 ≡ t → work-left k (work-in work) ≡ work-left k work
-        go true e = let z = eqb-true k 0 e in zeros z (work-in work) ∙ work-in-zeroed ∙ sym (zeros z work)
-        go false e = ap (work-left k) (work-in-shut (eqb-false k 0 e))
+    work-in-left =
+        let k = gate-number h ps short in
+        by-test (eqb k 0)
+        (λ e.
+        let z = eqb-true k 0 e in
+        let zeros : (w : List ℕ) → work-left k w ≡ in-front (replicate work-words 0) w = λ w. work-zeros k w (λ x. omega (arith, z, x)) (λ x. omega (arith, z, x)) in
+        zeros (work-in work) ∙ work-in-zeroed ∙ sym (zeros work))
+        (λ e. ap (work-left k) (work-in-shut (eqb-false k 0 e)))
 
 -- what the gate says
 abbrev pub the-gate : Head → List Pair → (short : Bool) → Gate
@@ -155,3 +152,16 @@ module _ (h : Head) (ps : List Pair) (short : Bool) (work : List ℕ) (long : sh
   pub words-ready : On-words h (the-gate h ps short .number) (the-words h ps short work)
   unfolding gate-of gate-number work-in
   words-ready = work-in-words h ps short work long
+
+-- the values on the way of a call: the gate, and the words once the records are out
+pub record Way (h : Head) (work : List ℕ) : Type 0 where
+  pub gate : Gate
+  pub words : List ℕ
+  pub same : length words ≡ length work
+  pub room : Room u32 (length words)
+  pub ready : On-words h (gate .number) words
+
+abbrev pub the-way : (h : Head) (ps : List Pair) (short : Bool) (work : List ℕ) → (short ≡ false → 16384 ≤ length work) → Room u32 (length work) → Way h work
+the-way h ps short work long room =
+    let same = length-words h ps short work long in
+    record { gate = the-gate h ps short; words = the-words h ps short work; same = same; room = room-as u32 same room; ready = words-ready h ps short work long }

@@ -27,6 +27,7 @@ use Rattle.records.specs.Records.{held-list, agrees}
 use Rattle.kandurzo.specs.Buffers.{work-words}
 use Rattle.kandurzo.specs.Gate.{gate-causes, gate-number}
 use Rattle.kandurzo.specs.Judging.{check-short, check-order, Check-call, surplus-short, surplus-order, Surplus-call, Check-on, Surplus-on}
+use Rattle.pairs.proofs.General.{by-test}
 use Rattle.kandurzo.proofs.Filling.{work-zeros}
 use Rattle.kandurzo.proofs.Gates.{work-in, work-in-list, work-in-left}
 
@@ -85,32 +86,31 @@ module _ (h : Head) (ps : List Pair) (members shares work : List ℕ) where
   module _ {v : Verdict} {work′ : List ℕ} (on : Check-on h gate members shares (work-in h ps short work) v work′) where
     pub check-call : Check-call h ps members shares work v work′
     unfolding check-number check-order gate-number if-taken rest
-    check-call = go (eqb gate 0) refl
-      where
-        go : (t : Bool) → eqb gate 0 ≡ t → Check-call h ps members shares work v work′
-        go true e =
-            let z : gate ≡ 0 = eqb-true _ 0 e in
-            let says : Check-says (held-list h ps) (take (h .n) members) (take (h .m) shares) v = rw (work-in-list h ps short work long z) at (on .judged z) in
-            let low = check-few (held-list h ps) (take (h .n) members) (take (h .m) shares) in
-            record {
-              number = says .number ∙ sym (gate-then (not (agrees h ps)) short rest z);
-              p = rw (says .number) (says .p);
-              q = rw (says .number) (says .q);
-              optimal = says .optimal;
-              left = on .left ∙ work-in-left h ps short work long
-                  ∙ work-zeros gate work (λ x. omega (arith, z, x)) (λ x. omega (arith, z, x))
-                  ∙ sym (work-zeros (v .number) work (λ x. omega (arith, says .number, low)) (λ x. omega (arith, says .number, low)));
-            }
-        go false e =
-            let n : gate ≡ 0 → ⊥ = eqb-false _ 0 e in
-            rw (on .refused n)
-            (record {
-              number = sym (gate-first (not (agrees h ps)) short rest n);
-              p = sym (rw e);
-              q = sym (rw e);
-              optimal = λ x. absurd (n x);
-              left = on .left ∙ work-in-left h ps short work long;
-            })
+    check-call =
+        by-test (eqb gate 0)
+        (λ e.
+        let z : gate ≡ 0 = eqb-true _ 0 e in
+        let says : Check-says (held-list h ps) (take (h .n) members) (take (h .m) shares) v = rw (work-in-list h ps short work long z) at (on .judged z) in
+        let low = check-few (held-list h ps) (take (h .n) members) (take (h .m) shares) in
+        record {
+          number = says .number ∙ sym (gate-then (not (agrees h ps)) short rest z);
+          p = rw (says .number) (says .p);
+          q = rw (says .number) (says .q);
+          optimal = says .optimal;
+          left = on .left ∙ work-in-left h ps short work long
+              ∙ work-zeros gate work (λ x. omega (arith, z, x)) (λ x. omega (arith, z, x))
+              ∙ sym (work-zeros (v .number) work (λ x. omega (arith, says .number, low)) (λ x. omega (arith, says .number, low)));
+        })
+        (λ e.
+        let n : gate ≡ 0 → ⊥ = eqb-false _ 0 e in
+        rw (on .refused n)
+        (record {
+          number = sym (gate-first (not (agrees h ps)) short rest n);
+          p = sym (rw e);
+          q = sym (rw e);
+          optimal = λ x. absurd (n x);
+          left = on .left ∙ work-in-left h ps short work long;
+        }))
 
 -- ---- surplus
 
@@ -131,18 +131,17 @@ module _ (h : Head) (ps : List Pair) (t s words : List ℕ) where
   module _ (long : too-short ≡ false → 16384 ≤ length words) {d : Difference} (on : Surplus-on h gate′ t s (work-in h ps too-short words) d) where
     pub surplus-call : Surplus-call h ps t s d
     unfolding surplus-number surplus-order gate-number if-taken rest′
-    surplus-call = go (eqb gate′ 0) refl
-      where
-        go : (c : Bool) → eqb gate′ 0 ≡ c → Surplus-call h ps t s d
-        go true e =
-            let z : gate′ ≡ 0 = eqb-true _ 0 e in
-            let says : Surplus-says (held-list h ps) (take (h .n) t) (take (h .n) s) d = rw (work-in-list h ps too-short words long z) at (on .judged z) in
-            record {
-              number = says .number ∙ sym (gate-then (not (agrees h ps)) too-short rest′ z);
-              value = rw (says .number) (says .value);
-              signs = says .signs;
-            }
-        go false e =
-            let n : gate′ ≡ 0 → ⊥ = eqb-false _ 0 e in
-            rw (on .refused n)
-            (record { number = sym (gate-first (not (agrees h ps)) too-short rest′ n); value = sym (rw e); signs = λ x. absurd (n x) })
+    surplus-call =
+        by-test (eqb gate′ 0)
+        (λ e.
+        let z : gate′ ≡ 0 = eqb-true _ 0 e in
+        let says : Surplus-says (held-list h ps) (take (h .n) t) (take (h .n) s) d = rw (work-in-list h ps too-short words long z) at (on .judged z) in
+        record {
+          number = says .number ∙ sym (gate-then (not (agrees h ps)) too-short rest′ z);
+          value = rw (says .number) (says .value);
+          signs = says .signs;
+        })
+        (λ e.
+        let n : gate′ ≡ 0 → ⊥ = eqb-false _ 0 e in
+        rw (on .refused n)
+        (record { number = sym (gate-first (not (agrees h ps)) too-short rest′ n); value = sym (rw e); signs = λ x. absurd (n x) }))

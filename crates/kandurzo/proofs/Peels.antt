@@ -5,7 +5,7 @@
 --   peel-enough, peel-call                the call's promise
 -- Assumes nothing.
 use mathlib.Core.Path.{_≡_, refl, sym, ap, _∙_}
-use mathlib.Core.Bool.{Bool, true, false}
+use mathlib.Core.Bool.{Bool, false}
 use mathlib.Core.List.{List, _++_}
 use Prim.Native.Nat.{ℕ, zero, suc, _≤_, _<_}
 use native.Mathlib.Omega.{arith}
@@ -24,6 +24,7 @@ use Rattle.pairs.specs.Located.{ones-in}
 use Rattle.pairs.proofs.Weights.{ones-at}
 use Rattle.records.specs.declared.Pair.{Pair}
 use Rattle.records.specs.declared.Head.{Head}
+use Rattle.pairs.proofs.General.{by-test}
 use Rattle.kandurzo.specs.Edits.{word-list}
 use Rattle.kandurzo.specs.Buffers.{in-front, work-words}
 use Rattle.kandurzo.specs.Gate.{gate-number}
@@ -100,22 +101,10 @@ module _ (h : Head) (ps : List Pair) (order cores work : List ℕ) where
   pub peel-call : {order′ cores′ work′ : List ℕ} → Peel-on h (gate-number h ps short) order cores (work-in h ps short work) order′ cores′ work′ →
       Peel-call h ps order cores work (gate-number h ps short) order′ cores′ work′
   unfolding peel-number if-taken
-  peel-call {order′} {cores′} {work′} on = go (eqb (gate-number h ps short) 0) refl
-    where
-      go : (t : Bool) → eqb (gate-number h ps short) 0 ≡ t → Peel-call h ps order cores work (gate-number h ps short) order′ cores′ work′
-      go true e =
-          let z : gate-number h ps short ≡ 0 = eqb-true _ 0 e in
-          let same = work-in-list h ps short work (λ f. peel-enough f .2) z in
-          record {
-            number = refl;
-            order-is = rw same at (on .order-is);
-            cores-are = rw same at (on .cores-are);
-            left = on .left ∙ work-in-left h ps short work (λ f. peel-enough f .2);
-          }
-      go false e =
-          record {
-            number = refl;
-            order-is = on .order-is ∙ rw e;
-            cores-are = on .cores-are ∙ rw e;
-            left = on .left ∙ work-in-left h ps short work (λ f. peel-enough f .2);
-          }
+  peel-call on =
+      let left = on .left ∙ work-in-left h ps short work (λ f. peel-enough f .2) in
+      by-test (eqb (gate-number h ps short) 0)
+      (λ e.
+      let same = work-in-list h ps short work (λ f. peel-enough f .2) (eqb-true _ 0 e) in
+      record { number = refl; order-is = rw same at (on .order-is); cores-are = rw same at (on .cores-are); left = left })
+      (λ e. record { number = refl; order-is = on .order-is ∙ rw e; cores-are = on .cores-are ∙ rw e; left = left })

@@ -5,7 +5,7 @@
 --   records-in-order     two records' floats compare as their ratios do
 --   ones-fit             numbers of a list of ones fit 16 bits
 -- Assumes nothing.
-use mathlib.Core.Path.{_≡_, refl, sym, ap, _∙_}
+use mathlib.Core.Path.{_≡_, sym, ap, _∙_}
 use mathlib.Core.Bool.{Bool, true, false}
 use mathlib.Core.List.{List, [], _∷_}
 use Prim.Native.Nat.{ℕ, zero, suc, _≤_, _<_}
@@ -23,6 +23,7 @@ use Rattle.theory.specs.Promise.{Split-densest, Ratios-in-order}
 use Rattle.theory.proofs.Tests.{tests}
 use Rattle.theory.proofs.Promises.{split-densest, ratios-in-order}
 use Rattle.pairs.specs.Located.{ones-in}
+use Rattle.pairs.proofs.General.{by-test}
 use Rattle.records.specs.declared.Pair.{Pair}
 use Rattle.records.specs.declared.Head.{Head}
 use Rattle.records.specs.Records.{held-list}
@@ -62,35 +63,32 @@ module _ (h : Head) (ps : List Pair) (members cores shares work : List ℕ) wher
   module _ {r : Solved} {members′ cores′ shares′ work′ : List ℕ}
       (on : Solve-on h gate members cores shares (work-in h ps short work) r members′ cores′ shares′ work′) where
     pub solve-call : Solve-call h ps members cores shares work r members′ cores′ shares′ work′
-    solve-call = go (eqb gate 0) refl
-      where
-        left : work′ ≡ work-left (r .number) work
-        left = on .left ∙ work-in-left h ps short work long ∙ ap (λ (k : ℕ). work-left k work) (sym (on .number))
-
-        go : (t : Bool) → eqb gate 0 ≡ t → Solve-call h ps members cores shares work r members′ cores′ shares′ work′
-        go true e =
-            let z : gate ≡ 0 = eqb-true _ 0 e in
-            record {
-              number = record {
-                outright = on .number;
-                fifteen = λ _. (
-                  λ x. absurd (omega (arith, x, on .number, z)),
-                  λ u. absurd (unsplit-never (held-list h ps) (held-is-list h ps (gate-open h ps short z .0)) u),
-                );
-              };
-              handed = λ _. rw (work-in-list h ps short work long z) at (on .handed z);
-              refused = λ n. absurd (n (on .number ∙ z));
-              left = left;
-            }
-        go false e =
-            let n : gate ≡ 0 → ⊥ = eqb-false _ 0 e in
-            let no = on .refused n in
-            record {
-              number = record { outright = on .number; fifteen = λ z. absurd (n z) };
-              handed = λ z. absurd (n (sym (on .number) ∙ z));
-              refused = λ _. (no .0 ∙ ap declined (sym (on .number)), no .1, no .2, no .3);
-              left = left;
-            }
+    solve-call =
+        let left = on .left ∙ work-in-left h ps short work long ∙ ap (λ (k : ℕ). work-left k work) (sym (on .number)) in
+        by-test (eqb gate 0)
+        (λ e.
+        let z : gate ≡ 0 = eqb-true _ 0 e in
+        record {
+          number = record {
+            outright = on .number;
+            fifteen = λ _. (
+              λ x. absurd (omega (arith, x, on .number, z)),
+              λ u. absurd (unsplit-never (held-list h ps) (held-is-list h ps (gate-open h ps short z .0)) u),
+            );
+          };
+          handed = λ _. rw (work-in-list h ps short work long z) at (on .handed z);
+          refused = λ n. absurd (n (on .number ∙ z));
+          left = left;
+        })
+        (λ e.
+        let n : gate ≡ 0 → ⊥ = eqb-false _ 0 e in
+        let no = on .refused n in
+        record {
+          number = record { outright = on .number; fifteen = λ z. absurd (n z) };
+          handed = λ z. absurd (n (sym (on .number) ∙ z));
+          refused = λ _. (no .0 ∙ ap declined (sym (on .number)), no .1, no .2, no .3);
+          left = left;
+        })
 
 -- ---- what follows of the answers
 

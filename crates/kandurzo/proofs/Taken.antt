@@ -14,15 +14,14 @@ use mathlib.Core.Bool.{Bool, true, false, _||_}
 use mathlib.Core.List.{List, [], _∷_, _++_}
 use Prim.Native.Nat.{ℕ, _+_, _-_, _≤_, _<_}
 use native.Mathlib.Omega.{arith}
-use lib.Dec.{eqb}
 use lib.ListN.{length, take, length-map, length-append}
 use lib.Seq.{length-take-le, take-at}
-use borrow.Author.Tests.{eqb-false, not-false}
+use borrow.Author.Tests.{not-false}
 use Rattle.theory.specs.Basics.{all}
 use Rattle.theory.specs.Lists as Lists
 use Rattle.theory.specs.Lists.{Pairs, pair, is-list}
 use Rattle.theory.specs.Refusals.{refusal}
-use Rattle.theory.proofs.Tests.{tests, no}
+use Rattle.theory.proofs.Tests.{tests}
 use Rattle.theory.proofs.Lists.{listed}
 use Rattle.pairs.specs.Held.{same-ends, is-held, insert-pair, remove-pair, with-pair, without-pair, smaller-first-pair}
 use Rattle.pairs.specs.Causes.{pair-causes}
@@ -34,7 +33,8 @@ use Rattle.records.specs.declared.Pair.{Pair}
 use Rattle.records.specs.declared.Head.{Head}
 use Rattle.records.specs.Records.{as-pair, as-pairs, held-list, agrees}
 use Rattle.kandurzo.specs.Listing.{head-of, as-record, as-records, is-full, add-number, added, remove-number, removed}
-use Rattle.kandurzo.proofs.Orders.{add-none, remove-none, remove-taken}
+use Rattle.kandurzo.proofs.Orders.{none-first, add-none, remove-none, remove-taken}
+use Rattle.kandurzo.proofs.Changes.{full-less}
 
 -- ---- what a taken call passed
 
@@ -151,17 +151,9 @@ module _ (h : Head) (ps : List Pair) (a b : ℕ) (taken : add-number h ps a b �
       ∙ (unfold held-list in refl)
 
   not-full-few : h .m < 4096
-  unfolding is-full
   not-full-few =
       let l = listed (held-list h ps) (held-is-list h ps (passed .agreed)) in
-      go (eqb (h .m) 4096) refl (omega (arith, l .short, length-held h ps (passed .agreed)))
-    where
-      go : (t : Bool) → eqb (h .m) 4096 ≡ t → h .m ≤ 4096 → h .m < 4096
-      go true e few = no (sym (or-false-left e))
-        where
-          or-false-left : eqb (h .m) 4096 ≡ true → true ≡ false
-          or-false-left x = sym (rw x) ∙ passed .room
-      go false e few = let d : h .m ≡ 4096 → ⊥ = eqb-false (h .m) 4096 e in omega arith
+      full-less h (length ps) (omega (arith, l .short, length-held h ps (passed .agreed))) (held-few h ps (passed .agreed)) (passed .room) .0
 
   pub added-list : is-list (with-pair new-pair (held-list h ps)) ≡ true
   added-list =
@@ -191,7 +183,7 @@ module _ (h : Head) (ps : List Pair) (a b : ℕ) (taken : add-number h ps a b �
       added-held new-pair ∙ rw (same-refl new-pair) in
       let back : remove-pair new-pair (held-list (head-of (h .n) (h .m + 1)) (added h ps a b) .pairs) ≡ held-list h ps .pairs =
       ap (λ (g : Pairs). remove-pair new-pair (g .pairs)) held-added ∙ (unfold with-pair in (insert-remove new-pair (held-list h ps .pairs))) in (
-        remove-taken _ _ a b (rw added-agrees) (unfold held-list head-of in (passed .fine)) own,
+        remove-taken _ _ a b (none-first _ (held-list (head-of (h .n) (h .m + 1)) (added h ps a b) .n) a b (rw added-agrees) (unfold held-list head-of in (passed .fine))) own,
         rw back (take-at (as-records (held-list h ps .pairs)) _ (h .m) (length-as-records _ ∙ length-held h ps (passed .agreed))
             ∙ held-records h ps (passed .agreed)),
       )

@@ -1,8 +1,18 @@
 // Add and remove on words: the refusals in their order, then the change. The crate `pairs` does the looking up and the shifting.
 ghost use mathlib.Core.Path.{_≡_};
+ghost use mathlib.Core.Bool.{true, not};
+ghost use mathlib.Core.List.{_∷_};
+ghost use Prim.Native.Nat.{_*_, _≤_, min, max};
+ghost use lib.ListN.{length};
+ghost use Rattle.theory.specs.Lists.{rising};
+ghost use Rattle.theory.specs.Refusals.{cause, refusal};
+ghost use Rattle.pairs.specs.Held.{is-held, place-of, smaller-first-pair};
+ghost use Rattle.pairs.specs.Causes.{pair-causes};
+ghost use Rattle.pairs.specs.Located.{ones-in};
+ghost use Rattle.kandurzo.specs.Listing.{is-full};
 ghost use Rattle.kandurzo.specs.Edits.{records-out, Ready, add-edit, add-words, remove-edit, remove-words};
-ghost use Prim.Native.Nat.{min, max};
 use crate::Edit;
+use pairs::Place;
 use pairs::delete_ends;
 use pairs::insert_ends;
 use pairs::lookup;
@@ -41,6 +51,36 @@ fn refused(number: u32, head: Head) -> Edit
     }
 }
 
+// The refusals that come first in both: 13, 4, 5.
+fn first_number(head: Head, agreed: bool, a: u32, b: u32) -> u32
+    ensures { λ r. ⌜ r ≡ refusal (cause 13 (not agreed) ∷ pair-causes (head .n) a b) ⌝ }
+{
+    if !agreed {
+        return 13;
+    }
+    pair_number(head.n, a, b)
+}
+
+// Whether the pair of a and b is held among the first m, and its place.
+fn find(words: &[u32], m: usize, a: u32, b: u32) -> Place
+    requires { ⌜ (m ≤ 4096) × (2 * m ≤ length (now words)) × (rising (ones-in m (now words)) ≡ true) ⌝ }
+    ensures { λ r. ⌜ (r .held ≡ is-held (smaller-first-pair a b) (ones-in m (now (words .entry))))
+        × (r .at ≡ place-of (smaller-first-pair a b) (ones-in m (now (words .entry)))) ⌝ }
+{
+    lookup(words, m, lesser(a, b), greater(a, b))
+}
+
+// 11: M is 4,096 or the length of the list.
+fn full(head: Head, len: usize) -> bool
+    ensures { λ r. ⌜ r ≡ is-full head len ⌝ }
+{
+    let m = head.m as usize;
+    if m == len {
+        return true;
+    }
+    m == 4096
+}
+
 // Refuses by 13, 4, 5, 10, 11.
 pub(crate) fn add_on_words(
     head: Head,
@@ -53,27 +93,19 @@ pub(crate) fn add_on_words(
     requires { ⌜ Ready head agreed len (now words) ⌝ }
     ensures { λ r. ⌜ (r ≡ add-edit head agreed len (now (words .entry)) a b) × (now (words .exit) ≡ add-words head agreed len (now (words .entry)) a b) ⌝ }
 {
-    if !agreed {
-        return refused(13, head);
-    }
-    let k = pair_number(head.n, a, b);
+    let k = first_number(head, agreed, a, b);
     if k != 0 {
         return refused(k, head);
     }
     let m = head.m as usize;
-    let c = lesser(a, b);
-    let d = greater(a, b);
-    let place = lookup(words, m, c, d);
+    let place = find(words, m, a, b);
     if place.held {
         return refused(10, head);
     }
-    if m == 4096 {
+    if full(head, len) {
         return refused(11, head);
     }
-    if m == len {
-        return refused(11, head);
-    }
-    insert_ends(words, m, place.at, c, d);
+    insert_ends(words, m, place.at, lesser(a, b), greater(a, b));
     Edit {
         number: 0,
         head: Head {
@@ -96,17 +128,12 @@ pub(crate) fn remove_on_words(
     requires { ⌜ Ready head agreed len (now words) ⌝ }
     ensures { λ r. ⌜ (r ≡ remove-edit head agreed (now (words .entry)) a b) × (now (words .exit) ≡ remove-words head agreed (now (words .entry)) a b) ⌝ }
 {
-    if !agreed {
-        return refused(13, head);
-    }
-    let k = pair_number(head.n, a, b);
+    let k = first_number(head, agreed, a, b);
     if k != 0 {
         return refused(k, head);
     }
     let m = head.m as usize;
-    let c = lesser(a, b);
-    let d = greater(a, b);
-    let place = lookup(words, m, c, d);
+    let place = find(words, m, a, b);
     if !place.held {
         return refused(14, head);
     }

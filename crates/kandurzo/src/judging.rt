@@ -1,12 +1,9 @@
 // Check and surplus on words: the gate (13, 12), then the list in words; check then clears them.
 ghost use mathlib.Core.Path.{_≡_};
-ghost use mathlib.Core.Bool.{true};
 ghost use Prim.Native.Nat.{_+_, _*_, _≤_};
 ghost use lib.ListN.{length, take};
-ghost use Rattle.theory.specs.Lists.{is-list};
-ghost use Rattle.theory.specs.Words.{list-in};
 ghost use Rattle.verify.specs.Answers.{Check-says, Surplus-says};
-ghost use Rattle.kandurzo.specs.Gate.{gate-of, ends-part, weights-part, On-words};
+ghost use Rattle.kandurzo.specs.Gate.{gate-of, list-in-parts, In-parts, On-words};
 ghost use Rattle.kandurzo.specs.Judging.{check-short, surplus-short, Check-on, Surplus-on};
 use crate::Gate;
 use crate::buffers::fill;
@@ -76,12 +73,10 @@ pub(crate) fn surplus_gate(head: Head, agreed: bool, first: usize, second: usize
 
 // Check of the list in the words' parts.
 fn check_in(n: usize, m: usize, work: &[u32], members: &[u8], shares: &[u16]) -> Verdict
-    requires { ⌜ is-list (list-in n m (ends-part m (now work)) (weights-part m (now work))) ≡ true ⌝ }
-    requires { ⌜ m ≤ 4096 ⌝ }
-    requires { ⌜ 16384 ≤ length (now work) ⌝ }
+    requires { ⌜ In-parts n m (now work) ⌝ }
     requires { ⌜ n ≤ length (now members) ⌝ }
     requires { ⌜ m ≤ length (now shares) ⌝ }
-    ensures { λ r. ⌜ Check-says (list-in n m (ends-part m (now (work .entry))) (weights-part m (now (work .entry))))
+    ensures { λ r. ⌜ Check-says (list-in-parts n m (now (work .entry)))
         (take n (now (members .entry))) (take m (now (shares .entry))) r ⌝ }
 {
     let ends = 2 * m;
@@ -118,12 +113,10 @@ pub(crate) fn check_on_words(
 
 // Surplus of the list in the words' parts.
 fn surplus_in(n: usize, m: usize, words: &[u32], first: &[u8], second: &[u8]) -> Difference
-    requires { ⌜ is-list (list-in n m (ends-part m (now words)) (weights-part m (now words))) ≡ true ⌝ }
-    requires { ⌜ m ≤ 4096 ⌝ }
-    requires { ⌜ 16384 ≤ length (now words) ⌝ }
+    requires { ⌜ In-parts n m (now words) ⌝ }
     requires { ⌜ n ≤ length (now first) ⌝ }
     requires { ⌜ n ≤ length (now second) ⌝ }
-    ensures { λ r. ⌜ Surplus-says (list-in n m (ends-part m (now (words .entry))) (weights-part m (now (words .entry))))
+    ensures { λ r. ⌜ Surplus-says (list-in-parts n m (now (words .entry)))
         (take n (now (first .entry))) (take n (now (second .entry))) r ⌝ }
 {
     let ends = 2 * m;

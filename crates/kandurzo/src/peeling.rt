@@ -1,14 +1,11 @@
 // Peel on words: the gate (13, 12), then the list in the work buffer's words, then zeros.
 ghost use mathlib.Core.Path.{_≡_};
-ghost use mathlib.Core.Bool.{true};
 ghost use Prim.Native.Nat.{ℕ, _≤_, _<_};
 ghost use lib.ListN.{length};
-ghost use Rattle.theory.specs.Lists.{is-list};
 ghost use Rattle.theory.specs.Leaving.{leaving};
 ghost use Rattle.theory.specs.Cores.{core-number, core-numbers};
-ghost use Rattle.theory.specs.Words.{list-in};
 ghost use Rattle.kandurzo.specs.Buffers.{in-front};
-ghost use Rattle.kandurzo.specs.Gate.{gate-of, ends-part, weights-part, On-words};
+ghost use Rattle.kandurzo.specs.Gate.{gate-of, list-in-parts, In-parts, On-words};
 ghost use Rattle.kandurzo.specs.Peeling.{peel-short, Peel-on};
 use crate::Gate;
 use crate::buffers::fill;
@@ -38,16 +35,14 @@ pub(crate) fn peel_gate(head: Head, agreed: bool, order: usize, cores: usize, wo
 
 // Peel of the list in the words' parts; its 32-bit numbers are narrowed to the buffers' 16.
 fn peel_in(n: usize, m: usize, work: &[u32], order: &mut [u16], cores: &mut [u16])
-    requires { ⌜ is-list (list-in n m (ends-part m (now work)) (weights-part m (now work))) ≡ true ⌝ }
-    requires { ⌜ m ≤ 4096 ⌝ }
-    requires { ⌜ 16384 ≤ length (now work) ⌝ }
+    requires { ⌜ In-parts n m (now work) ⌝ }
     requires { ⌜ n ≤ length (now order) ⌝ }
     requires { ⌜ n ≤ length (now cores) ⌝ }
-    requires { ⌜ ((v : ℕ) → core-number (list-in n m (ends-part m (now work)) (weights-part m (now work))) v < 65536) ⌝ }
+    requires { ⌜ ((v : ℕ) → core-number (list-in-parts n m (now work)) v < 65536) ⌝ }
     ensures { λ _. ⌜ now (order .exit) ≡
-        in-front (leaving (list-in n m (ends-part m (now (work .entry))) (weights-part m (now (work .entry))))) (now (order .entry)) ⌝ }
+        in-front (leaving (list-in-parts n m (now (work .entry)))) (now (order .entry)) ⌝ }
     ensures { λ _. ⌜ now (cores .exit) ≡
-        in-front (core-numbers (list-in n m (ends-part m (now (work .entry))) (weights-part m (now (work .entry))))) (now (cores .entry)) ⌝ }
+        in-front (core-numbers (list-in-parts n m (now (work .entry)))) (now (cores .entry)) ⌝ }
 {
     let mut leavers = [0u32; 512];
     let mut numbers = [0u32; 512];

@@ -1,14 +1,11 @@
 // Solve on words: the gate (13, 12), then the list in the work buffer's words, then zeros. 15 never comes.
 ghost use mathlib.Core.Path.{_≡_};
-ghost use mathlib.Core.Bool.{true};
 ghost use Prim.Native.Nat.{_≤_};
 ghost use lib.ListN.{length};
-ghost use Rattle.theory.specs.Lists.{is-list};
 ghost use Rattle.theory.specs.Ratio.{float-ratio};
-ghost use Rattle.theory.specs.Words.{list-in};
 ghost use Rattle.densest.specs.Solve.{Solves};
-ghost use Rattle.kandurzo.specs.Gate.{gate-of, ends-part, weights-part, On-words};
-ghost use Rattle.kandurzo.specs.Solving.{solve-short, declined, Fits-16-bits, Handed, Solve-on};
+ghost use Rattle.kandurzo.specs.Gate.{gate-of, list-in-parts, In-parts, On-words};
+ghost use Rattle.kandurzo.specs.Solving.{solve-short, declined, Fits-16-bits, Solve-on};
 use crate::Gate;
 use crate::Solved;
 use crate::buffers::fill;
@@ -82,14 +79,12 @@ fn sheet_in(
     cores: &mut [u16],
     shares: &mut [u16],
 ) -> Solution
-    requires { ⌜ is-list (list-in n m (ends-part m (now work)) (weights-part m (now work))) ≡ true ⌝ }
-    requires { ⌜ m ≤ 4096 ⌝ }
-    requires { ⌜ 16384 ≤ length (now work) ⌝ }
+    requires { ⌜ In-parts n m (now work) ⌝ }
     requires { ⌜ n ≤ length (now members) ⌝ }
     requires { ⌜ n ≤ length (now cores) ⌝ }
     requires { ⌜ m ≤ length (now shares) ⌝ }
-    requires { ⌜ Fits-16-bits (list-in n m (ends-part m (now work)) (weights-part m (now work))) ⌝ }
-    ensures { λ r. ⌜ Solves (list-in n m (ends-part m (now (work .entry))) (weights-part m (now (work .entry)))) (now (members .entry))
+    requires { ⌜ Fits-16-bits (list-in-parts n m (now work)) ⌝ }
+    ensures { λ r. ⌜ Solves (list-in-parts n m (now (work .entry))) (now (members .entry))
         (now (cores .entry)) (now (shares .entry)) (now (members .exit)) (now (cores .exit)) (now (shares .exit)) r ⌝ }
 {
     let mut numbers = [0u32; 512];
@@ -110,27 +105,18 @@ fn sheet_in(
     found
 }
 
-// Core numbers, group and load sheet of the list in the words' parts, and the record.
-fn solve_in(
-    n: usize,
-    m: usize,
-    work: &[u32],
-    members: &mut [u8],
-    cores: &mut [u16],
-    shares: &mut [u16],
-) -> Solved
-    requires { ⌜ is-list (list-in n m (ends-part m (now work)) (weights-part m (now work))) ≡ true ⌝ }
-    requires { ⌜ m ≤ 4096 ⌝ }
-    requires { ⌜ 16384 ≤ length (now work) ⌝ }
-    requires { ⌜ n ≤ length (now members) ⌝ }
-    requires { ⌜ n ≤ length (now cores) ⌝ }
-    requires { ⌜ m ≤ length (now shares) ⌝ }
-    requires { ⌜ Fits-16-bits (list-in n m (ends-part m (now work)) (weights-part m (now work))) ⌝ }
-    ensures { λ r. ⌜ (r .number ≡ 0) × Handed (list-in n m (ends-part m (now (work .entry))) (weights-part m (now (work .entry))))
-        (now (members .entry)) (now (cores .entry)) (now (shares .entry)) r
-        (now (members .exit)) (now (cores .exit)) (now (shares .exit)) ⌝ }
+// The record of what was found.
+fn record_of(found: Solution) -> Solved
+    requires { ⌜ 1 ≤ found .q ⌝ }
+    ensures { λ r. ⌜ r ≡ record {
+      number = 0;
+      p = found .p;
+      q = found .q;
+      k = found .k;
+      coresize = found .core;
+      ratio = float-ratio (found .p) (found .q);
+    } ⌝ }
 {
-    let found = sheet_in(n, m, work, members, cores, shares);
     let ratio = ratio(found.p, found.q);
     Solved {
         number: 0,
@@ -162,7 +148,7 @@ pub(crate) fn solve_on_words(
     let n = head.n as usize;
     let m = head.m as usize;
     fill(work, 8192, 8192 + m, 1);
-    let found = solve_in(n, m, work, members, cores, shares);
+    let found = sheet_in(n, m, work, members, cores, shares);
     fill(work, 0, 16384, 0);
-    found
+    record_of(found)
 }

@@ -1,2 +1,3 @@
 -- The facts that the proofs here cite.
+pub mod Filled
 pub mod Held

@@ -1,3 +1,4 @@
 -- What the contracts cite.
+pub mod Filled
 pub mod Held
 pub mod Words

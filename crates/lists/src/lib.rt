@@ -2,12 +2,13 @@
 //
 // `fill` walks all pairs a,b of n modules, a below b, in rising order and takes each pair or not, by the kind of the list: so the pairs that
 // it writes rise strictly, and each counts once. It costs a step a pair walked. `is_held` tests whether words hold a list (document 01's
-// rules), so that a program can call what asks for one. Nothing else here has a condition: an index past the end reads 0 and writes nothing.
+// rules), so that a program can call what asks for one. No public function here has a condition: an index past the end reads 0 and writes nothing.
 ghost use mathlib.Core.Path.{_≡_};
 ghost use mathlib.Core.Bool.{true};
 ghost use mathlib.Core.Logic.{_↔_};
-ghost use Prim.Native.Nat.{_+_, _*_, _%_, _^_, _≤_, _<_, min};
+ghost use Prim.Native.Nat.{_+_, _*_, _-_, _%_, _^_, _≤_, _<_, min};
 ghost use lib.ListN.{getD, set};
+ghost use Rattle.lists.specs.Filled.{bit-of, same-run, is-taken, filling, stepped, row-filled, filled};
 ghost use Rattle.lists.specs.Held.{held-in, sizes-fit, pair-fits, good-at};
 ghost use Rattle.lists.specs.Held.{follows as Held·follows};
 ghost use Rattle.lists.specs.Words.{next-state, Same-words};
@@ -114,12 +115,16 @@ pub fn same_words(n: usize, xs: &[u32], ys: &[u32]) -> bool
 }
 
 // Bit i of a mask.
-fn bit(mask: u32, i: u32) -> bool {
+fn bit(mask: u32, i: u32) -> bool
+    ensures { λ r. ⌜ r ≡ bit-of mask i ⌝ }
+{
     if i < 32 { (mask >> i) % 2 == 1 } else { false }
 }
 
 // Whether two modules lie in the same run of `size` modules.
-fn together(size: u32, a: u32, b: u32) -> bool {
+fn together(size: u32, a: u32, b: u32) -> bool
+    ensures { λ r. ⌜ r ≡ same-run size a b ⌝ }
+{
     if size == 0 {
         false
     } else {
@@ -130,6 +135,7 @@ fn together(size: u32, a: u32, b: u32) -> bool {
 // Whether a kind takes the pair a,b, the one after `passed` others, with a draw of 0 to 65,535.
 fn takes(kind: Kind, n: u32, a: u32, b: u32, passed: u32, draw: u32) -> bool
     requires { ⌜ (a < b) × (b < n) ⌝ }
+    ensures { λ r. ⌜ r ≡ is-taken kind n a b passed draw ⌝ }
 {
     match kind {
         Kind::Mask(mask) => bit(mask, passed),
@@ -146,6 +152,7 @@ fn takes(kind: Kind, n: u32, a: u32, b: u32, passed: u32, draw: u32) -> bool
 // Takes the pair a,b as pair m.
 fn put_pair(m: usize, a: u32, b: u32, ends: &mut [u32], weights: &mut [u32])
     requires { ⌜ m < 4096 ⌝ }
+    ensures { λ r. ⌜ (now (ends .exit) ≡ set (set (now (ends .entry)) (2 * m) a) (2 * m + 1) b) × (now (weights .exit) ≡ set (now (weights .entry)) m 1) ⌝ }
 {
     put_word(ends, 2 * m, a);
     put_word(ends, 2 * m + 1, b);
@@ -163,7 +170,7 @@ fn step(
     weights: &mut [u32],
 ) -> Walk
     requires { ⌜ (a < b) × (b < n) ⌝ }
-    ensures { λ r. ⌜ (walk .m ≤ 4096 → r .m ≤ 4096) ⌝ }
+    ensures { λ r. ⌜ filling r (now (ends .exit)) (now (weights .exit)) ≡ stepped kind n a b (filling walk (now (ends .entry)) (now (weights .entry))) ⌝ }
 {
     let m = walk.m;
     let passed = walk.passed;
@@ -194,7 +201,8 @@ fn step(
 // The pairs of module a with the modules above it.
 fn row(kind: Kind, n: u32, a: u32, walk: Walk, ends: &mut [u32], weights: &mut [u32]) -> Walk
     requires { ⌜ a < n ⌝ }
-    ensures { λ r. ⌜ (walk .m ≤ 4096 → r .m ≤ 4096) ⌝ }
+    ensures { λ r. ⌜ filling r (now (ends .exit)) (now (weights .exit))
+        ≡ row-filled kind n a (n - (a + 1)) (a + 1) (filling walk (now (ends .entry)) (now (weights .entry))) ⌝ }
 {
     let mut now = walk;
     let mut b = a + 1;
@@ -207,7 +215,7 @@ fn row(kind: Kind, n: u32, a: u32, walk: Walk, ends: &mut [u32], weights: &mut [
 
 // Writes a list of n modules: how many pairs it has, and the random state after it.
 pub fn fill(kind: Kind, n: u32, state: u32, ends: &mut [u32], weights: &mut [u32]) -> Walk
-    ensures { λ r. ⌜ r .m ≤ 4096 ⌝ }
+    ensures { λ r. ⌜ filling r (now (ends .exit)) (now (weights .exit)) ≡ filled kind n state (now (ends .entry)) (now (weights .entry)) ⌝ }
 {
     let mut walk = Walk {
         m: 0,

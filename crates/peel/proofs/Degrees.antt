@@ -1,17 +1,15 @@
--- Degrees and joint weights by slots.
---   weighed-room               slots have room for what they weigh
---   degree-slots               the degree among all modules: what a module's slots weigh
---   joint-slots                what joins two modules
---   joint-skip                 slots that are not v's join it to nobody: the links pass over them
+-- Degrees and joint weights by the words of the pairs.
+--   degree-ends                the degree among all modules: what the pairs weigh at a module
+--   joint-ways                 what joins two modules, by row and by chain
 -- Assumes nothing.
-use mathlib.Core.Path.{_≡_, refl, sym, _∙_}
+use mathlib.Core.Path.{_≡_, refl, _∙_}
 use mathlib.Core.Bool.{Bool, true, false, _&&_, _||_, cond}
 use mathlib.Core.List.{List}
-use Prim.Native.Nat.{ℕ, zero, suc, _+_, _*_, _/_, _≤_, _<_}
+use Prim.Native.Nat.{ℕ, zero, suc, _+_, _*_, _<_}
 use native.Mathlib.Omega.{arith}
 use lib.Dec.{eqb}
-use lib.ListN.{length, getD}
-use borrow.Author.Tests.{eqb-true, ne-eqb}
+use lib.ListN.{getD}
+use borrow.Author.Tests.{eqb-true}
 use Rattle.theory.specs.Basics.{table}
 use Rattle.theory.specs.Lists.{Pair, is-list}
 use Rattle.theory.specs.Groups.{everyone}
@@ -20,31 +18,10 @@ use Rattle.theory.specs.Words.{word-pair, pairs-in, list-in}
 use Rattle.theory.proofs.Tests.{no}
 use Rattle.theory.proofs.Groups.{in-everyone}
 use Rattle.theory.proofs.Peeling.{joint}
-use Rattle.slots.specs.Slots.{mate, total, held-upto, held-by, Room}
-use Rattle.slots.specs.Links.{last-slot}
-use Rattle.slots.specs.Split.{Weights}
-use Rattle.slots.proofs.Totals.{total-ext, total-first, total-pairs}
-use Rattle.slots.proofs.Mates.{mate-even, mate-odd, mates}
+use Rattle.slots.specs.Slots.{total}
+use Rattle.slots.proofs.Totals.{total-ext, total-first, total-sum}
 use Rattle.slots.proofs.Words.{good-pair}
-use Rattle.slots.proofs.Linking.{total-linked}
-use Rattle.peel.specs.Steps.{Weighed, slot-to, slot-joint}
-
--- ---- slots of a pair
-
-half-even : (j : ℕ) → (2 * j) / 2 ≡ j
-half-even j = omega arith
-
-half-odd : (j : ℕ) → (2 * j + 1) / 2 ≡ j
-half-odd j = omega arith
-
-pub weighed-room : (m : ℕ) (weights hold : List ℕ) → Weights m weights → 2 * m ≤ length hold → Weighed m weights hold → Room m hold
-unfolding Weighed
-weighed-room m weights hold w long e = record {
-  long = long;
-  small = λ s l.
-      let o : mate s < 2 * m = mates m s .low l in
-      omega (arith, e s l, e (mate s) o, w .small (s / 2) (omega arith), w .small (mate s / 2) (omega arith));
-}
+use Rattle.peel.specs.Steps.{first-end, second-end, weight-at, pair-to, one-way, both-ways}
 
 -- ---- sums over pairs
 
@@ -67,7 +44,7 @@ joint-total zero f u v = refl
 joint-total (suc m) f u v =
     omega (arith, joint-total m (λ j. f (suc j)) u v, total-first m (λ j. pair-joint u v (f j)))
 
--- ---- one pair, by its two slots
+-- ---- one pair, by its two ends
 
 degree-pair : (ea eb ia ib : Bool) (w : ℕ) → (ea ≡ true → eb ≡ true → ⊥) → ia ≡ true → ib ≡ true →
     cond ((ea && ib) || (eb && ia)) w 0 ≡ cond ea w 0 + cond eb w 0
@@ -101,45 +78,37 @@ module _ (n m : ℕ) (ends weights : List ℕ) (h : is-list (list-in n m ends we
   differ j l x e f =
       omega (arith, good-pair n m ends weights h j l .first, eqb-true (getD ends (2 * j) 0) x e, eqb-true (getD ends (2 * j + 1) 0) x f)
 
-  degree-two : (hold : List ℕ) → Weighed m weights hold → (v j : ℕ) → j < m →
+  degree-two : (v j : ℕ) → j < m →
       pair-degree (everyone (list-in n m ends weights)) v (word-pair ends weights j)
-      ≡ cond (eqb (getD ends (2 * j) 0) v) (getD hold (2 * j) 0) 0 + cond (eqb (getD ends (2 * j + 1) 0) v) (getD hold (2 * j + 1) 0) 0
-  unfolding pair-degree joins word-pair list-in Weighed
-  degree-two hold w v j l =
+      ≡ cond (eqb (first-end ends j) v) (getD weights j 0) 0 + cond (eqb (second-end ends j) v) (getD weights j 0) 0
+  unfolding pair-degree joins word-pair list-in first-end second-end
+  degree-two v j l =
       let a : ℕ = getD ends (2 * j) 0 in
       let b : ℕ = getD ends (2 * j + 1) 0 in
       let g = good-pair n m ends weights h j l in
-      rw (w (2 * j) (omega arith), w (2 * j + 1) (omega arith), half-even j, half-odd j)
-      (degree-pair (eqb a v) (eqb b v) _ _ (getD weights j 0) (differ j l v)
-      (in-everyone (list-in n m ends weights) a (omega (arith, g .below, g .first))) (in-everyone (list-in n m ends weights) b (g .below)))
+      degree-pair (eqb a v) (eqb b v) _ _ (getD weights j 0) (differ j l v)
+      (in-everyone (list-in n m ends weights) a (omega (arith, g .below, g .first))) (in-everyone (list-in n m ends weights) b (g .below))
 
   joint-two : (u v j : ℕ) → j < m →
-      pair-joint u v (word-pair ends weights j) ≡ slot-to ends weights u v (2 * j) + slot-to ends weights u v (2 * j + 1)
-  unfolding pair-joint slot-to word-pair
+      pair-joint u v (word-pair ends weights j)
+      ≡ pair-to (first-end ends) (second-end ends) weights v u j + pair-to (second-end ends) (first-end ends) weights v u j
+  unfolding pair-joint pair-to word-pair first-end second-end
   joint-two u v j l =
       let a : ℕ = getD ends (2 * j) 0 in
       let b : ℕ = getD ends (2 * j + 1) 0 in
-      rw (half-even j, half-odd j, mate-even j, mate-odd j)
-      (joint-pair (eqb a u) (eqb b v) (eqb b u) (eqb a v) (getD weights j 0) (differ j l u))
+      joint-pair (eqb a u) (eqb b v) (eqb b u) (eqb a v) (getD weights j 0) (differ j l u)
 
   -- the degree of v among all modules
-  pub degree-slots : (hold : List ℕ) → Weighed m weights hold → (v : ℕ) →
-      degree (list-in n m ends weights) (everyone (list-in n m ends weights)) v ≡ held-by m ends hold v
-  unfolding degree held-upto list-in pairs-in
-  degree-slots hold w v =
+  pub degree-ends : (v : ℕ) → degree (list-in n m ends weights) (everyone (list-in n m ends weights)) v ≡ weight-at ends weights m v
+  unfolding degree weight-at list-in pairs-in
+  degree-ends v =
       degree-total m (word-pair ends weights) (everyone (list-in n m ends weights)) v
-      ∙ total-ext m _ _ (degree-two hold w v)
-      ∙ sym (total-pairs m (λ s. cond (eqb (getD ends s 0) v) (getD hold s 0) 0))
+      ∙ total-ext m _ _ (degree-two v)
 
   -- what joins u and v
-  pub joint-slots : (u v : ℕ) → joint (pairs-in m ends weights) u v ≡ slot-joint ends weights u v (2 * m)
-  unfolding slot-joint pairs-in
-  joint-slots u v =
+  pub joint-ways : (u v : ℕ) → joint (pairs-in m ends weights) u v ≡ both-ways ends weights v m u
+  unfolding both-ways one-way pairs-in
+  joint-ways u v =
       joint-total m (word-pair ends weights) u v
       ∙ total-ext m _ _ (joint-two u v)
-      ∙ sym (total-pairs m (slot-to ends weights u v))
-
--- the slots that the links pass over
-pub joint-skip : (ends weights : List ℕ) (u v k : ℕ) → slot-joint ends weights u v k ≡ slot-joint ends weights u v (last-slot k ends v)
-unfolding slot-joint slot-to
-joint-skip ends weights u v k = total-linked k ends v (slot-to ends weights u v) (λ s ne. rw (ne-eqb (getD ends s 0) v ne))
+      ∙ total-sum m (pair-to (first-end ends) (second-end ends) weights v u) (pair-to (second-end ends) (first-end ends) weights v u)

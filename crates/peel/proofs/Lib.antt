@@ -3,7 +3,9 @@ pub mod Degrees
 pub mod Leavers
 pub mod Ranks
 pub mod Updates
-pub mod Links
+pub mod Rows
+pub mod Laying
+pub mod Walks
 pub mod Orders
 pub mod Numbers
 pub mod Remainders

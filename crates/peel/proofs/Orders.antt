@@ -5,7 +5,7 @@
 use mathlib.Core.Path.{_≡_}
 use mathlib.Core.List.{List}
 use mathlib.Core.Option.{some}
-use Prim.Native.Nat.{ℕ, _+_, _*_, _≤_, _<_}
+use Prim.Native.Nat.{ℕ, _+_, _≤_, _<_}
 use native.Mathlib.Omega.{arith}
 use native.Mathlib.Numerals.{add-one}
 use lib.ListN.{length, getD, set}
@@ -15,7 +15,7 @@ use Rattle.theory.specs.Leaving.{leaver, leaving, remainder, leaving-degree}
 use Rattle.theory.specs.Words.{list-in, Held-words}
 use Rattle.ranking.specs.declared.Leaver.{Leaver}
 use Rattle.ranking.specs.Ranking.{Someone, Taken}
-use Rattle.peel.specs.Steps.{entry, Links, Ranked, Loosable, Loosened, Turned}
+use Rattle.peel.specs.Steps.{entry, both-ways, Ranked, Loosable, Loosened, Turned}
 use Rattle.peel.proofs.Leavers.{leaver-at, remainder-full}
 use Rattle.peel.proofs.Ranks.{ranked-someone, ranked-first, ranked-degree, ranked-loosable, ranked-next}
 use Rattle.peel.proofs.Updates.{written-none, written-next}
@@ -47,10 +47,10 @@ module _ (n m : ℕ) (ends weights : List ℕ) (h : Held-words n m ends weights)
   turn-someone = ranked-someone n m ends weights h (remainder g i) work (getD (leaving g) i 0) full (t .ranked) lives
 
   module _ (new : List ℕ) (v : Leaver) (k : Taken work new v) where
-    pub turn-loosable : (first next : List ℕ) → Links n m ends first next → Loosable n m (v .number) ends weights first next new
+    pub turn-loosable : Loosable n m (v .number) (both-ways ends weights (v .number) m) ends weights new
     turn-loosable = ranked-loosable n m ends weights h (remainder g i) work (getD (leaving g) i 0) full (t .ranked) lives new v k
 
-    pub turn-next : (after : List ℕ) → Loosened (2 * m) (v .number) ends weights new after → n ≤ length order → n ≤ length falls →
+    pub turn-next : (after : List ℕ) → Loosened (both-ways ends weights (v .number) m) new after → n ≤ length order → n ≤ length falls →
         Turning g (i + 1) order falls after (set order′ i (v .number)) (set falls′ i (v .carried))
     unfolding remainder entry leaving-degree
     turn-next after o room space =

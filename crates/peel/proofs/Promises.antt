@@ -9,11 +9,10 @@ use Prim.Native.Nat.{ℕ, suc, _+_, _-_, _≤_, _<_}
 use native.Mathlib.Omega.{arith}
 use lib.Dec.{ltb, eqb, leb·suc-suc}
 use lib.ListN.{getD, drop, List·getD-append}
-use borrow.Author.Tests.{eqb-true, ltb-true, lt-ltb, le-ltb}
+use borrow.Author.Tests.{ltb-true, lt-ltb, le-ltb}
 use Rattle.theory.specs.Basics.{table}
-use Rattle.theory.specs.Groups.{is-in}
 use Rattle.theory.specs.Leaving.{leaving, before}
-use Rattle.theory.specs.Cores.{core, core-number, core-numbers}
+use Rattle.theory.specs.Cores.{core-number, core-numbers}
 use Rattle.theory.specs.Promise.{Core-exact, Outside-first}
 use Rattle.theory.proofs.Tests.{no}
 use Rattle.theory.proofs.Tables.{length-table, table-at}

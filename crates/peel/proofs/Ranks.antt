@@ -7,7 +7,7 @@ use mathlib.Core.Path.{_≡_, refl, sym, ap, _∙_}
 use mathlib.Core.Bool.{Bool, true, false, _&&_, not}
 use mathlib.Core.List.{List}
 use mathlib.Core.Option.{some}
-use Prim.Native.Nat.{ℕ, _+_, _*_, _≤_, _<_}
+use Prim.Native.Nat.{ℕ, _+_, _≤_, _<_}
 use native.Mathlib.Omega.{arith}
 use lib.Dec.{ltb, eqb}
 use lib.ListN.{length, set}
@@ -23,12 +23,12 @@ use Rattle.theory.proofs.Groups.{in-lt, in-leave, in-everyone, length-everyone}
 use Rattle.theory.proofs.Leaving.{leaver-fewest, leaver-lowest}
 use Rattle.theory.proofs.Peeling.{degree-leave}
 use Rattle.theory.proofs.Cores.{inside-leave}
-use Rattle.slots.proofs.Words.{few-modules, list-ends, list-weights}
+use Rattle.slots.proofs.Words.{few-modules}
 use Rattle.ranking.specs.declared.Leaver.{Leaver}
 use Rattle.ranking.specs.Ranking.{has, carries, Someone, Buildable, Built, Taken}
 use Rattle.ranking.proofs.Order.{has-below, key-first}
-use Rattle.peel.specs.Steps.{Degrees, slot-joint, Links, Ranked, Loosable, Loosened}
-use Rattle.peel.proofs.Degrees.{joint-slots}
+use Rattle.peel.specs.Steps.{both-ways, Degrees, Ranked, Loosable, Loosened}
+use Rattle.peel.proofs.Degrees.{joint-ways}
 use Rattle.peel.proofs.Remainders.{all-light}
 
 module _ (n m : ℕ) (ends weights : List ℕ) (h : Held-words n m ends weights) where
@@ -84,12 +84,12 @@ module _ (n m : ℕ) (ends weights : List ℕ) (h : Held-words n m ends weights)
     ranked-someone = (v, ranked-there)
 
     -- when v leaves, the degree of u falls by what joins them
-    fallen : (u : ℕ) → degree g (set s v 0) u + slot-joint ends weights u v (2 * m) ≡ degree g s u
+    fallen : (u : ℕ) → degree g (set s v 0) u + both-ways ends weights v m u ≡ degree g s u
     unfolding degree list-in
     fallen u =
         omega (
           arith,
-          joint-slots n m ends weights (h .listed) u v,
+          joint-ways n m ends weights (h .listed) u v,
           degree-leave n (pairs-in m ends weights) s u v (proper g (h .listed)) there,
         )
 
@@ -124,24 +124,21 @@ module _ (n m : ℕ) (ends weights : List ℕ) (h : Held-words n m ends weights)
           e ∙ rw (r .present u) (sym (in-leave s v u))
 
       -- who is present still carries what joins it to the leaver
-      left-carries : (u : ℕ) → has new u ≡ true → carries new u ≡ degree g (set s v 0) u + slot-joint ends weights u v (2 * m)
+      left-carries : (u : ℕ) → has new u ≡ true → carries new u ≡ degree g (set s v 0) u + both-ways ends weights v m u
       left-carries u e =
           let was : has work u ≡ true = (simp tests at (sym (t .present u) ∙ e)) .0 in
           t .carried u e ∙ r .carried u was ∙ sym (fallen u)
 
-      pub ranked-loosable : (first next : List ℕ) → Links n m ends first next → Loosable n m (l .number) ends weights first next new
-      ranked-loosable first next x =
+      pub ranked-loosable : Loosable n m (l .number) (both-ways ends weights (l .number) m) ends weights new
+      ranked-loosable =
           record {
-            few = few-modules n m ends weights (h .listed);
-            ends-good = list-ends n m ends weights (h .listed) (h .ends-long);
-            weights-good = list-weights n m ends weights (h .listed) (h .weights-long);
-            links = x;
+            held = h;
             ranking = t .ranking;
             below = omega (arith, ranked-first, in-lt s v there);
             enough = λ u e. let at : l .number ≡ v = ranked-first in rw at (omega (arith, left-carries u e));
           }
 
-      pub ranked-next : (after : List ℕ) → Loosened (2 * m) (l .number) ends weights new after → Ranked g (set s v 0) after
+      pub ranked-next : (after : List ℕ) → Loosened (both-ways ends weights (l .number) m) new after → Ranked g (set s v 0) after
       ranked-next after o =
           record {
             ranking = o .ranking;
@@ -149,6 +146,6 @@ module _ (n m : ℕ) (ends weights : List ℕ) (h : Held-words n m ends weights)
             carried = λ u e.
                 let was : has new u ≡ true = sym (o .present u) ∙ e in
                 let at : l .number ≡ v = ranked-first in
-                let fell : carries after u + slot-joint ends weights u v (2 * m) ≡ carries new u = rw at at (o .carried u was) in
+                let fell : carries after u + both-ways ends weights v m u ≡ carries new u = rw at at (o .carried u was) in
                 omega (arith, fell, left-carries u was);
           }

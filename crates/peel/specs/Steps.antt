@@ -1,9 +1,12 @@
 -- What the functions under `peel` take and leave; only this crate cites it.
 --   entry, Written           a buffer as a function; its first entries are written, the others as they were
---   Weighed, Degrees         what slots weigh, and what modules carry at first
---   slot-joint               what joins two modules, by slots
---   Links                    the links of all slots, in buffers that are long enough
---   Ranked                   the ranking holds the modules present, each with its degree
+--   first-end, second-end    the ends of a pair
+--   weight-at                what modules carry at first, by pairs
+--   Rows, Chains             the ways to a module's pairs: those whose first end it is, and those whose second end it is
+--   Blank, Laid              before and after these and the degrees are laid out
+--   Row-at                   a place in a module's row
+--   by-row, by-chain, both-ways    what joins two modules, by these ways
+--   Degrees, Ranked          degrees at first; the ranking holds the modules present, each with its degree
 --   Loosable, Loosened       before and after the pairs of a leaver are taken from the others
 --   Turned                   the leaving order and the degrees at leaving
 --   Numberable, Numbered     core numbers and places, from those
@@ -13,16 +16,16 @@
 use mathlib.Core.Path.{_≡_}
 use mathlib.Core.Bool.{true, _&&_, cond}
 use mathlib.Core.List.{List}
-use Prim.Native.Nat.{ℕ, zero, suc, _+_, _*_, _-_, _/_, _≤_, _<_}
+use Prim.Native.Nat.{ℕ, zero, suc, _+_, _*_, _-_, _≤_, _<_}
 use lib.Dec.{leb, eqb}
 use lib.ListN.{length, getD}
 use Rattle.theory.specs.Basics.{greatest}
 use Rattle.theory.specs.Lists.{Pairs}
 use Rattle.theory.specs.Groups.{is-in, everyone}
 use Rattle.theory.specs.Leaving.{degree, leaving, leaving-degree}
-use Rattle.slots.specs.Slots.{mate, total, Ends}
-use Rattle.slots.specs.Links.{Linked}
-use Rattle.slots.specs.Split.{Weights}
+use Rattle.theory.specs.Words.{Held-words}
+use Rattle.slots.specs.Slots.{total}
+use Rattle.slots.specs.Links.{Lasts, Linked}
 use Rattle.ranking.specs.Ranking.{Ranking, has, carries}
 use Rattle.peel.specs.declared.Remainder.{Remainder}
 
@@ -36,31 +39,77 @@ pub record Written (k : ℕ) (f : ℕ → ℕ) (old new : List ℕ) : Type 0 whe
   pub front : (i : ℕ) → i < k → getD new i 0 ≡ f i
   pub rest : (i : ℕ) → k ≤ i → getD new i 0 ≡ getD old i 0
 
--- ---- slots (pair j has the slots 2j and 2j + 1, one for each end)
+-- ---- pairs, by their ends
 
--- each slot weighs what its pair does
-unfoldable pub Weighed : (m : ℕ) → (weights hold : List ℕ) → Type 0
-Weighed m ws hold = (s : ℕ) → s < 2 * m → getD hold s 0 ≡ getD ws (s / 2) 0
+-- the first and the second end of pair j
+unfoldable pub first-end : (ends : List ℕ) → (j : ℕ) → ℕ
+first-end es j = getD es (2 * j) 0
+
+unfoldable pub second-end : (ends : List ℕ) → (j : ℕ) → ℕ
+second-end es j = getD es (2 * j + 1) 0
+
+-- what the first k pairs weigh at v
+unfoldable pub weight-at : (ends weights : List ℕ) → (k v : ℕ) → ℕ
+weight-at es ws k v =
+    total k (λ j. cond (eqb (first-end es j) v) (getD ws j 0) 0 + cond (eqb (second-end es j) v) (getD ws j 0) 0)
+
+-- where the row of each module ends: the pairs whose first end it is stand side by side, as the list rises
+pub record Rows (n k : ℕ) (ends rows : List ℕ) : Type 0 where
+  pub lasts : Lasts n k (first-end ends) rows
+  pub long : n ≤ length rows
+
+-- the chain of each module: the pairs whose second end it is, from the last one back
+pub record Chains (n k : ℕ) (ends first next : List ℕ) : Type 0 where
+  pub linked : Linked n k (second-end ends) first next
+  pub first-long : n ≤ length first
+  pub next-long : k ≤ length next
+
+-- buffers that are long enough; rows, first and degrees are 0, and what `next` holds is free
+pub record Blank (n m : ℕ) (rows first next degrees : List ℕ) : Type 0 where
+  pub rows-long : n ≤ length rows
+  pub first-long : n ≤ length first
+  pub next-long : m ≤ length next
+  pub degrees-long : n ≤ length degrees
+  pub rows-none : (v : ℕ) → v < n → getD rows v 0 ≡ 0
+  pub first-none : (v : ℕ) → v < n → getD first v 0 ≡ 0
+  pub degrees-none : (v : ℕ) → v < n → getD degrees v 0 ≡ 0
+
+-- the first k pairs are in them
+pub record Laid (n k : ℕ) (ends weights rows first next degrees : List ℕ) : Type 0 where
+  pub rows-are : Rows n k ends rows
+  pub chains-are : Chains n k ends first next
+  pub degrees-are : (v : ℕ) → v < n → getD degrees v 0 ≡ weight-at ends weights k v
+
+-- pair k is in the row of v, and up to there first ends do not fall
+pub record Row-at (k v : ℕ) (ends : List ℕ) : Type 0 where
+  pub few : k < 4096
+  pub long : 2 * k < length ends
+  pub here : first-end ends k ≡ v
+  pub rises : (i j : ℕ) → i ≤ j → j ≤ k → first-end ends i ≤ first-end ends j
+
+-- what pair j counts, where its end `from` is v and its end `to` is u
+unfoldable pub pair-to : (from to : ℕ → ℕ) → (weights : List ℕ) → (v u j : ℕ) → ℕ
+pair-to from to ws v u j = cond (eqb (from j) v && eqb (to j) u) (getD ws j 0) 0
+
+-- what the first k pairs count from v to u
+unfoldable pub one-way : (from to : ℕ → ℕ) → (weights : List ℕ) → (v k u : ℕ) → ℕ
+one-way from to ws v k u = total k (pair-to from to ws v u)
+
+-- along the row of v, along its chain, and both: all that joins v and u
+abbrev pub by-row : (ends weights : List ℕ) → (v k u : ℕ) → ℕ
+by-row es ws = one-way (first-end es) (second-end es) ws
+
+abbrev pub by-chain : (ends weights : List ℕ) → (v k u : ℕ) → ℕ
+by-chain es ws = one-way (second-end es) (first-end es) ws
+
+unfoldable pub both-ways : (ends weights : List ℕ) → (v k u : ℕ) → ℕ
+both-ways es ws v k u = by-row es ws v k u + by-chain es ws v k u
+
+-- ---- turns
 
 -- each of n modules with its degree among all
 unfoldable pub Degrees : (n : ℕ) → Pairs → (degrees : List ℕ) → Type 0
 Degrees n g degrees = (v : ℕ) → v < n → getD degrees v 0 ≡ degree g (everyone g) v
-
--- what the pair of slot s counts, where the slot is v's and leads to u
-unfoldable pub slot-to : (ends weights : List ℕ) → (u v s : ℕ) → ℕ
-slot-to es ws u v s = cond (eqb (getD es s 0) v && eqb (getD es (mate s) 0) u) (getD ws (s / 2) 0) 0
-
--- what the first k slots have between v and u
-unfoldable pub slot-joint : (ends weights : List ℕ) → (u v k : ℕ) → ℕ
-slot-joint es ws u v k = total k (slot-to es ws u v)
-
--- the links of all slots, in buffers that are long enough
-pub record Links (n m : ℕ) (ends first next : List ℕ) : Type 0 where
-  pub linked : Linked n m ends first next
-  pub first-long : n ≤ length first
-  pub next-long : 2 * m ≤ length next
-
--- ---- turns
 
 -- the ranking holds exactly the modules of s, each with its degree among them
 pub record Ranked (g : Pairs) (s work : List ℕ) : Type 0 where
@@ -68,21 +117,18 @@ pub record Ranked (g : Pairs) (s work : List ℕ) : Type 0 where
   pub present : (u : ℕ) → has work u ≡ is-in s u
   pub carried : (u : ℕ) → has work u ≡ true → carries work u ≡ degree g s u
 
--- v has left, and whoever is present still carries what joins it to v
-pub record Loosable (n m v : ℕ) (ends weights first next work : List ℕ) : Type 0 where
-  pub few : n ≤ 512
-  pub ends-good : Ends n m ends
-  pub weights-good : Weights m weights
-  pub links : Links n m ends first next
+-- whoever is present carries what is to be taken from it for v's pairs
+pub record Loosable (n m v : ℕ) (f : ℕ → ℕ) (ends weights work : List ℕ) : Type 0 where
+  pub held : Held-words n m ends weights
   pub ranking : Ranking work
   pub below : v < n
-  pub enough : (u : ℕ) → has work u ≡ true → slot-joint ends weights u v (2 * m) ≤ carries work u
+  pub enough : (u : ℕ) → has work u ≡ true → f u ≤ carries work u
 
--- whoever is present carries less by what the first k slots have between it and v
-pub record Loosened (k v : ℕ) (ends weights old new : List ℕ) : Type 0 where
+-- that is taken from it
+pub record Loosened (f : ℕ → ℕ) (old new : List ℕ) : Type 0 where
   pub ranking : Ranking new
   pub present : (u : ℕ) → has new u ≡ has old u
-  pub carried : (u : ℕ) → has old u ≡ true → carries new u + slot-joint ends weights u v k ≡ carries old u
+  pub carried : (u : ℕ) → has old u ≡ true → carries new u + f u ≡ carries old u
 
 -- the first i places of the order, and the degrees at leaving
 pub record Turned (g : Pairs) (i : ℕ) (order falls order′ falls′ : List ℕ) : Type 0 where

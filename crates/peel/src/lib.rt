@@ -1,16 +1,19 @@
 // Peeling: leaving order, core numbers, and the densest remainder. Document 01, "Leaving order" and "Core number"; source document 001, figure 1.
 //
 // Works on a held list in words (theory's specs/Words.antt). Module by module the first of the ranking leaves, and the modules that its pairs
-// join it to fall in the ranking: for N modules and M pairs about N + M steps of the ranking. The core number of a leaver is the greatest
-// degree at leaving so far. Refuses nothing: its callers have tested the list and the buffers.
+// join it to fall in the ranking: for N modules and M pairs about N + M steps of the ranking. The list rises, so the pairs whose first end a
+// module is stand side by side, its row; those whose second end it is are chained. One pass over the pairs finds rows, chains and degrees. The
+// core number of a leaver is the greatest degree at leaving so far. Refuses nothing: its callers have tested the list and the buffers.
 ghost use mathlib.Core.Path.{_≡_};
 ghost use Prim.Native.Nat.{_+_, _*_, _-_, _≤_, _<_, max};
-ghost use lib.ListN.{length};
+ghost use lib.ListN.{length, getD, set};
 ghost use Rattle.theory.specs.Groups.{everyone};
 ghost use Rattle.theory.specs.Words.{list-in, Held-words};
 ghost use Rattle.slots.specs.Slots.{total};
+ghost use Rattle.slots.specs.Links.{last-at};
 ghost use Rattle.peel.specs.Peel.{Peelable, Peels};
-ghost use Rattle.peel.specs.Steps.{Weighed, Degrees, Links, Ranked, Loosable, Loosened, Turned, Numberable, Numbered};
+ghost use Rattle.peel.specs.Steps.{first-end, Blank, Laid, Rows, Row-at, Chains, by-row, by-chain, both-ways, Loosable, Loosened};
+ghost use Rattle.peel.specs.Steps.{Ranked, Turned, Numberable, Numbered};
 ghost use Rattle.peel.specs.Steps.{entry, remaining, picks, denser, Pickable, Remainder-at};
 
 // What is left when `at` modules have left: its inside count p and its size q.
@@ -26,33 +29,78 @@ fn higher_of(a: u32, b: u32) -> u32
     if a < b { b } else { a }
 }
 
-// Each slot weighs what its pair does.
-fn weigh(m: usize, weights: &[u32], hold: &mut [u32])
-    requires { ⌜ m ≤ 4096 ⌝ }
-    requires { ⌜ m ≤ length (now weights) ⌝ }
-    requires { ⌜ 2 * m ≤ length (now hold) ⌝ }
-    ensures { λ r. ⌜ Weighed m (now (weights .entry)) (now (hold .exit)) ⌝ }
+// Adds d to entry i.
+fn add(i: usize, d: u32, xs: &mut [u32])
+    requires { ⌜ i < length (now xs) ⌝ }
+    requires { ⌜ getD (now xs) i 0 + d < 4294967296 ⌝ }
+    ensures { λ r. ⌜ now (xs .exit) ≡ set (now (xs .entry)) i (getD (now (xs .entry)) i 0 + d) ⌝ }
 {
-    let slots = 2 * m;
-    for s in 0..slots {
-        hold[s] = weights[s / 2];
+    xs[i] = xs[i] + d;
+}
+
+// One pass over the pairs: where each module's row ends, the chains of second ends, and the degrees among all modules.
+fn lay_out(
+    n: usize,
+    m: usize,
+    ends: &[u32],
+    weights: &[u32],
+    rows: &mut [u32],
+    first: &mut [u32],
+    next: &mut [u32],
+    degrees: &mut [u32],
+)
+    requires { ⌜ Held-words n m (now ends) (now weights) ⌝ }
+    requires { ⌜ Blank n m (now rows) (now first) (now next) (now degrees) ⌝ }
+    ensures { λ r. ⌜ Laid n m (now (ends .entry)) (now (weights .entry))
+        (now (rows .exit)) (now (first .exit)) (now (next .exit)) (now (degrees .exit)) ⌝ }
+{
+    for j in 0..m {
+        let a = slots::wide(ends[2 * j]);
+        let b = slots::wide(ends[2 * j + 1]);
+        rows[a] = (j + 1) as u32;
+        slots::link(j, b, first, next);
+        add(a, weights[j], degrees);
+        add(b, weights[j], degrees);
     }
 }
 
-// The degrees among all modules: what each module's slots weigh.
-fn count(n: usize, m: usize, ends: &[u32], weights: &[u32], degrees: &mut [u32])
-    requires { ⌜ Held-words n m (now ends) (now weights) ⌝ }
-    requires { ⌜ n ≤ length (now degrees) ⌝ }
-    ensures { λ r. ⌜ Degrees n (list-in n m (now (ends .entry)) (now (weights .entry))) (now (degrees .exit)) ⌝ }
+// The place before k in the row of v, and 1 more; 0 where the row begins at k.
+fn earlier(k: usize, v: usize, ends: &[u32]) -> usize
+    requires { ⌜ Row-at k v (now ends) ⌝ }
+    ensures { λ r. ⌜ r ≡ last-at k (first-end (now (ends .entry))) v ⌝ }
 {
-    let own = [0u32; 512];
-    let mut hold = [0u32; 8192];
-    weigh(m, weights, &mut hold);
-    slots::loads(n, m, &own, ends, &hold, degrees);
+    if k == 0 {
+        return 0;
+    }
+    let a = slots::wide(ends[2 * (k - 1)]);
+    if a == v { k } else { 0 }
 }
 
-// Module v has left: those that its pairs join it to fall in the ranking.
-fn loosen(
+// Module v has left: the second ends of the pairs in its row fall in the ranking.
+fn loosen_row(
+    n: usize,
+    m: usize,
+    v: usize,
+    ends: &[u32],
+    weights: &[u32],
+    rows: &[u32],
+    work: &mut [u32],
+)
+    requires { ⌜ Loosable n m v (by-row (now ends) (now weights) v m) (now ends) (now weights) (now work) ⌝ }
+    requires { ⌜ Rows n m (now ends) (now rows) ⌝ }
+    ensures { λ r. ⌜ Loosened (by-row (now (ends .entry)) (now (weights .entry)) v m) (now (work .entry)) (now (work .exit)) ⌝ }
+{
+    let mut s = slots::wide(rows[v]);
+    while s > 0 {
+        let k = s - 1;
+        let b = slots::wide(ends[2 * k + 1]);
+        ranking::lower(b, weights[k], work);
+        s = earlier(k, v, ends);
+    }
+}
+
+// And the first ends of the pairs in its chain.
+fn loosen_chain(
     n: usize,
     m: usize,
     v: usize,
@@ -62,16 +110,38 @@ fn loosen(
     next: &[u32],
     work: &mut [u32],
 )
-    requires { ⌜ Loosable n m v (now ends) (now weights) (now first) (now next) (now work) ⌝ }
-    ensures { λ r. ⌜ Loosened (2 * m) v (now (ends .entry)) (now (weights .entry)) (now (work .entry)) (now (work .exit)) ⌝ }
+    requires { ⌜ Loosable n m v (by-chain (now ends) (now weights) v m) (now ends) (now weights) (now work) ⌝ }
+    requires { ⌜ Chains n m (now ends) (now first) (now next) ⌝ }
+    ensures { λ r. ⌜ Loosened (by-chain (now (ends .entry)) (now (weights .entry)) v m) (now (work .entry)) (now (work .exit)) ⌝ }
 {
     let mut s = slots::wide(first[v]);
     while s > 0 {
         let k = s - 1;
-        let u = slots::wide(ends[slots::other(k)]);
-        ranking::lower(u, weights[k / 2], work);
+        let a = slots::wide(ends[2 * k]);
+        ranking::lower(a, weights[k], work);
         s = slots::wide(next[k]);
     }
+}
+
+// All that its pairs join it to.
+fn loosen(
+    n: usize,
+    m: usize,
+    v: usize,
+    ends: &[u32],
+    weights: &[u32],
+    rows: &[u32],
+    first: &[u32],
+    next: &[u32],
+    work: &mut [u32],
+)
+    requires { ⌜ Loosable n m v (both-ways (now ends) (now weights) v m) (now ends) (now weights) (now work) ⌝ }
+    requires { ⌜ Rows n m (now ends) (now rows) ⌝ }
+    requires { ⌜ Chains n m (now ends) (now first) (now next) ⌝ }
+    ensures { λ r. ⌜ Loosened (both-ways (now (ends .entry)) (now (weights .entry)) v m) (now (work .entry)) (now (work .exit)) ⌝ }
+{
+    loosen_row(n, m, v, ends, weights, rows, work);
+    loosen_chain(n, m, v, ends, weights, first, next, work);
 }
 
 // N turns: who leaves, and with what degree.
@@ -80,6 +150,7 @@ fn turns(
     m: usize,
     ends: &[u32],
     weights: &[u32],
+    rows: &[u32],
     first: &[u32],
     next: &[u32],
     work: &mut [u32],
@@ -87,7 +158,8 @@ fn turns(
     falls: &mut [u32],
 )
     requires { ⌜ Held-words n m (now ends) (now weights) ⌝ }
-    requires { ⌜ Links n m (now ends) (now first) (now next) ⌝ }
+    requires { ⌜ Rows n m (now ends) (now rows) ⌝ }
+    requires { ⌜ Chains n m (now ends) (now first) (now next) ⌝ }
     requires { ⌜ Ranked (list-in n m (now ends) (now weights)) (everyone (list-in n m (now ends) (now weights))) (now work) ⌝ }
     requires { ⌜ n ≤ length (now order) ⌝ }
     requires { ⌜ n ≤ length (now falls) ⌝ }
@@ -99,7 +171,7 @@ fn turns(
         let v = leaver.number;
         order[i] = v as u32;
         falls[i] = leaver.carried;
-        loosen(n, m, v, ends, weights, first, next, work);
+        loosen(n, m, v, ends, weights, rows, first, next, work);
     }
 }
 
@@ -183,19 +255,29 @@ pub fn peel(
         (now (order .entry)) (now (cores .entry)) (now (place .entry))
         (now (order .exit)) (now (cores .exit)) (now (place .exit)) r ⌝ }
 {
+    let mut rows = [0u32; 512];
     let mut first = [0u32; 512];
-    let mut next = [0u32; 8192];
+    let mut next = [0u32; 4096];
     let mut degrees = [0u32; 512];
     let mut work = [0u32; 1024];
     let mut falls = [0u32; 512];
-    slots::links(n, m, ends, &mut first, &mut next);
-    count(n, m, ends, weights, &mut degrees);
+    lay_out(
+        n,
+        m,
+        ends,
+        weights,
+        &mut rows,
+        &mut first,
+        &mut next,
+        &mut degrees,
+    );
     ranking::build(n, &degrees, &mut work);
     turns(
         n,
         m,
         ends,
         weights,
+        &rows,
         &first,
         &next,
         &mut work,

@@ -5,6 +5,8 @@
 mod plain;
 
 use lists::Kind;
+use trials::Listed;
+use trials::Sweep;
 
 // What was seen: lists, their pairs, those that are no held lists, answers that differ; and the random state.
 struct Tally {
@@ -80,7 +82,8 @@ fn alter(
 // Whether peel's answer is that of the plain computation.
 fn agrees(
     n: u32,
-    pairs: &[u32],
+    m: usize,
+    ends: &[u32],
     order: &[u32],
     cores: &[u32],
     place: &[u32],
@@ -91,18 +94,18 @@ fn agrees(
     let mut plain_order = [0u32; 512];
     let mut plain_cores = [0u32; 512];
     let size = lists::wide(n);
-    plain::leaving(size, pairs, &mut plain_order);
+    plain::leaving(size, m, ends, &mut plain_order);
     if !lists::same_words(size, order, &plain_order) {
         return false;
     }
-    plain::core_numbers(n, pairs, &mut plain_cores);
+    plain::core_numbers(n, m, ends, &mut plain_cores);
     if !lists::same_words(size, cores, &plain_cores) {
         return false;
     }
     if !plain::places_right(size, order, place) {
         return false;
     }
-    plain::remainder_right(n, pairs, place, p, q, at)
+    plain::remainder_right(n, m, ends, place, p, q, at)
 }
 
 // Peels a list and compares.
@@ -114,8 +117,6 @@ fn compare(n: u32, m: usize, ends: &[u32], weights: &[u32], altered: Altered) ->
     if !lists::is_held(size, m, ends, weights) {
         return Outcome::Unheld;
     }
-    let words = 2 * m;
-    let pairs = &ends[..words];
     let best = peel::peel(
         size,
         m,
@@ -127,7 +128,7 @@ fn compare(n: u32, m: usize, ends: &[u32], weights: &[u32], altered: Altered) ->
         &mut place,
     );
     let at = alter(altered, &mut order, &mut cores, &mut place, best.at);
-    if agrees(n, pairs, &order, &cores, &place, best.p, best.q, at) {
+    if agrees(n, m, ends, &order, &cores, &place, best.p, best.q, at) {
         Outcome::Same
     } else {
         Outcome::Differs
@@ -135,9 +136,11 @@ fn compare(n: u32, m: usize, ends: &[u32], weights: &[u32], altered: Altered) ->
 }
 
 // Makes a list and looks at it.
-fn attempt(kind: Kind, n: u32, altered: Altered, tally: Tally) -> Tally {
+fn attempt(list: Listed, altered: Altered, tally: Tally) -> Tally {
     let mut ends = [0u32; 8192];
     let mut weights = [0u32; 4096];
+    let kind = list.kind;
+    let n = list.n;
     let walk = lists::fill(kind, n, tally.state, &mut ends, &mut weights);
     seen(
         tally,
@@ -147,66 +150,14 @@ fn attempt(kind: Kind, n: u32, altered: Altered, tally: Tally) -> Tally {
     )
 }
 
-// Every list of n modules: `count` masks.
-fn masks(n: u32, count: u32, altered: Altered, tally: Tally) -> Tally {
-    let mut now = tally;
-    let mut mask = 0;
-    while mask < count {
-        now = attempt(Kind::Mask(mask), n, altered, now);
-        mask += 1;
-    }
-    now
-}
-
-// Every list of 1 to 5 modules.
-fn every(altered: Altered) -> Tally {
-    let one = masks(1, 1, altered, start());
-    let two = masks(2, 2, altered, one);
-    let three = masks(3, 8, altered, two);
-    let four = masks(4, 64, altered, three);
-    masks(5, 1024, altered, four)
-}
-
-// `count` lists of one kind.
-fn several(kind: Kind, n: u32, count: u32, altered: Altered, tally: Tally) -> Tally {
-    let mut now = tally;
+// The lists of a sweep, one after the other.
+fn attempts(sweep: Sweep, altered: Altered) -> Tally {
+    let count = trials::how_many(sweep);
+    let mut now = start();
     let mut i = 0;
     while i < count {
-        now = attempt(kind, n, altered, now);
+        now = attempt(trials::list_at(sweep, i), altered, now);
         i += 1;
-    }
-    now
-}
-
-// Lists of n modules, each pair taken 1, 2, .. 15 times of 16.
-fn densities(n: u32, count: u32, altered: Altered, tally: Tally) -> Tally {
-    let mut now = tally;
-    let mut i = 1;
-    while i < 16 {
-        now = several(Kind::Chance(4096 * i), n, count, altered, now);
-        i += 1;
-    }
-    now
-}
-
-// Lists of 6 to 12 modules.
-fn small(count: u32, altered: Altered) -> Tally {
-    let mut now = start();
-    let mut n = 6;
-    while n < 13 {
-        now = densities(n, count, altered, now);
-        n += 1;
-    }
-    now
-}
-
-// Lists of one kind, of 1 to 40 modules.
-fn sizes(kind: Kind) -> Tally {
-    let mut now = start();
-    let mut n = 1;
-    while n < 41 {
-        now = attempt(kind, n, Altered::Nothing, now);
-        n += 1;
     }
     now
 }
@@ -225,17 +176,42 @@ fn line(name: &[u8], tally: Tally) {
     io::write_all(1, b"\n");
 }
 
+// Every list of 1 to 5 modules.
+fn every(name: &[u8], altered: Altered) {
+    line(name, attempts(Sweep::Every, altered));
+}
+
+// `count` lists of a kind: `each` of every number of modules from `least` on.
+fn alike(name: &[u8], kind: Kind, least: u32, each: u32, count: u32) {
+    let sweep = Sweep::Alike {
+        kind,
+        least,
+        each,
+        count,
+    };
+    line(name, attempts(sweep, Altered::Nothing));
+}
+
+// A list of each number of modules from 1 to 40.
+fn sizes(name: &[u8], kind: Kind) {
+    alike(name, kind, 1, 1, 40);
+}
+
+// Lists of 512 modules.
 fn large(name: &[u8], kind: Kind, count: u32) {
-    line(name, several(kind, 512, count, Altered::Nothing, start()));
+    alike(name, kind, 512, count, count);
 }
 
 fn main() {
-    line(b"every list of 1 to 5 modules", every(Altered::Nothing));
-    line(b"drawn, 6 to 12 modules", small(40, Altered::Nothing));
-    line(b"cycles, 1 to 40 modules", sizes(Kind::Cycle));
-    line(b"full, 1 to 40 modules", sizes(Kind::Cliques(512)));
-    line(b"stars, 1 to 40 modules", sizes(Kind::Star));
-    line(b"triangles, 1 to 40 modules", sizes(Kind::Cliques(3)));
+    every(b"every list of 1 to 5 modules", Altered::Nothing);
+    line(
+        b"drawn, 6 to 12 modules",
+        attempts(Sweep::Drawn, Altered::Nothing),
+    );
+    sizes(b"cycles, 1 to 40 modules", Kind::Cycle);
+    sizes(b"full, 1 to 40 modules", Kind::Cliques(512));
+    sizes(b"stars, 1 to 40 modules", Kind::Star);
+    sizes(b"triangles, 1 to 40 modules", Kind::Cliques(3));
     large(b"drawn, 512 modules", Kind::Chance(2200), 4);
     large(b"thin, 512 modules", Kind::Chance(500), 4);
     large(
@@ -260,8 +236,8 @@ fn main() {
     large(b"cliques of 16, 512 modules", Kind::Cliques(16), 1);
     large(b"clique with trees, 512 modules", Kind::Hung(80), 1);
     large(b"no pairs, 512 modules", Kind::Chance(0), 1);
-    line(b"order altered", every(Altered::Order));
-    line(b"cores altered", every(Altered::Cores));
-    line(b"places altered", every(Altered::Place));
-    line(b"remainder altered", every(Altered::Remainder));
+    every(b"order altered", Altered::Order);
+    every(b"cores altered", Altered::Cores);
+    every(b"places altered", Altered::Place);
+    every(b"remainder altered", Altered::Remainder);
 }

@@ -1,11 +1,13 @@
 // Push phases (push-relabel): they balance a split before the exact search of crate `flow`, which is what decides.
 //
 // A phase gives each module a label: its distance from a module of the scope loaded below p, along slots that hold units (breadth first,
-// backward). Modules loaded above p then stand in line. The first one sends what it has too much to modules with a lower label, gets a label just
-// above the lowest that it can reach, and lines up again if it still has too much. Where the line's 1,024 places are used up, the phase ends.
+// backward). Modules loaded above p then stand in line. The first one sends what it has too much to modules with a lower label, along its links from
+// where it stopped last. If it still has too much, it gets a label just above the lowest that it can reach, and lines up again. Where the line's 1,024
+// places are used up, the phase ends.
 // Whatever the labels say, units move within pairs only (`slots::shift`): the promise is that a split stays a split. How well it is balanced is free.
 // Cost: a phase takes a step for each slot of the modules that it labels and of those that come up in line. Nothing is refused.
 use slots::capped;
+use slots::copy;
 use slots::least;
 use slots::other;
 use slots::shift;
@@ -225,7 +227,7 @@ fn push(
     tail
 }
 
-// The same along all links of v.
+// The same along the links of v, from where v stopped last (the current arc), until it is not loaded above p.
 fn push_from(
     n: usize,
     m: usize,
@@ -233,24 +235,25 @@ fn push_from(
     v: usize,
     tail: usize,
     ends: &[u32],
-    first: &[u32],
     next: &[u32],
     label: &[u32],
     hold: &mut [u32],
     load: &mut [u32],
+    arc: &mut [u32],
     line: &mut [u32],
 ) -> usize
     requires { ⌜ Ends n m (now ends) ⌝ }
-    requires { ⌜ (v < length (now first)) × (2 * m ≤ length (now next)) × (n ≤ length (now label)) ⌝ }
+    requires { ⌜ (v < n) × (2 * m ≤ length (now next)) × (n ≤ length (now label)) ⌝ }
     requires { ⌜ Room m (now hold) ⌝ }
     requires { ⌜ Covers n m (now ends) (now hold) (now load) ⌝ }
-    requires { ⌜ tail ≤ length (now line) ⌝ }
+    requires { ⌜ (n ≤ length (now arc)) × (tail ≤ length (now line)) ⌝ }
     ensures { λ r. ⌜ r ≤ length (now (line .entry)) ⌝ }
     ensures { λ r. ⌜ Kept n m (now (ends .entry)) (now (hold .entry)) (now (load .entry)) (now (hold .exit)) (now (load .exit)) ⌝ }
 {
     let mut t = tail;
-    let mut s = capped(first[v], 2 * m);
-    while s > 0 {
+    let mut s = capped(arc[v], 2 * m);
+    while s > 0 && p < load[v] {
+        arc[v] = s as u32;
         let k = s - 1;
         s = capped(next[k], k);
         t = push(n, m, p, k, t, ends, label, hold, load, line);
@@ -285,7 +288,7 @@ fn relabel(
     above(low)
 }
 
-// Module v sends on what it has above p. If some is left, it gets a new label and joins the line, unless it is far.
+// Module v sends on what it has above p. If some is left, it gets a new label, begins at its first link again, and joins the line unless it is far.
 fn discharge(
     n: usize,
     m: usize,
@@ -298,6 +301,7 @@ fn discharge(
     hold: &mut [u32],
     load: &mut [u32],
     label: &mut [u32],
+    arc: &mut [u32],
     line: &mut [u32],
 ) -> usize
     requires { ⌜ n ≤ 512 ⌝ }
@@ -305,14 +309,15 @@ fn discharge(
     requires { ⌜ (v < n) × (n ≤ length (now first)) × (2 * m ≤ length (now next)) ⌝ }
     requires { ⌜ Room m (now hold) ⌝ }
     requires { ⌜ Covers n m (now ends) (now hold) (now load) ⌝ }
-    requires { ⌜ (n ≤ length (now label)) × (tail ≤ length (now line)) ⌝ }
+    requires { ⌜ (n ≤ length (now label)) × (n ≤ length (now arc)) × (tail ≤ length (now line)) ⌝ }
     ensures { λ r. ⌜ r ≤ length (now (line .entry)) ⌝ }
     ensures { λ r. ⌜ Kept n m (now (ends .entry)) (now (hold .entry)) (now (load .entry)) (now (hold .exit)) (now (load .exit)) ⌝ }
 {
-    let t = push_from(n, m, p, v, tail, ends, first, next, label, hold, load, line);
+    let t = push_from(n, m, p, v, tail, ends, next, label, hold, load, arc, line);
     if p < load[v] {
         let d = relabel(n, m, v, ends, first, next, hold, label);
         label[v] = d;
+        arc[v] = first[v];
         if d < FAR {
             return join(v as u32, t, line);
         }
@@ -332,6 +337,7 @@ fn serve(
     hold: &mut [u32],
     load: &mut [u32],
     label: &mut [u32],
+    arc: &mut [u32],
     line: &mut [u32],
 )
     requires { ⌜ n ≤ 512 ⌝ }
@@ -339,7 +345,7 @@ fn serve(
     requires { ⌜ (n ≤ length (now first)) × (2 * m ≤ length (now next)) ⌝ }
     requires { ⌜ Room m (now hold) ⌝ }
     requires { ⌜ Covers n m (now ends) (now hold) (now load) ⌝ }
-    requires { ⌜ (n ≤ length (now label)) × (count ≤ length (now line)) ⌝ }
+    requires { ⌜ (n ≤ length (now label)) × (n ≤ length (now arc)) × (count ≤ length (now line)) ⌝ }
     ensures { λ r. ⌜ Kept n m (now (ends .entry)) (now (hold .entry)) (now (load .entry)) (now (hold .exit)) (now (load .exit)) ⌝ }
 {
     let mut at = 0;
@@ -348,7 +354,21 @@ fn serve(
         let v = wide(line[at]);
         at = at + 1;
         if v < n {
-            tail = discharge(n, m, p, v, tail, ends, first, next, hold, load, label, line);
+            tail = discharge(
+                n,
+                m,
+                p,
+                v,
+                tail,
+                ends,
+                first,
+                next,
+                hold,
+                load,
+                label,
+                arc,
+                line,
+            );
         }
     }
 }
@@ -373,6 +393,7 @@ fn phase(
     ensures { λ r. ⌜ Kept n m (now (ends .entry)) (now (hold .entry)) (now (load .entry)) (now (hold .exit)) (now (load .exit)) ⌝ }
 {
     let mut label = [0u32; 512];
+    let mut arc = [0u32; 512];
     let mut reached = [0u32; 512];
     let mut line = [0u32; 1024];
     let count = label_all(
@@ -389,6 +410,7 @@ fn phase(
         &mut reached,
     );
     let waiting = line_up(n, p, count, &reached, load, &mut line);
+    copy(n, first, &mut arc);
     serve(
         n,
         m,
@@ -400,6 +422,7 @@ fn phase(
         hold,
         load,
         &mut label,
+        &mut arc,
         &mut line,
     );
     waiting > 0

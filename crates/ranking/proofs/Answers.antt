@@ -1,7 +1,9 @@
 -- What `build`, `lower` and `take` leave is what their contracts say.
 --   key-has           a word below `gone` is a module present
 --   built             keys and both levels
+--   wraps             the least of what is taken and the next number, which wraps to 0 past `gone`
 --   falls, falls-le   by how much a key falls; it is at least as large
+--   falls-from        a key below `gone` has in it what is taken from it
 --   lowered           a key is lowered
 --   root-first        the root is the first one's key
 --   taken             the first one's key is gone
@@ -9,7 +11,7 @@
 use mathlib.Core.Path.{_≡_, refl, sym, ap, _∙_}
 use mathlib.Core.Bool.{Bool, true, false, _&&_, not, cond, and-true, and-false}
 use mathlib.Core.List.{List}
-use Prim.Native.Nat.{ℕ, _+_, _*_, _-_, _/_, _≤_, _<_, min}
+use Prim.Native.Nat.{ℕ, _+_, _*_, _-_, _/_, _%_, _≤_, _<_, min}
 use native.Mathlib.Omega.{arith}
 use lib.Dec.{ltb, eqb}
 use lib.ListN.{length, getD, set}
@@ -74,6 +76,15 @@ put-ranking work m x y z h r ys zs fits =
 
 -- ---- lower
 
+-- a key that is gone falls by nothing, any other by all of it
+pub wraps : (k by : ℕ) → k < 4294967296 → (k < gone → 512 * by ≤ k) → min (512 * by) ((k + 1) % 4294967296) ≡ cond (ltb k gone) (512 * by) 0
+unfolding gone
+wraps k by small l = go (ltb k gone) refl
+  where
+    go : (t : Bool) → ltb k gone ≡ t → min (512 * by) ((k + 1) % 4294967296) ≡ cond t (512 * by) 0
+    go true e = let i : k < gone = ltb-true k gone e in omega (arith, l i)
+    go false e = let i : gone ≤ k = ltb-false k gone e in omega arith
+
 module _ (work : List ℕ) (m by : ℕ) (h : m < 512) (r : Ranking work) (l : has work m ≡ true → by ≤ carries work m) where
   -- a module present has in its key what is taken from it
   lower-le : has work m ≡ true → 512 * by ≤ getD work m 0
@@ -91,6 +102,9 @@ module _ (work : List ℕ) (m by : ℕ) (h : m < 512) (r : Ranking work) (l : ha
       go : (t : Bool) → ltb (getD work m 0) gone ≡ t → P (cond t (512 * by) 0)
       go true e = here (key-has work m h (ltb-true (getD work m 0) gone e))
       go false e = gone′ (ltb-false (getD work m 0) gone e)
+
+  pub falls-from : getD work m 0 < gone → 512 * by ≤ getD work m 0
+  falls-from i = lower-le (key-has work m h i)
 
   pub falls-le : falls ≤ getD work m 0
   falls-le = falls-cases (λ f. f ≤ getD work m 0) lower-le (λ _. omega arith)

@@ -7,12 +7,12 @@
 --   parts-ready, parts-audited                   audit_list: the parts in front
 --   file-refused, list-ready, list-audited       audit: the pair file's list
 -- Assumes nothing.
-use mathlib.Core.Path.{_≡_, refl, sym, ap, _∙_, subst}
+use mathlib.Core.Path.{_≡_, refl, sym, ap, _∙_}
 use mathlib.Core.Bool.{Bool, true, false, _&&_, cond, not, and-false}
 use mathlib.Core.List.{List, [], _∷_, _++_}
 use Prim.Native.Nat.{ℕ, zero, suc, _≤_}
 use native.Mathlib.Omega.{arith}
-use borrow.Author.Tests.{eqb-true, eq-eqb, ne-eqb}
+use borrow.Author.Tests.{eq-eqb, ne-eqb}
 use lib.Dec.{eqb}
 use lib.ListN.{length, take, drop, replicate, length-replicate}
 use lib.Seq.{take-all, length-take-le, take-at}
@@ -20,7 +20,7 @@ use Rattle.theory.specs.Lists.{Pair, Pairs, is-list}
 use Rattle.theory.specs.Groups.{inside, size}
 use Rattle.theory.specs.Splits.{rounded-up}
 use Rattle.theory.specs.Words.{list-in, Held-words}
-use Rattle.theory.specs.Cores.{core, core-number, core-numbers}
+use Rattle.theory.specs.Cores.{core-number, core-numbers}
 use Rattle.theory.specs.Refusals.{Cause, cause, refusal, if-taken}
 use Rattle.theory.specs.Check.{check-causes, check-number}
 use Rattle.theory.proofs.Tests.{tests}
@@ -29,7 +29,7 @@ use Rattle.theory.proofs.Refusals.{refusal-none, refusal-passed}
 use Rattle.pairs.proofs.Causes.{refusal-first}
 use Rattle.pairs.proofs.Weights.{length-ones, ones-at, pairs-ones}
 use Rattle.theory.proofs.Lists.{Listed, listed}
-use Rattle.pairfile.specs.Outcomes.{Outcome, refused, taken, _>>=_, _>>_, passed, judge}
+use Rattle.pairfile.specs.Outcomes.{taken, _>>=_, _>>_, passed, judge}
 use Rattle.pairfile.specs.Answers.{FileRead}
 use Rattle.pairfile.specs.declared.Reading.{Reading}
 use Rattle.pairfile.proofs.Judged.{judge-refused}
@@ -40,7 +40,7 @@ use Rattle.verify.specs.declared.Verdict.{Verdict}
 use Rattle.sheetfile.specs.Sheet.{Sheet, read-sheet}
 use Rattle.sheetfile.specs.Audit.{ratio-good, core-good, head-causes, sheet-causes, audit-sheet, audit, verdict-of}
 use Rattle.sheetfile.specs.Answers.{list-of, sheet-of, SheetRead, at-least, judged-head, Ones, Blank, Beside}
-use Rattle.sheetfile.specs.declared.Head.{Head}
+use Rattle.sheetfile.specs.declared.SheetHead.{SheetHead}
 use Rattle.sheetfile.proofs.Reading.{unless-some, unless-none}
 use Rattle.sheetfile.proofs.Tallies.{core-size}
 
@@ -66,7 +66,7 @@ cores-few {n} {m} {ends} b = omega (arith, b .few, ap {B = ℕ} length (b .numbe
 
 -- ---- judge_head
 
-module _ (h : Head) (v : Verdict) (cores : List ℕ) where
+module _ (h : SheetHead) (v : Verdict) (cores : List ℕ) where
   pub p-differs : (h .p ≡ v .p → ⊥) → refused-by 107 ≡ judged-head h v cores
   unfolding judged-head
   p-differs n = rw (ne-eqb (h .p) (v .p) n)
@@ -113,7 +113,7 @@ check-then g s xs ds e =
     let c = refusal-none 8 _ _ (b .1) in
     refusal-passed 7 _ _ (a .0) ∙ refusal-passed 8 _ _ (b .0) ∙ refusal-passed 9 _ _ (c .0)
 
-module _ (g : Pairs) (bytes : List ℕ) {s xs : List ℕ} {h : Head} (r : SheetRead (read-sheet g bytes) s xs h) where
+module _ (g : Pairs) (bytes : List ℕ) {s xs : List ℕ} {h : SheetHead} (r : SheetRead (read-sheet g bytes) s xs h) where
   -- 101 to 106
   pub sheet-refused : (h .number ≡ 0 → ⊥) → refused-by (h .number) ≡ verdict-of (audit-sheet g bytes)
   unfolding audit-sheet _>>=_ verdict-of

@@ -1,11 +1,10 @@
 -- The parts of a sheet put together: what each way through read_body and read_sheet gives.
 --   members-refused, numbers-refused, shares-refused, bytes-follow, body-whole       read_body
---   head-none, head-unfit, head-read                                                 read_sheet
+--   head-none, head-small, head-unfit, head-read                                     read_sheet
 -- Assumes nothing.
-use mathlib.Core.Path.{_≡_, refl, sym, ap, _∙_}
-use mathlib.Core.Bool.{Bool, true, false, not, _&&_, and-false}
-use mathlib.Core.List.{List, [], _∷_}
-use mathlib.Core.Option.{none}
+use mathlib.Core.Path.{_≡_, refl, ap, _∙_}
+use mathlib.Core.Bool.{Bool, true, false, _&&_, and-false}
+use mathlib.Core.List.{List, []}
 use mathlib.Core.Logic.{_⊎_, ⊎-elim}
 use Prim.Native.Nat.{ℕ, zero, suc, _≤_, _<_}
 use native.Mathlib.Omega.{arith}
@@ -13,12 +12,13 @@ use borrow.Author.Tests.{ltb-true, ltb-false, lt-leb, le-leb, lt-ltb, le-ltb}
 use lib.Dec.{leb, ltb}
 use lib.ListN.{length, getD, take, drop, length-drop}
 use lib.Seq.{getD-take}
+use Rattle.theory.specs.Basics.{mark}
 use Rattle.theory.specs.Lists.{Pairs}
 use Rattle.theory.specs.Refusals.{cause, refusal}
 use Rattle.pairs.specs.Located.{ones-in}
-use Rattle.pairfile.specs.Text.{between}
-use Rattle.pairfile.specs.Lines.{first, second, line-of}
-use Rattle.pairfile.specs.Outcomes.{Outcome, refused, taken, _>>=_, _>>_, passed, judge}
+use Rattle.pairfile.specs.Text.{text, between}
+use Rattle.pairfile.specs.Lines.{first, second, is-place, places}
+use Rattle.pairfile.specs.Outcomes.{Outcome, taken, _>>=_, _>>_, passed, judge}
 use Rattle.pairfile.specs.Answers.{LineFound}
 use Rattle.pairfile.specs.declared.FoundLine.{FoundLine}
 use Rattle.pairfile.specs.declared.FoundLine.the-variants.{Malformed}
@@ -30,7 +30,6 @@ use Rattle.sheetfile.specs.Sheet.{
   due,
   Part,
   Body,
-  Sheet,
   read-members,
   read-numbers,
   read-shares,
@@ -42,8 +41,8 @@ use Rattle.sheetfile.specs.Sheet.{
 }
 use Rattle.sheetfile.specs.Answers.{unless-number, PartRead, NumbersRead, list-of, Beside, BodyRead, sheet-of, SheetRead}
 use Rattle.sheetfile.specs.declared.Lines.{Lines}
-use Rattle.sheetfile.specs.declared.Head.{Head}
-use Rattle.sheetfile.proofs.Reading.{unless-some, unless-none, ends-reading, goes-on}
+use Rattle.sheetfile.specs.declared.SheetHead.{SheetHead}
+use Rattle.sheetfile.proofs.Reading.{line-small, ends-reading, goes-on}
 
 -- ---- read_body
 
@@ -106,11 +105,11 @@ module _ {n m : ℕ} {ends cores s₀ : List ℕ} (b : Beside n m ends cores s�
 
 -- ---- read_sheet
 
-abbrev pub refused-head : (number : ℕ) → Head
+abbrev pub refused-head : (number : ℕ) → SheetHead
 refused-head k = record { number = k; p = 0; q = 0; k = 0; coresize = 0 }
 
 -- the head's numbers, as they lie in a buffer
-abbrev pub head-in : (number : ℕ) → (numbers : List ℕ) → Head
+abbrev pub head-in : (number : ℕ) → (numbers : List ℕ) → SheetHead
 head-in k ns = record { number = k; p = getD ns 0 0; q = getD ns 1 0; k = getD ns 2 0; coresize = getD ns 3 0 }
 
 -- 101
@@ -118,6 +117,11 @@ pub head-none : {bs ms ns : List ℕ} {r : FoundLine} → LineFound bs 0 head-fo
     SheetRead (read-sheet g bs) s xs (refused-head 101)
 unfolding read-sheet due _>>=_ unless-number
 head-none f g s xs e = record { found = rw (malformed f e); some = λ z. absurd (omega (arith, z)) }
+
+-- Q has at most four digits
+pub head-small : {bs ns : List ℕ} {i : ℕ} → LineHas head-form 4 bs 0 ns i → getD ns 1 0 ≤ 9999
+unfolding head-form text places is-place between mark
+head-small {bs} {ns} f = omega (arith, line-small head-form bs _ 1 (f .found) (omega arith), getD-take 4 ns 1 0 (omega arith))
 
 module _ {bs ns : List ℕ} {i : ℕ} (f : LineHas head-form 4 bs 0 ns i) (g : Pairs) where
   abbrev n : ℕ
@@ -134,14 +138,14 @@ module _ {bs ns : List ℕ} {i : ℕ} (f : LineHas head-form 4 bs 0 ns i) (g : P
   after-head = rw (f .found, getD-take 4 ns 1 0 (omega arith))
 
   -- 102
-  pub head-unfit : {w : ℕ} → w ≡ q → (s xs : List ℕ) → (w < 1) ⊎ (ltb n w ≡ true) → SheetRead (read-sheet g bs) s xs (refused-head 102)
+  pub head-unfit : (s xs : List ℕ) → (q < 1) ⊎ (ltb n q ≡ true) → SheetRead (read-sheet g bs) s xs (refused-head 102)
   unfolding judge passed refusal cause ratio-causes between _>>_ unless-number
-  head-unfit {w} e s xs h = record { found = after-head ∙ rw met; some = λ z. absurd (omega (arith, z)) }
+  head-unfit s xs h = record { found = after-head ∙ rw met; some = λ z. absurd (omega (arith, z)) }
     where
       met : (leb 1 q && leb q n) ≡ false
       met =
-          ⊎-elim (λ l. ap (λ (t : Bool). t && leb q n) (lt-leb 1 q (omega (arith, e, l))))
-          (λ l. ap (λ (t : Bool). leb 1 q && t) (lt-leb q n (omega (arith, e, ltb-true n w l))) ∙ and-false (leb 1 q)) h
+          ⊎-elim (λ l. ap (λ (t : Bool). t && leb q n) (lt-leb 1 q (omega (arith, l))))
+          (λ l. ap (λ (t : Bool). leb 1 q && t) (lt-leb q n (omega (arith, ltb-true n q l))) ∙ and-false (leb 1 q)) h
 
   -- the numbers are those in the buffer
   same-sheet : (s xs : List ℕ) (k : ℕ) →
@@ -158,14 +162,11 @@ module _ {bs ns : List ℕ} {i : ℕ} (f : LineHas head-form 4 bs 0 ns i) (g : P
   with-body s xs (suc k) = refl
 
   -- the rest decides
-  pub head-read : {w : ℕ} → w ≡ q → 1 ≤ w → ltb n w ≡ false → {s xs : List ℕ} {k : ℕ} → BodyRead (read-body g w (drop i bs)) s xs k →
+  pub head-read : 1 ≤ q → ltb n q ≡ false → {s xs : List ℕ} {k : ℕ} → BodyRead (read-body g q (drop i bs)) s xs k →
       SheetRead (read-sheet g bs) s xs (head-in k ns)
   unfolding judge passed refusal cause ratio-causes between _>>_
-  head-read {w} e low high {s} {xs} {k} b =
-      let low′ : 1 ≤ q = omega (arith, e, low) in
-      let high′ : q ≤ n = omega (arith, e, ltb-false n w high) in
-      let rest : read-body g q (drop i bs) ≡ unless-number k (record { members = s; shares = xs }) = rw e at (b .found) in
+  head-read low high {s} {xs} {k} b =
       record {
-        found = after-head ∙ rw (le-leb 1 q low′, le-leb q n high′, rest) (with-body s xs k);
-        some = λ z. low′;
+        found = after-head ∙ rw (le-leb 1 q low, le-leb q n (ltb-false n q high), b .found) (with-body s xs k);
+        some = λ z. low;
       }

@@ -5,20 +5,20 @@
 --   number-none, number-unfit, number-fit        a number line: 101, 104
 --   share-none, share-unfit, share-fit           a share line: 101, 105
 -- Assumes nothing.
-use mathlib.Core.Path.{_≡_, refl, sym, ap, _∙_}
+use mathlib.Core.Path.{_≡_, refl, ap, _∙_}
 use mathlib.Core.Bool.{Bool, true, false, not, _&&_, and-false}
 use mathlib.Core.List.{List, [], _∷_}
 use mathlib.Core.Option.{none, some}
 use mathlib.Core.Logic.{_⊎_, ⊎-elim}
-use Prim.Native.Nat.{ℕ, zero, suc, _≤_, _<_}
+use Prim.Native.Nat.{ℕ, suc, _≤_, _<_}
 use native.Mathlib.Omega.{arith}
 use borrow.Author.Tests.{lt-leb, le-leb, lt-ltb, le-ltb, eq-eqb, ne-eqb}
 use lib.Dec.{leb, ltb, eqb}
-use lib.ListN.{length, getD, take, drop}
+use lib.ListN.{length, getD, drop}
 use lib.Seq.{getD-take}
 use Rattle.theory.specs.Refusals.{Cause, cause, refusal}
 use Rattle.pairfile.specs.Lines.{Line, first, second, line-of}
-use Rattle.pairfile.specs.Outcomes.{refused, taken, _>>=_, _>>_, passed, judge}
+use Rattle.pairfile.specs.Outcomes.{taken, _>>=_, _>>_, passed, judge}
 use Rattle.pairfile.specs.Answers.{LineFound, one-number-in, number-end, CountFound}
 use Rattle.pairfile.specs.declared.FoundNumber.{FoundNumber}
 use Rattle.pairfile.specs.declared.FoundNumber.the-variants.{Number as number, Missing}
@@ -27,14 +27,14 @@ use Rattle.pairfile.specs.declared.FoundLine.the-variants.{Malformed}
 use Rattle.pairfile.proofs.Judged.{LineHas, malformed}
 use Rattle.sheetfile.specs.Sheet.{member-form, number-form, share-form, third, due, judged-line, member-line, number-line, share-line}
 use Rattle.sheetfile.specs.Answers.{unless-number, LineRead}
-use Rattle.sheetfile.specs.declared.Found.{Found}
+use Rattle.sheetfile.specs.declared.OneLine.{OneLine}
 
 -- a refused line
-abbrev pub refused-line : (number : ℕ) → Found
+abbrev pub refused-line : (number : ℕ) → OneLine
 refused-line k = record { number = k; value = 0; next = 0 }
 
 -- a line that is taken
-abbrev pub found-line : (value next : ℕ) → Found
+abbrev pub found-line : (value next : ℕ) → OneLine
 found-line v i = record { number = 0; value = v; next = i }
 
 -- a line whose own cause is not met

@@ -1,12 +1,13 @@
 -- Lines of a sheet read one after another: the three loops.
 --   Accepted-line, accepted-line       what is known of a line that is taken
+--   line-small                         a number on it has at most four digits
 --   unless-none, unless-some           a number that is 0, and one that is not
 --   ends-reading, goes-on              a refusal ends the reading, and what is taken goes on
 --   Marked, marked-start, marked-index, marked-refused, marked-step, marked-done       member lines
 --   Counted, counted-start, counted-refused, counted-step, counted-done                number lines
 --   Shared, shared-start, shared-small, shared-refused, shared-step, shared-done       share lines
 -- Assumes nothing.
-use mathlib.Core.Path.{_≡_, refl, sym, ap, _∙_}
+use mathlib.Core.Path.{_≡_, refl, ap, _∙_}
 use mathlib.Core.Bool.{Bool, true, false, not, _&&_}
 use mathlib.Core.List.{List, [], _∷_, _++_}
 use mathlib.Core.Option.{Option, none, some}
@@ -36,7 +37,6 @@ use Rattle.sheetfile.specs.Sheet.{
   third,
   due,
   judged-line,
-  Part,
   member-line,
   read-members,
   number-line,
@@ -45,7 +45,7 @@ use Rattle.sheetfile.specs.Sheet.{
   read-shares,
 }
 use Rattle.sheetfile.specs.Answers.{unless-number, LineRead, PartRead, NumbersRead}
-use Rattle.sheetfile.specs.declared.Found.{Found}
+use Rattle.sheetfile.specs.declared.OneLine.{OneLine}
 use Rattle.sheetfile.specs.declared.Lines.{Lines}
 
 -- a line that is taken: it is of its form, its own cause is not met, and its number is the one picked
@@ -76,6 +76,13 @@ accepted-line form k test pick bs a e = of-line (line-of form bs) refl e
     of-line none d h = absurd (refused-not-taken h)
     of-line (some l) d h = of-test l d (test l) refl h
 
+-- a number on a line has at most four digits
+pub line-small : (form bs : List ℕ) (l : Line) (i : ℕ) → line-of form bs ≡ some l → i < places form → getD (l .numbers) i 0 ≤ 9999
+unfolding small
+line-small form bs l i e h =
+    let s = line-spelled form bs l e in
+    simp tests at (all-at small (l .numbers) i 0 (s .short) (omega (arith, s .count)))
+
 -- a number that is not 0 is a refusal, and 0 is none
 pub unless-some : {A : Type 0} (k : ℕ) (a : A) → (k ≡ 0 → ⊥) → unless-number k a ≡ refused k
 unfolding unless-number
@@ -96,7 +103,7 @@ pub goes-on : {A B : Type 0} (k : ℕ) (a : A) (f : A → Outcome B) → k ≡ 0
 unfolding _>>=_
 goes-on k a f e = rw (unless-none k a e)
 
-abbrev line-at : Found → (bs : List ℕ) → Number
+abbrev line-at : OneLine → (bs : List ℕ) → Number
 line-at r bs = record { value = r .value; rest = drop (r .next) bs }
 
 abbrev pub stopped : (number : ℕ) → Lines
@@ -133,7 +140,7 @@ module _ {bs : List ℕ} {at q : ℕ} {old s : List ℕ} {i low k : ℕ} (m : Ma
       let z : q - k ≡ 0 = omega arith in
       record { found = m .left ∙ rw z; within = m .within }
 
-  module _ (more : k < q) {r : Found} (l : LineRead bs (member-line (length s) low (drop i bs)) r) where
+  module _ (more : k < q) {r : OneLine} (l : LineRead bs (member-line (length s) low (drop i bs)) r) where
     next-member : read-members q 0 old (drop at bs) ≡
         (do
           a ← unless-number (r .number) (line-at r bs)
@@ -180,7 +187,7 @@ module _ {bs : List ℕ} {at : ℕ} {cores : List ℕ} {i v : ℕ} (m : Counted 
   unfolding read-numbers unless-number
   counted-done h = record { found = m .left ∙ rw (drop-all v cores h); within = m .within }
 
-  module _ (more : v < length cores) {r : Found} (l : LineRead bs (number-line (getD cores v 0) (drop i bs)) r) where
+  module _ (more : v < length cores) {r : OneLine} (l : LineRead bs (number-line (getD cores v 0) (drop i bs)) r) where
     next-number : read-numbers cores (drop at bs) ≡
         (do
           x ← unless-number (r .number) (line-at r bs)
@@ -224,7 +231,7 @@ module _ {bs : List ℕ} {at : ℕ} {ends old xs : List ℕ} {i j : ℕ} (m : Sh
         within = m .within;
       }
 
-  module _ (more : j < length xs) {r : Found} (l : LineRead bs (share-line (getD ends (2 * j) 0) (getD ends (2 * j + 1) 0) (drop i bs)) r) where
+  module _ (more : j < length xs) {r : OneLine} (l : LineRead bs (share-line (getD ends (2 * j) 0) (getD ends (2 * j + 1) 0) (drop i bs)) r) where
     next-share : read-shares pairs [] (drop at bs) ≡
         (do
           u ← unless-number (r .number) (line-at r bs)
@@ -241,12 +248,10 @@ module _ {bs : List ℕ} {at : ℕ} {ends old xs : List ℕ} {i j : ℕ} (m : Sh
     module _ (taken-line : r .number ≡ 0) where
       -- a number on a line has at most four digits, so it fits 16 bits
       pub shared-small : r .value ≤ 9999
-      unfolding share-line share-form text third places is-place between mark small
+      unfolding share-line share-form text third places is-place between mark
       shared-small =
           let a = accepted-line share-form 104 _ third (drop i bs) (line-at r bs) (l .found ∙ unless-none (r .number) (line-at r bs) taken-line) in
-          let s = line-spelled share-form (drop i bs) (a .line) (a .found) in
-          let t = simp tests at (all-at small (a .line .numbers) 2 0 (s .short) (omega (arith, s .count))) in
-          omega (arith, t, a .picked)
+          omega (arith, line-small share-form (drop i bs) (a .line) 2 (a .found) (omega arith), a .picked)
 
       pub shared-step : Shared bs at ends old (set xs j (r .value)) (r .next) (j + 1)
       shared-step =

@@ -4,16 +4,16 @@
 --   accepts-back                                Accepts-back: every best sheet is accepted
 -- Assumes nothing.
 use mathlib.Core.Path.{_≡_, refl, sym, ap, _∙_}
-use mathlib.Core.Bool.{true, false, _&&_}
+use mathlib.Core.Bool.{true}
 use mathlib.Core.List.{List, [], _∷_, _++_, append-assoc, append-nil}
 use mathlib.Core.Option.{some}
 use Prim.Native.Nat.{ℕ, zero, suc, _+_, _≤_, _<_}
 use native.Mathlib.Omega.{arith}
-use borrow.Author.Tests.{le-leb, lt-ltb, le-ltb, eq-eqb}
+use borrow.Author.Tests.{le-leb, lt-ltb, eq-eqb}
 use lib.ListN.{length, set, replicate, length-append, length-replicate}
 use lib.Seq.{set-append-seam}
 use Rattle.theory.specs.Basics.{all, mark}
-use Rattle.theory.specs.Lists.{Pair, Pairs, ends-in-range, is-list}
+use Rattle.theory.specs.Lists.{Pair, Pairs, ends-in-range}
 use Rattle.theory.specs.Groups.{size, inside, bytes-good, is-group}
 use Rattle.theory.specs.Cores.{core, core-numbers}
 use Rattle.theory.specs.Splits.{is-split, greatest-load, rounded-up}
@@ -52,7 +52,7 @@ use Rattle.sheetfile.specs.Sheet.{
   ratio-causes,
   read-sheet,
 }
-use Rattle.sheetfile.specs.Writer.{member-lines, number-lines, share-lines, sheet-file, short, Written, Sheet-back, Accepts-back}
+use Rattle.sheetfile.specs.Writer.{member-lines, number-lines, share-lines, sheet-file, short, Sheet-back, Accepts-back}
 use Rattle.sheetfile.specs.Audit.{ratio-good, core-good, head-causes, sheet-causes, audit-sheet, audit}
 use Rattle.sheetfile.proofs.Judging.{line-taken}
 use Rattle.sheetfile.proofs.Auditing.{check-then}

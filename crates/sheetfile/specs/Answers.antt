@@ -26,9 +26,9 @@ use Rattle.pairs.specs.Located.{ones-in}
 use Rattle.pairfile.specs.Numbers.{Number}
 use Rattle.pairfile.specs.Outcomes.{Outcome, refused, taken}
 use Rattle.sheetfile.specs.Sheet.{Part, Body, Sheet}
-use Rattle.sheetfile.specs.declared.Found.{Found}
+use Rattle.sheetfile.specs.declared.OneLine.{OneLine}
 use Rattle.sheetfile.specs.declared.Lines.{Lines}
-use Rattle.sheetfile.specs.declared.Head.{Head}
+use Rattle.sheetfile.specs.declared.SheetHead.{SheetHead}
 
 -- the value where the number is 0
 unfoldable pub unless-number : {A : Type 0} → (number : ℕ) → A → Outcome A
@@ -36,7 +36,7 @@ unless-number zero a = taken a
 unless-number (suc k) a = refused (suc k)
 
 -- MEMBER_LINE, NUMBER_LINE and SHARE_LINE: the line that is due
-pub record LineRead (bytes : List ℕ) (line : Outcome Number) (r : Found) : Type 0 where
+pub record LineRead (bytes : List ℕ) (line : Outcome Number) (r : OneLine) : Type 0 where
   pub found : line ≡ unless-number (r .number) (record { value = r .value; rest = drop (r .next) bytes })
   pub within : r .next ≤ length bytes
 
@@ -67,11 +67,11 @@ pub record BodyRead (body : Outcome Body) (members shares : List ℕ) (number : 
   pub found : body ≡ unless-number number (record { members = members; shares = shares })
 
 -- the sheet of a head, member bytes and shares
-unfoldable pub sheet-of : Head → (members shares : List ℕ) → Sheet
+unfoldable pub sheet-of : SheetHead → (members shares : List ℕ) → Sheet
 sheet-of h s xs = record { p = h .p; q = h .q; k = h .k; coresize = h .coresize; members = s; shares = xs }
 
 -- READ_SHEET: after a refusal members and shares are free
-pub record SheetRead (sheet : Outcome Sheet) (members shares : List ℕ) (h : Head) : Type 0 where
+pub record SheetRead (sheet : Outcome Sheet) (members shares : List ℕ) (h : SheetHead) : Type 0 where
   pub found : sheet ≡ unless-number (h .number) (sheet-of h members shares)
   pub some : h .number ≡ 0 → 1 ≤ h .q
 
@@ -81,7 +81,7 @@ at-least k [] = 0
 at-least k (c ∷ cs) = mark (leb k c) + at-least k cs
 
 -- JUDGE_HEAD: 107 where the ratio line is not what check counted, 108 where the core line is not P/Q rounded up and the size of that core
-unfoldable pub judged-head : Head → Verdict → (cores : List ℕ) → Verdict
+unfoldable pub judged-head : SheetHead → Verdict → (cores : List ℕ) → Verdict
 judged-head h v cores =
     cond (eqb (h .p) (v .p) && eqb (h .q) (v .q))
     (cond (eqb (h .k) (rounded-up (h .p) (h .q)) && eqb (h .coresize) (at-least (h .k) cores)) v (refused-by 108))

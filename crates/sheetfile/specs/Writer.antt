@@ -9,7 +9,7 @@ use mathlib.Core.Bool.{true, cond}
 use mathlib.Core.List.{List, [], _∷_, _++_}
 use Prim.Native.Nat.{ℕ, suc, _≤_}
 use lib.Dec.{leb, eqb}
-use lib.ListN.{length, getD, drop}
+use lib.ListN.{length}
 use Rattle.theory.specs.Basics.{all}
 use Rattle.theory.specs.Lists.{Pair, Pairs, is-list}
 use Rattle.theory.specs.Groups.{size, is-group}

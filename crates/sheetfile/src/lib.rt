@@ -25,7 +25,7 @@ use verify::Verdict;
 use verify::check_words;
 
 // A line: its refusal number or 0, a number on it, and where it ends.
-struct Found {
+struct OneLine {
     number: u32,
     value: u32,
     next: usize,
@@ -38,7 +38,7 @@ struct Lines {
 }
 
 // The refusal number or 0; P and Q; K and the number of modules in the core of order K.
-struct Head {
+struct SheetHead {
     number: u32,
     p: u32,
     q: u32,
@@ -46,16 +46,10 @@ struct Head {
     coresize: u32,
 }
 
-fn wide(x: u32) -> usize
-    ensures { λ r. ⌜ r ≡ x ⌝ }
-{
-    x as usize
-}
-
-fn refused_line(number: u32) -> Found
+fn refused_line(number: u32) -> OneLine
     ensures { λ r. ⌜ r ≡ record { number = number; value = 0; next = 0 } ⌝ }
 {
-    Found {
+    OneLine {
         number,
         value: 0,
         next: 0,
@@ -63,7 +57,7 @@ fn refused_line(number: u32) -> Found
 }
 
 // The member line at `at`, of a member below n and at least `low`: 101, 103.
-fn member_line(bytes: &[u8], at: usize, n: usize, low: u32) -> Found
+fn member_line(bytes: &[u8], at: usize, n: usize, low: u32) -> OneLine
     requires { ⌜ at ≤ length (now bytes) ⌝ }
     ensures { λ r. ⌜ LineRead (now (bytes .entry)) (member-line n low (drop at (now (bytes .entry)))) r ⌝ }
 {
@@ -73,7 +67,7 @@ fn member_line(bytes: &[u8], at: usize, n: usize, low: u32) -> Found
             if value < low || n <= value as usize {
                 return refused_line(103);
             }
-            Found {
+            OneLine {
                 number: 0,
                 value,
                 next,
@@ -83,7 +77,7 @@ fn member_line(bytes: &[u8], at: usize, n: usize, low: u32) -> Found
 }
 
 // The number line at `at`, of core number c: 101, 104.
-fn number_line(bytes: &[u8], at: usize, c: u32) -> Found
+fn number_line(bytes: &[u8], at: usize, c: u32) -> OneLine
     requires { ⌜ at ≤ length (now bytes) ⌝ }
     ensures { λ r. ⌜ LineRead (now (bytes .entry)) (number-line c (drop at (now (bytes .entry)))) r ⌝ }
 {
@@ -93,7 +87,7 @@ fn number_line(bytes: &[u8], at: usize, c: u32) -> Found
             if value != c {
                 return refused_line(104);
             }
-            Found {
+            OneLine {
                 number: 0,
                 value,
                 next,
@@ -103,7 +97,7 @@ fn number_line(bytes: &[u8], at: usize, c: u32) -> Found
 }
 
 // The share line at `at`, of the pair of a and b: 101, 105.
-fn share_line(bytes: &[u8], at: usize, a: u32, b: u32) -> Found
+fn share_line(bytes: &[u8], at: usize, a: u32, b: u32) -> OneLine
     requires { ⌜ at ≤ length (now bytes) ⌝ }
     ensures { λ r. ⌜ LineRead (now (bytes .entry)) (share-line a b (drop at (now (bytes .entry)))) r ⌝ }
 {
@@ -114,7 +108,7 @@ fn share_line(bytes: &[u8], at: usize, a: u32, b: u32) -> Found
             if numbers[0] != a || numbers[1] != b {
                 return refused_line(105);
             }
-            Found {
+            OneLine {
                 number: 0,
                 value: numbers[2],
                 next,
@@ -227,10 +221,10 @@ fn read_body(
     0
 }
 
-fn refused_head(number: u32) -> Head
+fn refused_head(number: u32) -> SheetHead
     ensures { λ r. ⌜ r ≡ record { number = number; p = 0; q = 0; k = 0; coresize = 0 } ⌝ }
 {
-    Head {
+    SheetHead {
         number,
         p: 0,
         q: 0,
@@ -246,7 +240,7 @@ fn read_sheet(
     cores: &[u32],
     members: &mut [u8],
     shares: &mut [u16],
-) -> Head
+) -> SheetHead
     requires { ⌜ Beside (length (now members)) (length (now shares)) (now ends) (now cores) (now members) ⌝ }
     ensures { λ r. ⌜ SheetRead (read-sheet (list-of (length (now (members .entry))) (length (now (shares .entry))) (now (ends .entry))) (now (bytes .entry)))
         (now (members .exit)) (now (shares .exit)) r ⌝ }
@@ -255,11 +249,11 @@ fn read_sheet(
     match line_at(bytes, 0, b"status=0\nratio=P/Q\ncore=K,C\n", &mut numbers) {
         FoundLine::Malformed => refused_head(101),
         FoundLine::Line { next } => {
-            let q = wide(numbers[1]);
+            let q = numbers[1] as usize;
             if q < 1 || members.len() < q {
                 return refused_head(102);
             }
-            Head {
+            SheetHead {
                 number: read_body(bytes, next, q, ends, cores, members, shares),
                 p: numbers[0],
                 q: numbers[1],
@@ -306,7 +300,7 @@ fn refused(number: u32) -> Verdict
 }
 
 // The head beside what check counted and the list's core numbers: 107, 108.
-fn judge_head(head: Head, verdict: Verdict, cores: &[u32]) -> Verdict
+fn judge_head(head: SheetHead, verdict: Verdict, cores: &[u32]) -> Verdict
     requires { ⌜ (1 ≤ head .q) × (length (now cores) ≤ 512) ⌝ }
     ensures { λ r. ⌜ r ≡ judged-head head verdict (now (cores .entry)) ⌝ }
 {

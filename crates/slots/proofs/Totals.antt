@@ -4,7 +4,7 @@
 --   total-one                         two sums that differ at one place
 --   total-part, total-some            a part is at most the sum; a sum above 0 has a part above 0
 --   total-const, total-upto           at most k times the greatest part; a longer sum is no less
---   total-scale, total-pairs          a sum of products; two parts at a time
+--   total-scale, total-sum, total-pairs    a sum of products, of sums; two parts at a time
 -- Assumes nothing.
 use mathlib.Core.Path.{_≡_, refl, sym, ap}
 use mathlib.Core.Logic.{⊎-elim}
@@ -82,6 +82,11 @@ pub total-scale : (k q : ℕ) (f : ℕ → ℕ) → total k (λ j. f j * q) ≡ 
 unfolding total
 total-scale zero q f = omega arith
 total-scale (suc k) q f = omega (arith, total-scale k q f)
+
+pub total-sum : (k : ℕ) (f h : ℕ → ℕ) → total k (λ j. f j + h j) ≡ total k f + total k h
+unfolding total
+total-sum zero f h = omega arith
+total-sum (suc k) f h = omega (arith, total-sum k f h)
 
 -- two parts at a time
 pub total-pairs : (k : ℕ) (f : ℕ → ℕ) → total (2 * k) f ≡ total k (λ j. f (2 * j) + f (2 * j + 1))

@@ -3,12 +3,12 @@
 // Pair j has two slots, 2j and 2j + 1: ends[s] is a slot's module, hold[s] the units of the pair that it holds. Both ends are alike, so nothing goes
 // by sides. A module's load is its own, which does not move, and the units that it holds. Three arguments are the list: n modules, m pairs, `ends`.
 // `spread` lays out a split, `loads` adds up, `links` chains each module's slots, `shift` moves units (no other function does). The first three cost a
-// step for each slot or pair. Peeling uses `loads` and `links` too. Nothing is refused: what is asked is in the contracts.
+// step for each slot or pair. Peeling uses `link` too, for chains of pairs. Nothing is refused: what is asked is in the contracts.
 ghost use mathlib.Core.Path.{_≡_};
 ghost use mathlib.Core.Bool.{_&&_, cond};
 ghost use Prim.Native.Nat.{ℕ, _+_, _*_, _≤_, _<_, min};
 ghost use lib.Dec.{eqb, ltb};
-ghost use lib.ListN.{length, getD};
+ghost use lib.ListN.{length, getD, set};
 ghost use Rattle.slots.specs.Slots.{mate, moved, Ends, Room, Own, Loads, Covers};
 ghost use Rattle.slots.specs.Links.{Linked};
 ghost use Rattle.slots.specs.Split.{Weights, Split};
@@ -66,7 +66,7 @@ pub fn clear(n: usize, xs: &mut [u32])
 }
 
 // The first n entries of xs; those past them are free.
-fn copy(n: usize, xs: &[u32], ys: &mut [u32])
+pub fn copy(n: usize, xs: &[u32], ys: &mut [u32])
     requires { ⌜ n ≤ length (now xs) ⌝ }
     requires { ⌜ n ≤ length (now ys) ⌝ }
     ensures { λ r. ⌜ ((v : ℕ) → v < n → getD (now (ys .exit)) v 0 ≡ getD (now (xs .entry)) v 0) ⌝ }
@@ -94,20 +94,30 @@ pub fn loads(n: usize, m: usize, own: &[u32], ends: &[u32], hold: &[u32], load: 
     }
 }
 
+// Place k becomes the last one of module v: `first` leads to it, and `next` from it to the one before.
+pub fn link(k: usize, v: usize, first: &mut [u32], next: &mut [u32])
+    requires { ⌜ k < 8192 ⌝ }
+    requires { ⌜ v < length (now first) ⌝ }
+    requires { ⌜ k < length (now next) ⌝ }
+    ensures { λ r. ⌜ now (first .exit) ≡ set (now (first .entry)) v (k + 1) ⌝ }
+    ensures { λ r. ⌜ now (next .exit) ≡ set (now (next .entry)) k (getD (now (first .entry)) v 0) ⌝ }
+{
+    next[k] = first[v];
+    first[v] = (k + 1) as u32;
+}
+
 // Chains each module's slots, from its last one back: entries are a slot and 1 more, and 0 ends a chain.
 pub fn links(n: usize, m: usize, ends: &[u32], first: &mut [u32], next: &mut [u32])
     requires { ⌜ Ends n m (now ends) ⌝ }
     requires { ⌜ n ≤ length (now first) ⌝ }
     requires { ⌜ 2 * m ≤ length (now next) ⌝ }
-    ensures { λ r. ⌜ Linked n m (now (ends .entry)) (now (first .exit)) (now (next .exit)) ⌝ }
+    ensures { λ r. ⌜ Linked n (2 * m) (λ s. getD (now (ends .entry)) s 0) (now (first .exit)) (now (next .exit)) ⌝ }
 {
     clear(n, first);
     let slots = 2 * m;
     let mut s = 0;
     while s < slots {
-        let v = wide(ends[s]);
-        next[s] = first[v];
-        first[v] = (s + 1) as u32;
+        link(s, wide(ends[s]), first, next);
         s = s + 1;
     }
 }

@@ -8,6 +8,8 @@ mod plain;
 use densest::Solution;
 use lists::Kind;
 use lists::wide;
+use trials::Listed;
+use trials::Sweep;
 use verify::Verdict;
 
 // What was seen: lists, their pairs, those that are no held lists, answers that differ; and the random state.
@@ -144,9 +146,9 @@ fn same_members(n: usize, members: &[u8], set: &[u32]) -> bool {
 }
 
 // Whether the group is the densest of all sets, of equals the largest, with its inside count and size.
-fn group_right(n: u32, pairs: &[u32], members: &[u8], answer: Solution) -> bool {
+fn group_right(n: u32, m: usize, ends: &[u32], members: &[u8], answer: Solution) -> bool {
     let mut set = [0u32; 512];
-    let best = plain::densest(n, pairs);
+    let best = plain::densest(n, m, ends);
     if answer.p != best.p {
         return false;
     }
@@ -166,11 +168,11 @@ fn accepted(answer: Solution, verdict: Verdict) -> bool {
 }
 
 // Whether K is P over Q rounded up, and the core's size that of the core of order K.
-fn core_right(n: usize, pairs: &[u32], answer: Solution) -> bool {
+fn core_right(n: usize, m: usize, ends: &[u32], answer: Solution) -> bool {
     if answer.k != plain::rounded_up(answer.p, answer.q) {
         return false;
     }
-    answer.core == plain::core_size(n, answer.k, pairs)
+    answer.core == plain::core_size(n, answer.k, m, ends)
 }
 
 // 1 where a core number is k or more, else 0.
@@ -191,18 +193,18 @@ fn same_core(n: usize, k: u32, cores: &[u32], set: &[u32]) -> bool {
 }
 
 // Whether they are the core of order k.
-fn order_right(n: usize, k: u32, pairs: &[u32], cores: &[u32]) -> bool {
-    let mut set = [1u32; 512];
-    plain::shrink(n, k, pairs, &mut set);
+fn order_right(n: usize, k: u32, m: usize, ends: &[u32], cores: &[u32]) -> bool {
+    let mut set = [0u32; 512];
+    trials::core(n, k, m, ends, &mut set);
     same_core(n, k, cores, &set)
 }
 
 // The same for every order up to n, which no core number reaches.
-fn orders_right(n: u32, pairs: &[u32], cores: &[u32]) -> bool {
+fn orders_right(n: u32, m: usize, ends: &[u32], cores: &[u32]) -> bool {
     let mut k = 0;
     while k < n {
         k += 1;
-        if !order_right(wide(n), k, pairs, cores) {
+        if !order_right(wide(n), k, m, ends, cores) {
             return false;
         }
     }
@@ -210,20 +212,20 @@ fn orders_right(n: u32, pairs: &[u32], cores: &[u32]) -> bool {
 }
 
 // Whether the core numbers are right: of lists of 13 modules and more, those of order k and the next one.
-fn cores_right(n: u32, k: u32, pairs: &[u32], cores: &[u32]) -> bool {
+fn cores_right(n: u32, k: u32, m: usize, ends: &[u32], cores: &[u32]) -> bool {
     if n < 13 {
-        return orders_right(n, pairs, cores);
+        return orders_right(n, m, ends, cores);
     }
-    if !order_right(wide(n), k, pairs, cores) {
+    if !order_right(wide(n), k, m, ends, cores) {
         return false;
     }
-    order_right(wide(n), one_more(k), pairs, cores)
+    order_right(wide(n), one_more(k), m, ends, cores)
 }
 
 // Whether the group is right, where every subset can be tried.
-fn group_fits(n: u32, pairs: &[u32], members: &[u8], answer: Solution) -> bool {
+fn group_fits(n: u32, m: usize, ends: &[u32], members: &[u8], answer: Solution) -> bool {
     if n < 13 {
-        group_right(n, pairs, members, answer)
+        group_right(n, m, ends, members, answer)
     } else {
         true
     }
@@ -232,19 +234,20 @@ fn group_fits(n: u32, pairs: &[u32], members: &[u8], answer: Solution) -> bool {
 // Whether solve's answer is right.
 fn agrees(
     n: u32,
-    pairs: &[u32],
+    m: usize,
+    ends: &[u32],
     members: &[u8],
     cores: &[u32],
     answer: Solution,
     verdict: Verdict,
 ) -> bool {
-    if !group_fits(n, pairs, members, answer) {
+    if !group_fits(n, m, ends, members, answer) {
         return false;
     }
-    if !cores_right(n, answer.k, pairs, cores) {
+    if !cores_right(n, answer.k, m, ends, cores) {
         return false;
     }
-    if !core_right(wide(n), pairs, answer) {
+    if !core_right(wide(n), m, ends, answer) {
         return false;
     }
     accepted(answer, verdict)
@@ -260,8 +263,6 @@ fn compare(n: u32, m: usize, ends: &[u32], weights: &[u32], altered: Altered) ->
     if !lists::is_held(size, m, ends, weights) {
         return Outcome::Unheld;
     }
-    let words = 2 * m;
-    let pairs = &ends[..words];
     let solution = densest::solve(
         size,
         m,
@@ -274,7 +275,7 @@ fn compare(n: u32, m: usize, ends: &[u32], weights: &[u32], altered: Altered) ->
     let answer = alter(altered, solution, &mut members, &mut cores, &mut shares);
     copy_shares(m, &shares, &mut sheet);
     let verdict = verify::check_words(size, m, ends, weights, &members, &sheet);
-    if agrees(n, pairs, &members, &cores, answer, verdict) {
+    if agrees(n, m, ends, &members, &cores, answer, verdict) {
         Outcome::Same
     } else {
         Outcome::Differs
@@ -282,9 +283,11 @@ fn compare(n: u32, m: usize, ends: &[u32], weights: &[u32], altered: Altered) ->
 }
 
 // Makes a list and looks at it.
-fn attempt(kind: Kind, n: u32, altered: Altered, tally: Tally) -> Tally {
+fn attempt(list: Listed, altered: Altered, tally: Tally) -> Tally {
     let mut ends = [0u32; 8192];
     let mut weights = [0u32; 4096];
+    let kind = list.kind;
+    let n = list.n;
     let walk = lists::fill(kind, n, tally.state, &mut ends, &mut weights);
     seen(
         tally,
@@ -294,67 +297,14 @@ fn attempt(kind: Kind, n: u32, altered: Altered, tally: Tally) -> Tally {
     )
 }
 
-// Every list of n modules: `count` masks.
-fn masks(n: u32, count: u32, altered: Altered, tally: Tally) -> Tally {
-    let mut now = tally;
-    let mut mask = 0;
-    while mask < count {
-        now = attempt(Kind::Mask(mask), n, altered, now);
-        mask += 1;
-    }
-    now
-}
-
-// Every list of 1 to 5 modules.
-fn every(altered: Altered) -> Tally {
-    let one = masks(1, 1, altered, start());
-    let two = masks(2, 2, altered, one);
-    let three = masks(3, 8, altered, two);
-    let four = masks(4, 64, altered, three);
-    masks(5, 1024, altered, four)
-}
-
-// `count` lists of one kind.
-fn several(kind: Kind, n: u32, count: u32, tally: Tally) -> Tally {
-    let mut now = tally;
+// The lists of a sweep, one after the other.
+fn attempts(sweep: Sweep, altered: Altered) -> Tally {
+    let count = trials::how_many(sweep);
+    let mut now = start();
     let mut i = 0;
     while i < count {
-        now = attempt(kind, n, Altered::Nothing, now);
+        now = attempt(trials::list_at(sweep, i), altered, now);
         i += 1;
-    }
-    now
-}
-
-// Lists of n modules, each pair taken 1, 2, .. 15 times of 16.
-fn densities(n: u32, count: u32, tally: Tally) -> Tally {
-    let mut now = tally;
-    let mut i = 1;
-    while i < 16 {
-        let chance = 4096 * i;
-        now = several(Kind::Chance(chance), n, count, now);
-        i += 1;
-    }
-    now
-}
-
-// Lists of 6 to 12 modules.
-fn small(count: u32) -> Tally {
-    let mut now = start();
-    let mut n = 6;
-    while n < 13 {
-        now = densities(n, count, now);
-        n += 1;
-    }
-    now
-}
-
-// `count` lists of one kind of each number of modules from 1 to 12.
-fn sizes(kind: Kind, count: u32) -> Tally {
-    let mut now = start();
-    let mut n = 1;
-    while n < 13 {
-        now = several(kind, n, count, now);
-        n += 1;
     }
     now
 }
@@ -373,14 +323,30 @@ fn line(name: &[u8], tally: Tally) {
     io::write_all(1, b"\n");
 }
 
-// Lists of up to 12 modules, `count` of each number.
+// Every list of 1 to 5 modules.
+fn every(name: &[u8], altered: Altered) {
+    line(name, attempts(Sweep::Every, altered));
+}
+
+// `count` lists of a kind: `each` of every number of modules from `least` on.
+fn alike(name: &[u8], kind: Kind, least: u32, each: u32, count: u32) {
+    let sweep = Sweep::Alike {
+        kind,
+        least,
+        each,
+        count,
+    };
+    line(name, attempts(sweep, Altered::Nothing));
+}
+
+// Lists of 1 to 12 modules, `count` of each number.
 fn each(name: &[u8], kind: Kind, count: u32) {
-    line(name, sizes(kind, count));
+    alike(name, kind, 1, count, lists::times(12, count));
 }
 
 // Lists of 512 modules.
 fn large(name: &[u8], kind: Kind, count: u32) {
-    line(name, several(kind, 512, count, start()));
+    alike(name, kind, 512, count, count);
 }
 
 // A clique of the first `size` modules, and each other pair `chance` times of 65,536.
@@ -390,8 +356,11 @@ fn planted(size: u32, chance: u32) -> Kind {
 
 // Lists of up to 12 modules, of which every subset is tried.
 fn subsets() {
-    line(b"every list of 1 to 5 modules", every(Altered::Nothing));
-    line(b"drawn, 6 to 12 modules", small(40));
+    every(b"every list of 1 to 5 modules", Altered::Nothing);
+    line(
+        b"drawn, 6 to 12 modules",
+        attempts(Sweep::Drawn, Altered::Nothing),
+    );
     each(b"no pairs, 1 to 12 modules", Kind::Chance(0), 1);
     each(b"full, 1 to 12 modules", Kind::Cliques(512), 1);
     each(b"cycles, 1 to 12 modules", Kind::Cycle, 1);
@@ -453,11 +422,11 @@ fn sheets() {
 fn main() {
     subsets();
     sheets();
-    line(b"member altered", every(Altered::Member));
-    line(b"P altered", every(Altered::Inside));
-    line(b"Q altered", every(Altered::Size));
-    line(b"K altered", every(Altered::Order));
-    line(b"core size altered", every(Altered::Core));
-    line(b"core number altered", every(Altered::Number));
-    line(b"share altered", every(Altered::Share));
+    every(b"member altered", Altered::Member);
+    every(b"P altered", Altered::Inside);
+    every(b"Q altered", Altered::Size);
+    every(b"K altered", Altered::Order);
+    every(b"core size altered", Altered::Core);
+    every(b"core number altered", Altered::Number);
+    every(b"share altered", Altered::Share);
 }

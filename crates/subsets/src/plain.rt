@@ -1,6 +1,6 @@
 // The found group, its ratio rounded up and the core of that order, as document 01 defines them and as plainly as can be: every set of modules
-// is counted, and a core is what is left when no more modules drop. A set has a word for each module, 1 for a member. `pairs` holds the pairs of
-// the list and nothing more, two words each.
+// is counted, and a core is what is left when no more modules drop. A set has a word for each module, 1 for a member. A list has m pairs; `trials`
+// counts them.
 use lists::put_word;
 use lists::wide;
 use lists::word_at;
@@ -35,27 +35,6 @@ fn size(n: usize, set: &[u32]) -> u32 {
     count
 }
 
-// 1 where both modules are members, else 0.
-fn both(a: usize, b: usize, set: &[u32]) -> u32 {
-    if word_at(set, a) == 0 {
-        0
-    } else {
-        word_at(set, b)
-    }
-}
-
-// The inside count.
-fn inside(pairs: &[u32], set: &[u32]) -> u32 {
-    let m = pairs.len() / 2;
-    let mut count = 0;
-    let mut j = 0;
-    while j < m {
-        count = wrapping_add_u32(count, both(wide(pairs[2 * j]), wide(pairs[2 * j + 1]), set));
-        j += 1;
-    }
-    count
-}
-
 // Whether p inside q modules is a higher ratio than the best, or the same one in more modules.
 fn better(p: u32, q: u32, best: Best) -> bool {
     let mine = lists::times(best.q, p);
@@ -67,10 +46,10 @@ fn better(p: u32, q: u32, best: Best) -> bool {
 }
 
 // The better of the best and the set of a number.
-fn look(n: usize, number: u32, pairs: &[u32], best: Best) -> Best {
+fn look(n: usize, number: u32, m: usize, ends: &[u32], best: Best) -> Best {
     let mut set = [0u32; 16];
     spell(n, number, &mut set);
-    let p = inside(pairs, &set);
+    let p = trials::inside(1, m, ends, &set);
     let q = size(n, &set);
     if better(p, q, best) {
         Best { number, p, q }
@@ -80,7 +59,7 @@ fn look(n: usize, number: u32, pairs: &[u32], best: Best) -> Best {
 }
 
 // The densest of the sets of numbers 1 to `count` - 1, of equals the largest.
-fn try_sets(n: usize, count: u32, pairs: &[u32]) -> Best {
+fn try_sets(n: usize, count: u32, m: usize, ends: &[u32]) -> Best {
     let mut best = Best {
         number: 0,
         p: 0,
@@ -88,16 +67,16 @@ fn try_sets(n: usize, count: u32, pairs: &[u32]) -> Best {
     };
     let mut number = 1;
     while number < count {
-        best = look(n, number, pairs, best);
+        best = look(n, number, m, ends, best);
         number += 1;
     }
     best
 }
 
 // The densest set of n modules, at most 12, of equals the largest.
-pub(crate) fn densest(n: u32, pairs: &[u32]) -> Best {
+pub(crate) fn densest(n: u32, m: usize, ends: &[u32]) -> Best {
     if n < 13 {
-        try_sets(wide(n), 1 << n, pairs)
+        try_sets(wide(n), 1 << n, m, ends)
     } else {
         Best {
             number: 0,
@@ -116,68 +95,9 @@ pub(crate) fn rounded_up(p: u32, q: u32) -> u32 {
     }
 }
 
-// 1 where the pair a,b joins module v to a member, else 0.
-fn joins(v: usize, a: usize, b: usize, set: &[u32]) -> u32 {
-    if v == a {
-        return word_at(set, b);
-    }
-    if v == b { word_at(set, a) } else { 0 }
-}
-
-// How many pairs join module v to members.
-fn degree(v: usize, pairs: &[u32], set: &[u32]) -> u32 {
-    let m = pairs.len() / 2;
-    let mut count = 0;
-    let mut j = 0;
-    while j < m {
-        count = wrapping_add_u32(
-            count,
-            joins(v, wide(pairs[2 * j]), wide(pairs[2 * j + 1]), set),
-        );
-        j += 1;
-    }
-    count
-}
-
-// Drops module v where it is a member with fewer than k pairs; whether it was.
-fn drop_one(v: usize, k: u32, pairs: &[u32], set: &mut [u32]) -> bool {
-    if word_at(set, v) == 0 {
-        return false;
-    }
-    if k <= degree(v, pairs, set) {
-        return false;
-    }
-    put_word(set, v, 0);
-    true
-}
-
-// Drops members with fewer than k pairs, one after the other; whether there was one.
-fn drop_below(n: usize, k: u32, pairs: &[u32], set: &mut [u32]) -> bool {
-    let mut dropped = false;
-    let mut v = 0;
-    while v < n {
-        if drop_one(v, k, pairs, set) {
-            dropped = true;
-        }
-        v += 1;
-    }
-    dropped
-}
-
-// Leaves the core of order k of a set: rounds until nothing drops, at most one for each module.
-pub(crate) fn shrink(n: usize, k: u32, pairs: &[u32], set: &mut [u32]) {
-    let mut round = 0;
-    while round < n {
-        if !drop_below(n, k, pairs, set) {
-            return;
-        }
-        round += 1;
-    }
-}
-
 // The size of the core of order k.
-pub(crate) fn core_size(n: usize, k: u32, pairs: &[u32]) -> u32 {
-    let mut set = [1u32; 512];
-    shrink(n, k, pairs, &mut set);
+pub(crate) fn core_size(n: usize, k: u32, m: usize, ends: &[u32]) -> u32 {
+    let mut set = [0u32; 512];
+    trials::core(n, k, m, ends, &mut set);
     size(n, &set)
 }

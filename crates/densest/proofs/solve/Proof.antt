@@ -1,7 +1,7 @@
 -- `densest::solve` meets its contract. Assumes nothing.
-use mathlib.Core.Path.{sym, _∙_}
+use mathlib.Core.Path.{_≡_, sym, _∙_}
 use Prim.Native.Nat.{ℕ, _≤_}
-use lib.ListN.{replicate}
+use lib.ListN.{length, take, replicate}
 use lib.Seq.{length-take-le}
 use Rattle.theory.specs.Words.{list-in}
 use Rattle.theory.proofs.Lists.{listed}
@@ -14,37 +14,44 @@ few : (s : tie.Start) → s .args .n ≤ 512
 unfolding list-in
 few s = listed (list-in (s .args .n) (s .args .m) (s .args .ends .now) (s .args .weights .now)) (s .pre .0 .listed) .few
 
-array-borrow-prefix-scope : tie.Need-array-borrow-prefix-scope
-array-borrow-prefix-scope c = few (c .before .before .before .before .before)
+-- the front of a buffer of 512 bytes
+front-long : (s : tie.Start) → length (take (s .args .n) (replicate {A = ℕ} 512 0)) ≡ s .args .n
+front-long s = length-take-le (s .args .n) (replicate {A = ℕ} 512 0) (few s)
+
+members-long : (s : tie.Start) → length (take (s .args .n) (s .args .members .now)) ≡ s .args .n
+members-long s = length-take-le (s .args .n) (s .args .members .now) (s .pre .1 .0)
+
+shares-long : (s : tie.Start) → length (take (s .args .m) (s .args .shares .now)) ≡ s .args .m
+shares-long s = length-take-le (s .args .m) (s .args .shares .now) (s .pre .1 .2)
+
+array-borrow-prefix-core : tie.Need-array-borrow-prefix-core
+array-borrow-prefix-core c = few (c .before .before .before .before .before)
 
 slice-aggregate-solve-in : tie.Need-slice-aggregate-solve-in
-slice-aggregate-solve-in c = let s = c .before .before .before .before .before .before in sym (length-take-le (s .args .n) (replicate {A = ℕ} 512 0) (few s))
+slice-aggregate-solve-in c = sym (front-long (c .before .before .before .before .before .before))
+
+array-borrow-prefix-scope : tie.Need-array-borrow-prefix-scope
+array-borrow-prefix-scope c = few (c .before .before .before .before .before .before)
+
+slice-aggregate-solve-in-2 : tie.Need-slice-aggregate-solve-in-2
+slice-aggregate-solve-in-2 c = sym (front-long (c .before .before .before .before .before .before .before))
 
 slice-relend-prefix-solve-in : tie.Need-slice-relend-prefix-solve-in
 slice-relend-prefix-solve-in c = search needs
 
-slice-aggregate-solve-in-2 : tie.Need-slice-aggregate-solve-in-2
-slice-aggregate-solve-in-2 c = let s = c .before .before .before .before .before .before .before in sym (length-take-le (s .args .n) (s .args .members .now) (s .pre .1 .0))
+slice-aggregate-solve-in-3 : tie.Need-slice-aggregate-solve-in-3
+slice-aggregate-solve-in-3 c = sym (members-long (c .before .before .before .before .before .before .before .before))
 
 slice-relend-prefix-solve-in-2 : tie.Need-slice-relend-prefix-solve-in-2
 slice-relend-prefix-solve-in-2 c = search needs
 
-slice-aggregate-solve-in-3 : tie.Need-slice-aggregate-solve-in-3
-slice-aggregate-solve-in-3 c = let s = c .before .before .before .before .before .before .before .before .before in sym (length-take-le (s .args .m) (s .args .shares .now) (s .pre .1 .2))
+slice-aggregate-solve-in-4 : tie.Need-slice-aggregate-solve-in-4
+slice-aggregate-solve-in-4 c = sym (shares-long (c .before .before .before .before .before .before .before .before .before .before))
 
 solve-in-requires : tie.Need-solve-in-requires
 solve-in-requires c κs =
-    let s = c .before .before .before .before .before .before .before .before .before in
-    let k = s .pre in
-    let a = s .args in (
-      k .0,
-      (
-        length-take-le (a .n) (replicate {A = ℕ} 512 0) (few s),
-        length-take-le (a .n) (a .members .now) (k .1 .0),
-        k .1 .1,
-        length-take-le (a .m) (a .shares .now) (k .1 .2),
-      ),
-    )
+    let s = c .before .before .before .before .before .before .before .before .before .before in
+    (s .pre .0, ((front-long s, front-long s), (members-long s, s .pre .1 .1, shares-long s)))
 
 same-length : tie.Need-same-length
 same-length c = search needs
@@ -57,24 +64,26 @@ same-length-3 c = search needs
 
 returns : tie.Need-returns
 returns c =
-    let i = c .before .before .before .before .before .before .before .solve-in in
-    let s = c .before .before .before .before .before .before .before .before .before .before .before .before .before .before .before .before .before in
-    let k = s .pre in
+    let k = c .before .before .before .before .before .before .before .before in
+    let s = k .before .before .before .before .before .before .before .before .before .before .before in
+    let i = k .solve-in in
     let a = s .args in
-    solves-of (a .n) (a .m) (a .ends .now) (a .weights .now) (a .members .now) (a .cores .now) (a .shares .now) (i .last .1 .1 .1 .1 .1 .0) _
-    (i .last .1 .1 .1 .1 .1 .1 .1 .0) _ (k .1 .0) (k .1 .2) (i .kept .1 .1 .1 .1 .1 .0 ∙ length-take-le (a .n) (a .members .now) (k .1 .0))
-    (i .kept .1 .1 .1 .1 .1 .1 .1 .0 ∙ length-take-le (a .m) (a .shares .now) (k .1 .2)) (i .ensures .0) (i .ensures .1)
+    solves-of (a .n) (a .m) (a .ends .now) (a .weights .now) (a .members .now) (a .cores .now) (a .shares .now) (i .last .1 .1 .1 .1 .1 .1 .0) _
+    (i .last .1 .1 .1 .1 .1 .1 .1 .1 .0) _ (s .pre .1 .0) (s .pre .1 .2) (i .kept .1 .1 .1 .1 .1 .1 .0 ∙ members-long s)
+    (i .kept .1 .1 .1 .1 .1 .1 .1 .1 .0 ∙ shares-long s) (i .ensures .0) (i .ensures .1)
 
 pub solve-spec : {M : Type 1} → statement M
 solve-spec =
     tie.close
     (tie.spec
-    array-borrow-prefix-scope
+    array-borrow-prefix-core
     slice-aggregate-solve-in
-    slice-relend-prefix-solve-in
+    array-borrow-prefix-scope
     slice-aggregate-solve-in-2
-    slice-relend-prefix-solve-in-2
+    slice-relend-prefix-solve-in
     slice-aggregate-solve-in-3
+    slice-relend-prefix-solve-in-2
+    slice-aggregate-solve-in-4
     solve-in-requires
     same-length
     same-length-2

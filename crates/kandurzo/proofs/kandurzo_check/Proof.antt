@@ -35,16 +35,15 @@ use Rattle.records.proofs.Calls.{Arg, plain as by-value, loan, bound, calls-out
 use Rattle.records.proofs.Frame.{empty, num, fit-slice, var, part-of, ptr-of, slice-again, slice-again-as, sets, lands-in, leaves}
 use Rattle.records.proofs.Entry.{Par, plain, held, hold-mut, hold-shr, entry, passed, begins, ends}
 use Rattle.records.proofs.Signs.{Kinds, record-kind, mut-kind, shr-kind, stays, meets-by}
-use Rattle.records.proofs.Records.{plain-pair, plain-head, word-row, half-row, byte-row, room-as}
+use Rattle.records.proofs.Records.{plain-pair, plain-head, word-row, half-row, byte-row}
 use Rattle.records.proofs.Steps.{CopiesOut, Agrees, copies-out, asks-agree}
 use Rattle.records.proofs.Pair as P
 use Rattle.records.proofs.Head as N
 use Rattle.records.proofs.Head.Laws as N′
 use Rattle.records.proofs.Cited.{cites-agree, cites-out}
 use Rattle.kandurzo.proofs.Types.{plain-gate, gate-parts}
-use Rattle.kandurzo.proofs.Gates.{work-in, the-gate, the-words, enough, length-words, words-ready, if-open}
+use Rattle.kandurzo.proofs.Gates.{work-in, enough, if-open, Way, the-way}
 use Rattle.kandurzo.proofs.Gate as G
-use Rattle.kandurzo.specs.declared.Gate.{Gate}
 use Rattle.kandurzo.specs.Gate.{gate-number, gate-of, On-words}
 use Rattle.verify.specs.declared.Verdict.{Verdict}
 use Rattle.verify.proofs.Verdict as D
@@ -92,20 +91,16 @@ module _ {M : Type 1} (𝓤 : URA M) (H : Heap 𝓤) (A : Atoms 𝓤) (W : Given
     long : short ≡ false → 16384 ≤ length ws
     long e = check-enough h ps ms xs ws e .2
 
-    abbrev g₀ : Gate
-    g₀ = the-gate h ps short
+    abbrev way : Way h ws
+    way = the-way h ps short ws long room₃
 
-    abbrev us₀ : List ℕ
-    us₀ = the-words h ps short ws
+    open Way way using (gate as g₀, words as us₀, same, room as room-us, ready)
 
-    same : length us₀ ≡ length ws
-    same = length-words h ps short ws long
+    abbrev Asked : Type 0
+    Asked = On-words h (g₀ .number) us₀ × (g₀ .number ≡ 0 → h .n ≤ length ms) × (g₀ .number ≡ 0 → h .m ≤ length xs)
 
-    room-us : Room u32 (length us₀)
-    room-us = room-as u32 same room₃
-
-    asked : On-words h (g₀ .number) us₀ × (g₀ .number ≡ 0 → h .n ≤ length ms) × (g₀ .number ≡ 0 → h .m ≤ length xs)
-    asked = (words-ready h ps short ws long, (λ z. check-enough h ps ms xs ws (if-open h ps short z) .0), λ z. check-enough h ps ms xs ws (if-open h ps short z) .1)
+    asked : Asked
+    asked = (ready, (λ z. check-enough h ps ms xs ws (if-open h ps short z) .0), λ z. check-enough h ps ms xs ws (if-open h ps short z) .1)
 
     says : {v : Verdict} {us₁ : List ℕ} → Check-on h (g₀ .number) ms xs us₀ v us₁ → Check-call h ps ms xs ws v us₁
     unfolding gate-of gate-number work-in
@@ -136,7 +131,7 @@ module _ {M : Type 1} (𝓤 : URA M) (H : Heap 𝓤) (A : Atoms 𝓤) (W : Given
         -- check_on_words(head, gate.number, members, shares, work)
         sets ! (5 + 14) empty (ptr-of ! (5 + 5) refl refl) (tt, tt) $ sets ! (5 + 15) empty (slice-again-as ! (5 + 14) (5 + 5) (length us₀) same refl refl refl) (fit-slice (room-us .0)) $
         move ! (2 ∷ 3 ∷ 1 ∷ []) $
-        calls-rows ! fm (check-args (gate-parts W g₀ g-fits .0) (os .1 .0) (os .1 .1 .0)) D.the-row plain-verdict (fact 𝓤 (On-words h (g₀ .number) us₀ × (g₀ .number ≡ 0 → h .n ≤ length ms) × (g₀ .number ≡ 0 → h .m ≤ length xs)))
+        calls-rows ! fm (check-args (gate-parts W g₀ g-fits .0) (os .1 .0) (os .1 .1 .0)) D.the-row plain-verdict (fact 𝓤 Asked)
         (λ v zs. Check-on h (g₀ .number) ms xs us₀ v (zs .1 .1 .1 .1 .0)) refl (factI 𝓤 _ (emp 𝓤) asked)
         (λ ks. known-check (bound (check-args (gate-parts W g₀ g-fits .0) (os .1 .0) (os .1 .1 .0)) ks, tt))
         (and-then ! (var ! (5 + 1) refl) (and-then ! (part-of ! (5 + 7) 0 refl refl refl) (and-then ! (var ! (5 + 3) refl) (and-then ! (var ! (5 + 4) refl) (and-then ! (var ! (5 + 15) refl) (no-more !)))))) (λ v zs v-fits sized said.

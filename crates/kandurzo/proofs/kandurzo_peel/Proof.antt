@@ -35,16 +35,15 @@ use Rattle.records.proofs.Calls.{Arg, plain as by-value, loan, bound, calls-out
 use Rattle.records.proofs.Frame.{empty, holds as full, num, fit-slice, var, part-of, ptr-of, slice-again, slice-again-as, sets, lands-in, leaves}
 use Rattle.records.proofs.Entry.{Par, plain, held, hold-mut, hold-shr, entry, passed, begins, ends}
 use Rattle.records.proofs.Signs.{Kinds, record-kind, mut-kind, shr-kind, stays, meets-by}
-use Rattle.records.proofs.Records.{plain-pair, plain-head, word-row, half-row, room-as}
+use Rattle.records.proofs.Records.{plain-pair, plain-head, word-row, half-row}
 use Rattle.records.proofs.Steps.{CopiesOut, Agrees, copies-out, asks-agree}
 use Rattle.records.proofs.Pair as P
 use Rattle.records.proofs.Head as N
 use Rattle.records.proofs.Head.Laws as N′
 use Rattle.records.proofs.Cited.{cites-agree, cites-out}
 use Rattle.kandurzo.proofs.Types.{plain-gate, gate-parts}
-use Rattle.kandurzo.proofs.Gates.{work-in, the-gate, the-words, enough, length-words, words-ready, if-open}
+use Rattle.kandurzo.proofs.Gates.{work-in, enough, if-open, Way, the-way}
 use Rattle.kandurzo.proofs.Gate as G
-use Rattle.kandurzo.specs.declared.Gate.{Gate}
 use Rattle.kandurzo.specs.Gate.{gate-number, gate-of, On-words}
 use Rattle.theory.specs.Leaving.{leaving}
 use Rattle.theory.specs.Cores.{core-numbers}
@@ -91,20 +90,16 @@ module _ {M : Type 1} (𝓤 : URA M) (H : Heap 𝓤) (A : Atoms 𝓤) (W : Given
     long : short ≡ false → 16384 ≤ length ws
     long e = peel-enough h ps xs cs ws e .2
 
-    abbrev g₀ : Gate
-    g₀ = the-gate h ps short
+    abbrev way : Way h ws
+    way = the-way h ps short ws long room₃
 
-    abbrev us₀ : List ℕ
-    us₀ = the-words h ps short ws
+    open Way way using (gate as g₀, words as us₀, same, room as room-us, ready)
 
-    same : length us₀ ≡ length ws
-    same = length-words h ps short ws long
+    abbrev Asked : Type 0
+    Asked = On-words h (g₀ .number) us₀ × (g₀ .number ≡ 0 → h .n ≤ length xs) × (g₀ .number ≡ 0 → h .n ≤ length cs)
 
-    room-us : Room u32 (length us₀)
-    room-us = room-as u32 same room₃
-
-    asked : On-words h (g₀ .number) us₀ × (g₀ .number ≡ 0 → h .n ≤ length xs) × (g₀ .number ≡ 0 → h .n ≤ length cs)
-    asked = (words-ready h ps short ws long, (λ z. peel-enough h ps xs cs ws (if-open h ps short z) .0), λ z. peel-enough h ps xs cs ws (if-open h ps short z) .1)
+    asked : Asked
+    asked = (ready, (λ z. peel-enough h ps xs cs ws (if-open h ps short z) .0), λ z. peel-enough h ps xs cs ws (if-open h ps short z) .1)
 
     -- what is left of the order, the core numbers and the work buffer
     abbrev xs₁ : List ℕ
@@ -147,7 +142,7 @@ module _ {M : Type 1} (𝓤 : URA M) (H : Heap 𝓤) (A : Atoms 𝓤) (W : Given
         sets ! (5 + 16) empty (ptr-of ! (5 + 4) refl refl) (tt, tt) $ sets ! (5 + 17) empty (slice-again ! (5 + 16) (5 + 4) refl refl refl) (fit-slice (room₂ .0)) $
         sets ! (5 + 18) empty (ptr-of ! (5 + 5) refl refl) (tt, tt) $ sets ! (5 + 19) empty (slice-again-as ! (5 + 18) (5 + 5) (length us₀) same refl refl refl) (fit-slice (room-us .0)) $
         move ! (2 ∷ 3 ∷ 1 ∷ []) $
-        calls-outright ! fm (peel-args (gate-parts W g₀ g-fits .0)) unit (plain-none W) (fact 𝓤 (On-words h (g₀ .number) us₀ × (g₀ .number ≡ 0 → h .n ≤ length xs) × (g₀ .number ≡ 0 → h .n ≤ length cs)))
+        calls-outright ! fm (peel-args (gate-parts W g₀ g-fits .0)) unit (plain-none W) (fact 𝓤 Asked)
         (λ r zs. Peel-on h (g₀ .number) xs cs us₀ (zs .1 .1 .0) (zs .1 .1 .1 .0) (zs .1 .1 .1 .1 .0)) refl (factI 𝓤 _ (emp 𝓤) asked)
         (λ ks. known-peel (bound (peel-args (gate-parts W g₀ g-fits .0)) ks, tt)) tt (tt, (tt, (xs₁, (cs₁, (us₁, tt))))) (λ r zs e. (refl, λ i. (tt, (tt, (e .order-is i, (e .cores-are i, (e .left i, tt)))))))
         (and-then ! (var ! (5 + 1) refl) (and-then ! (part-of ! (5 + 7) 0 refl refl refl) (and-then ! (var ! (5 + 15) refl) (and-then ! (var ! (5 + 17) refl) (and-then ! (var ! (5 + 19) refl) (no-more !)))))) (λ r-fits sized.

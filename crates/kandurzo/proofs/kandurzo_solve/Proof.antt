@@ -36,16 +36,15 @@ use Rattle.records.proofs.Calls.{Arg, plain as by-value, loan, bound, calls-out
 use Rattle.records.proofs.Frame.{empty, num, fit-slice, var, part-of, ptr-of, slice-again, slice-again-as, sets, lands-in, leaves}
 use Rattle.records.proofs.Entry.{Par, plain, held, hold-mut, hold-shr, entry, passed, begins, ends}
 use Rattle.records.proofs.Signs.{Kinds, record-kind, mut-kind, shr-kind, stays, meets-by}
-use Rattle.records.proofs.Records.{plain-pair, plain-head, word-row, half-row, byte-row, room-as}
+use Rattle.records.proofs.Records.{plain-pair, plain-head, word-row, half-row, byte-row}
 use Rattle.records.proofs.Steps.{CopiesOut, Agrees, copies-out, asks-agree}
 use Rattle.records.proofs.Pair as P
 use Rattle.records.proofs.Head as N
 use Rattle.records.proofs.Head.Laws as N′
 use Rattle.records.proofs.Cited.{cites-agree, cites-out}
 use Rattle.kandurzo.proofs.Types.{plain-gate, plain-solved, gate-parts}
-use Rattle.kandurzo.proofs.Gates.{work-in, the-gate, the-words, enough, length-words, words-ready, if-open}
+use Rattle.kandurzo.proofs.Gates.{work-in, enough, if-open, Way, the-way}
 use Rattle.kandurzo.proofs.Gate as G
-use Rattle.kandurzo.specs.declared.Gate.{Gate}
 use Rattle.kandurzo.specs.Gate.{gate-number, gate-of, On-words}
 use Rattle.kandurzo.specs.declared.Solved.{Solved}
 use Rattle.kandurzo.proofs.Solved as D
@@ -90,17 +89,10 @@ module _ {M : Type 1} (𝓤 : URA M) (H : Heap 𝓤) (A : Atoms 𝓤) (W : Given
     long : short ≡ false → 16384 ≤ length ws
     long e = solve-enough h ps ms cs xs ws e .3
 
-    abbrev g₀ : Gate
-    g₀ = the-gate h ps short
+    abbrev way : Way h ws
+    way = the-way h ps short ws long room₄
 
-    abbrev us₀ : List ℕ
-    us₀ = the-words h ps short ws
-
-    same : length us₀ ≡ length ws
-    same = length-words h ps short ws long
-
-    room-us : Room u32 (length us₀)
-    room-us = room-as u32 same room₄
+    open Way way using (gate as g₀, words as us₀, same, room as room-us, ready)
 
     abbrev Asked : Type 0
     Asked = On-words h (g₀ .number) us₀ × (g₀ .number ≡ 0 → h .n ≤ length ms) × (g₀ .number ≡ 0 → h .n ≤ length cs) × (g₀ .number ≡ 0 → h .m ≤ length xs)
@@ -108,7 +100,7 @@ module _ {M : Type 1} (𝓤 : URA M) (H : Heap 𝓤) (A : Atoms 𝓤) (W : Given
     asked : Asked
     asked =
         let room : short ≡ false → (h .n ≤ length ms) × (h .n ≤ length cs) × (h .m ≤ length xs) × (16384 ≤ length ws) = λ e. solve-enough h ps ms cs xs ws e in
-        (words-ready h ps short ws long, (λ z. room (if-open h ps short z) .0), (λ z. room (if-open h ps short z) .1), λ z. room (if-open h ps short z) .2)
+        (ready, (λ z. room (if-open h ps short z) .0), (λ z. room (if-open h ps short z) .1), λ z. room (if-open h ps short z) .2)
 
     says : {r : Solved} {ms₁ cs₁ xs₁ us₁ : List ℕ} → Solve-on h (g₀ .number) ms cs xs us₀ r ms₁ cs₁ xs₁ us₁ → Solve-call h ps ms cs xs ws r ms₁ cs₁ xs₁ us₁
     unfolding gate-of gate-number work-in

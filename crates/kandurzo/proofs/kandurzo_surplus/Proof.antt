@@ -46,9 +46,8 @@ use Rattle.records.proofs.Head as N
 use Rattle.records.proofs.Head.Laws as N′
 use Rattle.records.proofs.Cited.{cites-agree, cites-out}
 use Rattle.kandurzo.proofs.Types.{plain-gate, gate-parts}
-use Rattle.kandurzo.proofs.Gates.{work-in, the-gate, the-words, enough, length-words, words-ready, if-open}
+use Rattle.kandurzo.proofs.Gates.{work-in, enough, if-open, Way, the-way}
 use Rattle.kandurzo.proofs.Gate as G
-use Rattle.kandurzo.specs.declared.Gate.{Gate}
 use Rattle.kandurzo.specs.Gate.{gate-number, gate-of, On-words}
 use Rattle.verify.specs.declared.Difference.{Difference}
 use Rattle.verify.proofs.Difference as D
@@ -106,20 +105,16 @@ module _ {M : Type 1} (𝓤 : URA M) (H : Heap 𝓤) (A : Atoms 𝓤) (W : Given
     long : short ≡ false → 16384 ≤ length zs
     long e = omega (arith, length-zs)
 
-    abbrev g₀ : Gate
-    g₀ = the-gate h ps short
+    abbrev way : Way h zs
+    way = the-way h ps short zs long room-zs
 
-    abbrev us₀ : List ℕ
-    us₀ = the-words h ps short zs
+    open Way way using (gate as g₀, words as us₀, same, room as room-us, ready)
 
-    same : length us₀ ≡ length zs
-    same = length-words h ps short zs long
+    abbrev Asked : Type 0
+    Asked = On-words h (g₀ .number) us₀ × (g₀ .number ≡ 0 → h .n ≤ length ts) × (g₀ .number ≡ 0 → h .n ≤ length ss)
 
-    room-us : Room u32 (length us₀)
-    room-us = room-as u32 same room-zs
-
-    asked : On-words h (g₀ .number) us₀ × (g₀ .number ≡ 0 → h .n ≤ length ts) × (g₀ .number ≡ 0 → h .n ≤ length ss)
-    asked = (words-ready h ps short zs long, (λ z. surplus-enough h ps ts ss zs (if-open h ps short z) .0), λ z. surplus-enough h ps ts ss zs (if-open h ps short z) .1)
+    asked : Asked
+    asked = (ready, (λ z. surplus-enough h ps ts ss zs (if-open h ps short z) .0), λ z. surplus-enough h ps ts ss zs (if-open h ps short z) .1)
 
     says : {d : Difference} → Surplus-on h (g₀ .number) ts ss us₀ d → Surplus-call h ps ts ss d
     unfolding gate-of gate-number work-in
@@ -153,7 +148,7 @@ module _ {M : Type 1} (𝓤 : URA M) (H : Heap 𝓤) (A : Atoms 𝓤) (W : Given
         -- surplus_on_words(head, gate.number, &mut words, first, second)
         sets ! (5 + 13) empty (addr ! (from ! (stop !))) (tt, tt) $ sets ! (5 + 14) empty (array-slice ! (5 + 13) (length us₀) refl (lit< tt) (same ∙ length-zs)) (fit-slice (room-us .0)) $
         move ! (1 ∷ 2 ∷ 3 ∷ []) $
-        calls-rows ! fm (surplus-args at (gate-parts W g₀ g-fits .0) (os .1 .0) (os .1 .1 .0)) D.the-row plain-difference (fact 𝓤 (On-words h (g₀ .number) us₀ × (g₀ .number ≡ 0 → h .n ≤ length ts) × (g₀ .number ≡ 0 → h .n ≤ length ss)))
+        calls-rows ! fm (surplus-args at (gate-parts W g₀ g-fits .0) (os .1 .0) (os .1 .1 .0)) D.the-row plain-difference (fact 𝓤 Asked)
         (λ d l. Surplus-on h (g₀ .number) ts ss us₀ d) refl (factI 𝓤 _ (emp 𝓤) asked)
         (λ ks. known-surplus (bound (surplus-args at (gate-parts W g₀ g-fits .0) (os .1 .0) (os .1 .1 .0)) ks, tt))
         (and-then ! (var ! (5 + 1) refl) (and-then ! (part-of ! (5 + 7) 0 refl refl refl) (and-then ! (var ! (5 + 14) refl) (and-then ! (var ! (5 + 3) refl) (and-then ! (var ! (5 + 4) refl) (no-more !)))))) (λ d l d-fits sized said.

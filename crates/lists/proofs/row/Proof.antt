@@ -1,14 +1,17 @@
--- `lists::row` meets its contract. The buffers keep their lengths. Assumes nothing.
-use mathlib.Core.Path.{_≡_}
+-- `lists::row` meets its contract. The loop keeps: what is left of the row makes of the buffers what the whole row makes. Assumes nothing.
+use mathlib.Core.Path.{_≡_, refl}
 use Prim.Native.Nat.{_≤_, _<_, _-_}
-use lib.ListN.{length}
 use native.Mathlib.Omega.{arith}
+use lib.ListN.{length}
 use borrow.Author.Needs.{needs}
+use Rattle.lists.specs.Filled.{filling, row-filled}
+use Rattle.lists.proofs.Filled.{row-again, row-end}
 use Rattle.lists.proofs.row.Statement.{statement}
 use Rattle.lists.proofs.row.Tie as tie
 
 abbrev Inv-loop : tie.InvT-loop
-Inv-loop kind n a ends₀ weights₀ now₀ b₀ ends weights now b = (b ≤ n) × (a < b) × (length ends ≡ length ends₀) × (length weights ≡ length weights₀) × (now₀ .m ≤ 4096 → now .m ≤ 4096)
+Inv-loop kind n a ends₀ weights₀ now₀ b₀ ends weights now b = (b ≤ n) × (a < b) × (length ends ≡ length ends₀) × (length weights ≡ length weights₀)
+    × (row-filled kind n a (n - b) b (filling now ends weights) ≡ row-filled kind n a (n - b₀) b₀ (filling now₀ ends₀ weights₀))
 
 abbrev μ-loop : tie.MeasureT-loop
 μ-loop kind n a ends₀ weights₀ now₀ b₀ ends weights now b = n - b
@@ -17,7 +20,7 @@ add-b : tie.Need-add-b Inv-loop μ-loop
 add-b c = search needs
 
 loop-holds : tie.Need-loop-holds Inv-loop μ-loop
-loop-holds c = search needs
+loop-holds c = (omega arith, omega arith, refl, refl, refl)
 
 step-requires : tie.Need-step-requires Inv-loop μ-loop
 step-requires c κs = search needs
@@ -30,8 +33,9 @@ loop-less c = search needs
 
 loop-again : tie.Need-loop-again Inv-loop μ-loop
 loop-again c =
-    let l = c .before .before .before .before in
-    (omega arith, omega arith, search needs, search needs, λ few. l .step .ensures (l .before .before .before .before .loop .inv .4 few))
+    let s = c .before .before .before .before in
+    let l = s .before .before .before .before in
+    (omega arith, omega arith, search needs, search needs, row-again _ _ _ _ _ _ (l .loop .inv .4) _ (s .before .before .before .loop-test .taken) (s .step .ensures))
 
 same-length : tie.Need-same-length Inv-loop μ-loop
 same-length c = search needs
@@ -40,7 +44,7 @@ same-length-2 : tie.Need-same-length-2 Inv-loop μ-loop
 same-length-2 c = search needs
 
 returns : tie.Need-returns Inv-loop μ-loop
-returns c = search needs
+returns c = row-end _ _ _ _ _ _ (c .before .loop .inv .4) (c .loop-test .left)
 
 pub row-spec : {M : Type 1} → statement M
 row-spec =

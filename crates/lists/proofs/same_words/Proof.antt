@@ -1,7 +1,6 @@
 -- `lists::same_words` meets its contract. Assumes nothing.
-use mathlib.Core.Path.{_≡_, refl, sym, _∙_}
-use Prim.Native.Nat.{ℕ, _≤_, _<_, _-_}
-use lib.ListN.{getD}
+use mathlib.Core.Path.{refl, sym, _∙_}
+use Prim.Native.Nat.{_≤_, _-_}
 use native.Mathlib.Omega.{arith}
 use borrow.Author.Count.{below-none, below-more}
 use borrow.Author.Needs.{needs}

@@ -4,34 +4,49 @@ use native.Mathlib.Omega.{arith}
 use borrow.Author.Needs.{needs}
 use Rattle.theory.specs.Groups.{everyone}
 use Rattle.theory.specs.Words.{list-in}
-use Rattle.slots.proofs.Words.{few-modules, few-pairs, list-ends}
+use Rattle.slots.proofs.Held.{zero-at}
+use Rattle.slots.proofs.Words.{few-modules, few-pairs}
+use Rattle.peel.proofs.Laying.{laid-degrees}
 use Rattle.peel.proofs.Ranks.{ranked-buildable, ranked-built}
 use Rattle.peel.proofs.Remainders.{all-light}
 use Rattle.peel.proofs.Answers.{answer-numberable, answer-pickable, answer}
 use Rattle.peel.proofs.peel.Statement.{statement}
 use Rattle.peel.proofs.peel.Tie as tie
 
--- the function's entry
-abbrev begin : tie.After-count → tie.Start
-begin x = x .before .before .before .before .before .before .before .before .before .before .before .before
+-- the places of the calls, each from the next
+abbrev begin : tie.After-lay-out → tie.Start
+begin x = x .before .before .before .before .before .before .before .before .before .before
 
-slice-aggregate-links : tie.Need-slice-aggregate-links
-slice-aggregate-links c = search needs
+abbrev laid : tie.After-turns → tie.After-lay-out
+laid t = t .before .before .before .before .before .before .before .before .before .before .before .before .before .before .before
 
-slice-aggregate-links-2 : tie.Need-slice-aggregate-links-2
-slice-aggregate-links-2 c = search needs
+slice-aggregate-lay-out : tie.Need-slice-aggregate-lay-out
+slice-aggregate-lay-out c = search needs
 
-links-requires : tie.Need-links-requires
-links-requires c κs =
-    let h = c .before .before .before .before .before .before .before .pre .0 in
-    let few = few-pairs _ _ _ _ (h .listed) in
-    (list-ends _ _ _ _ (h .listed) (h .ends-long), (few-modules _ _ _ _ (h .listed), omega arith))
+slice-aggregate-lay-out-2 : tie.Need-slice-aggregate-lay-out-2
+slice-aggregate-lay-out-2 c = search needs
 
-slice-aggregate-count : tie.Need-slice-aggregate-count
-slice-aggregate-count c = search needs
+slice-aggregate-lay-out-3 : tie.Need-slice-aggregate-lay-out-3
+slice-aggregate-lay-out-3 c = search needs
 
-count-requires : tie.Need-count-requires
-count-requires c κs = let h = c .before .before .before .before .before .before .before .before .before .before .before .pre .0 in (h, few-modules _ _ _ _ (h .listed))
+slice-aggregate-lay-out-4 : tie.Need-slice-aggregate-lay-out-4
+slice-aggregate-lay-out-4 c = search needs
+
+lay-out-requires : tie.Need-lay-out-requires
+lay-out-requires c κs =
+    let h = c .before .before .before .before .before .before .before .before .before .pre .0 in
+    let n = few-modules _ _ _ _ (h .listed) in (
+      h,
+      record {
+        rows-long = n;
+        first-long = n;
+        next-long = few-pairs _ _ _ _ (h .listed);
+        degrees-long = n;
+        rows-none = λ v l. zero-at 512 v;
+        first-none = λ v l. zero-at 512 v;
+        degrees-none = λ v l. zero-at 512 v;
+      },
+    )
 
 slice-aggregate-build : tie.Need-slice-aggregate-build
 slice-aggregate-build c = search needs
@@ -41,12 +56,15 @@ slice-aggregate-build-2 c = search needs
 
 build-requires : tie.Need-build-requires
 build-requires c κs =
-    let x = c .before .before .before in
+    let x = c .before .before .before .before .before .before in
     let s = begin x in
     let a = s .args in
-    let n = x .count .kept .1 .1 .1 .1 .0 in
-    let few = few-modules _ _ _ _ (s .pre .0 .listed) in
-    (ranked-buildable (a .n) (a .m) (a .ends .now) (a .weights .now) (s .pre .0) _ (x .count .ensures) (omega arith), refl)
+    let few = few-modules _ _ _ _ (s .pre .0 .listed) in (
+      ranked-buildable (a .n) (a .m) (a .ends .now) (a .weights .now) (s .pre .0) _
+          (laid-degrees (s .pre .0) (x .lay-out .ensures))
+          (omega (arith, x .lay-out .kept .1 .1 .1 .1 .1 .1 .1 .0)),
+      refl,
+    )
 
 slice-aggregate-turns : tie.Need-slice-aggregate-turns
 slice-aggregate-turns c = search needs
@@ -60,21 +78,26 @@ slice-aggregate-turns-3 c = search needs
 slice-aggregate-turns-4 : tie.Need-slice-aggregate-turns-4
 slice-aggregate-turns-4 c = search needs
 
+slice-aggregate-turns-5 : tie.Need-slice-aggregate-turns-5
+slice-aggregate-turns-5 c = search needs
+
 turns-requires : tie.Need-turns-requires
 turns-requires c κs =
-    let b = c .before .before .before .before .before .before in
-    let x = b .before .before .before .before in
+    let b = c .before .before .before .before .before .before .before in
+    let x = b .before .before .before .before .before .before .before in
     let s = begin x in
     let a = s .args in
-    let l = x .before .before .before .before .links in
-    let n = few-modules _ _ _ _ (s .pre .0 .listed) in
-    let m = few-pairs _ _ _ _ (s .pre .0 .listed) in (
+    let d = x .lay-out .ensures in (
       s .pre .0,
       (
-        record { linked = l .ensures; first-long = omega (arith, l .kept .1 .1 .1 .0); next-long = omega (arith, l .kept .1 .1 .1 .1 .0) },
+        d .rows-are,
         (
-          ranked-built (a .n) (a .m) (a .ends .now) (a .weights .now) (s .pre .0) _ (x .count .ensures) _ (b .build .ensures),
-          (s .pre .1 .order-long, few-modules (a .n) (a .m) (a .ends .now) (a .weights .now) (s .pre .0 .listed)),
+          d .chains-are,
+          (
+            ranked-built (a .n) (a .m) (a .ends .now) (a .weights .now) (s .pre .0) _
+                (laid-degrees (s .pre .0) d) _ (b .build .ensures),
+            (s .pre .1 .order-long, few-modules (a .n) (a .m) (a .ends .now) (a .weights .now) (s .pre .0 .listed)),
+          ),
         ),
       ),
     )
@@ -86,8 +109,7 @@ number-requires : tie.Need-number-requires
 unfolding list-in
 number-requires c κs =
     let t = c .before .before .before .before .before .before .before .before in
-    let x = t .before .before .before .before .before .before .before .before .before .before .before in
-    let s = begin x in
+    let s = begin (laid t) in
     let a = s .args in
     let b = s .pre .1 in
     answer-numberable (list-in (a .n) (a .m) (a .ends .now) (a .weights .now)) (s .pre .0 .listed) _ _ _ _ (t .turns .ensures) _ _
@@ -100,8 +122,7 @@ densest-requires : tie.Need-densest-requires
 unfolding list-in
 densest-requires c κs =
     let t = c .before .before .before .before .before .before .before .before .before .before .before .before .before .before in
-    let x = t .before .before .before .before .before .before .before .before .before .before .before in
-    let s = begin x in
+    let s = begin (laid t) in
     let a = s .args in
     let b = s .pre .1 in
     answer-pickable (list-in (a .n) (a .m) (a .ends .now) (a .weights .now)) (s .pre .0 .listed) _ _ _ _ (t .turns .ensures)
@@ -123,8 +144,7 @@ unfolding list-in
 returns c =
     let k = c .before .before .before .before .before .before in
     let t = k .before .before .before .before .before .before .before .before .before in
-    let x = t .before .before .before .before .before .before .before .before .before .before .before in
-    let s = begin x in
+    let s = begin (laid t) in
     let a = s .args in
     let b = s .pre .1 in
     answer (list-in (a .n) (a .m) (a .ends .now) (a .weights .now)) (s .pre .0 .listed) _ _ _ _ (t .turns .ensures)
@@ -135,11 +155,11 @@ pub peel-spec : {M : Type 1} → statement M
 peel-spec =
     tie.close
     (tie.spec
-    slice-aggregate-links
-    slice-aggregate-links-2
-    links-requires
-    slice-aggregate-count
-    count-requires
+    slice-aggregate-lay-out
+    slice-aggregate-lay-out-2
+    slice-aggregate-lay-out-3
+    slice-aggregate-lay-out-4
+    lay-out-requires
     slice-aggregate-build
     slice-aggregate-build-2
     build-requires
@@ -147,6 +167,7 @@ peel-spec =
     slice-aggregate-turns-2
     slice-aggregate-turns-3
     slice-aggregate-turns-4
+    slice-aggregate-turns-5
     turns-requires
     slice-aggregate-number
     number-requires

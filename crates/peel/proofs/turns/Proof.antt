@@ -10,19 +10,23 @@ use Rattle.peel.proofs.turns.Statement.{statement}
 use Rattle.peel.proofs.turns.Tie as tie
 
 abbrev Inv-loop : tie.InvT-loop
-Inv-loop n m ends weights first next work₀ order₀ falls₀ i₀ work order falls i =
+Inv-loop n m ends weights rows first next work₀ order₀ falls₀ i₀ work order falls i =
     Turning (list-in n m ends weights) i order₀ falls₀ work order falls × (i ≤ n) × (length work ≡ length work₀)
 
 abbrev μ-loop : tie.MeasureT-loop
-μ-loop n m ends weights first next work₀ order₀ falls₀ i₀ work order falls i = n - i
+μ-loop n m ends weights rows first next work₀ order₀ falls₀ i₀ work order falls i = n - i
+
+-- the function's entry
+abbrev begin : tie.At-loop Inv-loop μ-loop → tie.Start Inv-loop μ-loop
+begin l = l .before .before .before .before .before .before .before .before .before
 
 loop-holds : tie.Need-loop-holds Inv-loop μ-loop
-loop-holds c = (turning-start _ _ _ _ (c .before .before .before .before .before .before .before .pre .1 .1 .0), omega arith, refl)
+loop-holds c = (turning-start _ _ _ _ (c .before .before .before .before .before .before .before .before .pre .1 .1 .1 .0), omega arith, refl)
 
 take-requires : tie.Need-take-requires Inv-loop μ-loop
 take-requires c κs =
     let l = c .before .before in
-    let s = l .before .before .before .before .before .before .before .before in
+    let s = begin l in
     let a = s .args in (
       l .loop .inv .0 .ranked .ranking,
       turn-someone (a .n) (a .m) (a .ends .now) (a .weights .now) (s .pre .0) (l .loop .i) (omega arith) (a .order .now) (a .falls .now)
@@ -47,10 +51,12 @@ slice-write-falls c = omega (arith, c .before .before .before .before .before .l
 loosen-requires : tie.Need-loosen-requires Inv-loop μ-loop
 loosen-requires c κs =
     let l = c .before .before .before .before .before .before in
-    let s = l .before .before .before .before .before .before .before .before in
-    let a = s .args in
-    turn-loosable (a .n) (a .m) (a .ends .now) (a .weights .now) (s .pre .0) (l .loop .i) (omega arith) (a .order .now) (a .falls .now)
-    (l .loop .work) (l .loop .order) (l .loop .falls) (l .loop .inv .0) _ _ (c .before .before .before .take .ensures) _ _ (s .pre .1 .0)
+    let s = begin l in
+    let a = s .args in (
+      turn-loosable (a .n) (a .m) (a .ends .now) (a .weights .now) (s .pre .0) (l .loop .i) (omega arith) (a .order .now) (a .falls .now)
+          (l .loop .work) (l .loop .order) (l .loop .falls) (l .loop .inv .0) _ _ (c .before .before .before .take .ensures),
+      (s .pre .1 .0, s .pre .1 .1 .0),
+    )
 
 add-i : tie.Need-add-i Inv-loop μ-loop
 add-i c = omega arith
@@ -62,14 +68,14 @@ loop-again : tie.Need-loop-again Inv-loop μ-loop
 loop-again c =
     let k = c .before .before .before .before .before .before in
     let l = k .before .before .before in
-    let s = l .before .before .before .before .before .before .before .before in
+    let s = begin l in
     let a = s .args in
     let o = c .before .before in (
       turn-next (a .n) (a .m) (a .ends .now) (a .weights .now) (s .pre .0) (l .loop .i) (omega arith) (a .order .now) (a .falls .now)
           (l .loop .work) (l .loop .order) (l .loop .falls) (l .loop .inv .0)
-          _ _ (k .take .ensures) _ (o .loosen .ensures) (omega arith) (omega arith),
+          _ _ (k .take .ensures) _ (o .loosen .ensures) (s .pre .1 .1 .1 .1 .0) (s .pre .1 .1 .1 .1 .1),
       omega arith,
-      o .loosen .kept .1 .1 .1 .1 .1 .1 .1 .0 ∙ k .take .kept .0 ∙ l .loop .inv .2,
+      o .loosen .kept .1 .1 .1 .1 .1 .1 .1 .1 .0 ∙ k .take .kept .0 ∙ l .loop .inv .2,
     )
 
 same-length : tie.Need-same-length Inv-loop μ-loop
@@ -84,7 +90,7 @@ same-length-3 c = c .before .loop .inv .0 .turned .falls-are .long
 returns : tie.Need-returns Inv-loop μ-loop
 returns c =
     let l = c .before in
-    let all : l .loop .i ≡ l .before .before .before .before .before .before .before .before .args .n = omega arith in
+    let all : l .loop .i ≡ begin l .args .n = omega arith in
     rw all at (l .loop .inv .0 .turned)
 
 pub turns-spec : {M : Type 1} → statement M

@@ -1,6 +1,4 @@
 -- `peel_trials::compare` is safe, and calls peel only where the words hold a list. Assumes nothing.
-use mathlib.Core.Path.{sym}
-use lib.Seq.{length-take-le}
 use Rattle.lists.proofs.Held.{Words-hold, words-hold}
 use native.Mathlib.Omega.{arith}
 use borrow.Author.Needs.{needs}
@@ -25,12 +23,6 @@ is-held-requires c κs = search needs
 returns : tie.Need-returns
 returns c = search needs
 
-mul-words : tie.Need-mul-words
-mul-words c = let h = held c in omega arith
-
-slice-aggregate-pairs : tie.Need-slice-aggregate-pairs
-slice-aggregate-pairs c = sym (length-take-le _ _ (held (c .before) .words .ends-long))
-
 slice-aggregate-peel : tie.Need-slice-aggregate-peel
 slice-aggregate-peel c = search needs
 
@@ -42,7 +34,7 @@ slice-aggregate-peel-3 c = search needs
 
 peel-requires : tie.Need-peel-requires
 peel-requires c κs =
-    let h = held (c .before .before .before .before) in (
+    let h = held (c .before .before .before) in (
       h .words,
       record { some = omega arith; few = h .some; order-long = h .few; cores-long = h .few; place-long = h .few },
     )
@@ -84,8 +76,6 @@ compare-spec =
     wide-requires
     is-held-requires
     returns
-    mul-words
-    slice-aggregate-pairs
     slice-aggregate-peel
     slice-aggregate-peel-2
     slice-aggregate-peel-3

@@ -9,18 +9,18 @@ use Rattle.push.proofs.serve.Statement.{statement}
 use Rattle.push.proofs.serve.Tie as tie
 
 abbrev Inv-loop : tie.InvT-loop
-Inv-loop n m p count ends first next hold₀ load₀ label₀ line₀ at₀ tail₀ hold load label line at tail =
-    Kept n m ends hold₀ load₀ hold load × (at ≤ length line) × (tail ≤ length line) × (length line ≡ length line₀) × (n ≤ length label) × (length label ≡ length label₀)
+Inv-loop n m p count ends first next hold₀ load₀ label₀ arc₀ line₀ at₀ tail₀ hold load label arc line at tail =
+    Kept n m ends hold₀ load₀ hold load × (at ≤ length line) × (tail ≤ length line) × (length line ≡ length line₀) × (length label ≡ length label₀) × (length arc ≡ length arc₀)
 
 abbrev μ-loop : tie.MeasureT-loop
-μ-loop n m p count ends first next hold₀ load₀ label₀ line₀ at₀ tail₀ hold load label line at tail = length line - at
+μ-loop n m p count ends first next hold₀ load₀ label₀ arc₀ line₀ at₀ tail₀ hold load label arc line at tail = length line - at
 
 -- the function's entry
 abbrev begin : tie.At-loop Inv-loop μ-loop → tie.Start Inv-loop μ-loop
-begin c = c .before .before .before .before .before .before .before .before
+begin c = c .before .before .before .before .before .before .before .before .before
 
 loop-holds : tie.Need-loop-holds Inv-loop μ-loop
-loop-holds c = let q = c .before .before .before .before .before .before .before .pre in (kept-none _ _ _ _ _, omega arith, q .1 .1 .1 .1 .1 .1, refl, q .1 .1 .1 .1 .1 .0, refl)
+loop-holds c = let q = c .before .before .before .before .before .before .before .before .pre in (kept-none _ _ _ _ _, omega arith, q .1 .1 .1 .1 .1 .2, refl, refl, refl)
 
 mul-wide : tie.Need-mul-wide Inv-loop μ-loop
 mul-wide c = omega arith
@@ -35,13 +35,36 @@ add-at : tie.Need-add-at Inv-loop μ-loop
 add-at c = omega arith
 
 discharge-requires : tie.Need-discharge-requires Inv-loop μ-loop
-discharge-requires c κs = let q = begin (c .before .before .before .before .before .before .before .before) .pre in let i = c .before .before .before .before .before .before .before .before .loop .inv in (q .0, (q .1 .0, ((c .before .before .before .before .if1 .taken, q .1 .1 .0 .0, q .1 .1 .0 .1), (kept-room (i .0) (q .1 .1 .1 .0), (kept-covers (i .0) (q .1 .1 .1 .1 .0), (i .4, i .2))))))
+discharge-requires c κs =
+    let a = c .before .before .before .before .before .before .before .before .before in
+    let q = begin a .pre in
+    let i = a .loop .inv in
+    let b = q .1 .1 .1 .1 .1 in (
+      q .0,
+      (
+        q .1 .0,
+        (
+          (c .before .before .before .before .before .if1 .taken, q .1 .1 .0 .0, q .1 .1 .0 .1),
+          (kept-room (i .0) (q .1 .1 .1 .0), (kept-covers (i .0) (q .1 .1 .1 .1 .0), (omega (arith, b .0, i .4), omega (arith, b .1, i .5), i .2))),
+        ),
+      ),
+    )
 
 loop-less : tie.Need-loop-less Inv-loop μ-loop
 loop-less c = omega arith
 
 loop-again : tie.Need-loop-again Inv-loop μ-loop
-loop-again c = let i = c .before .before .before .before .before .before .before .before .before .before .before .before .before .before .before .before .before .loop .inv in let d = c .before .before .before .before .before .before .before .before .discharge in let k = d .kept .1 .1 .1 .1 .1 .1 .1 .1 .1 .1 in (kept-more (i .0) (d .ensures .1), omega (arith, k .1 .0), omega (arith, d .ensures .0, k .1 .0), omega (arith, k .1 .0), omega (arith, k .0), omega (arith, k .0))
+loop-again c =
+    let d = c .before .before .before .before .before .before .before .before .before .before in
+    let i = d .before .before .before .before .before .before .before .before .before .before .loop .inv in
+    let k = d .discharge .kept .1 .1 .1 .1 .1 .1 .1 .1 .1 .1 in (
+      kept-more (i .0) (d .discharge .ensures .1),
+      omega (arith, k .1 .1 .0),
+      omega (arith, d .discharge .ensures .0, k .1 .1 .0),
+      omega (arith, k .1 .1 .0),
+      omega (arith, k .0),
+      omega (arith, k .1 .0),
+    )
 
 loop-less-2 : tie.Need-loop-less-2 Inv-loop μ-loop
 loop-less-2 c = omega arith
@@ -60,6 +83,9 @@ same-length-3 c = omega arith
 
 same-length-4 : tie.Need-same-length-4 Inv-loop μ-loop
 same-length-4 c = omega arith
+
+same-length-5 : tie.Need-same-length-5 Inv-loop μ-loop
+same-length-5 c = omega arith
 
 returns : tie.Need-returns Inv-loop μ-loop
 returns c = c .before .loop .inv .0
@@ -84,4 +110,5 @@ serve-spec =
     same-length-2
     same-length-3
     same-length-4
+    same-length-5
     returns)

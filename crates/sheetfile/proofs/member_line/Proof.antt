@@ -1,7 +1,6 @@
 -- `member_line` meets its contract. Assumes nothing.
 use mathlib.Core.Path.{refl}
 use mathlib.Core.Logic.{⊎-elim, inl, inr}
-use native.Mathlib.Omega.{arith}
 use Rattle.theory.specs.Basics.{mark}
 use Rattle.pairfile.specs.Text.{text, between}
 use Rattle.pairfile.specs.Lines.{is-place, places}

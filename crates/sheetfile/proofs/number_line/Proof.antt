@@ -1,6 +1,5 @@
 -- `number_line` meets its contract. Assumes nothing.
 use mathlib.Core.Path.{refl}
-use native.Mathlib.Omega.{arith}
 use Rattle.theory.specs.Basics.{mark}
 use Rattle.pairfile.specs.Text.{text, between}
 use Rattle.pairfile.specs.Lines.{is-place, places}

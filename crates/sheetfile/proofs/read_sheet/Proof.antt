@@ -7,7 +7,7 @@ use Rattle.pairfile.specs.Lines.{is-place, places}
 use Rattle.pairfile.proofs.Judged.{LineHas, line-has}
 use Rattle.sheetfile.specs.Sheet.{head-form}
 use Rattle.sheetfile.specs.Answers.{list-of}
-use Rattle.sheetfile.proofs.Bodies.{head-none, head-unfit, head-read}
+use Rattle.sheetfile.proofs.Bodies.{head-none, head-small, head-unfit, head-read}
 use borrow.Author.Needs.{needs}
 use Rattle.sheetfile.proofs.read_sheet.Statement.{statement}
 use Rattle.sheetfile.proofs.read_sheet.Tie as tie
@@ -39,11 +39,11 @@ numbers : (c : tie.After-known-told) →
 unfolding head-form text places is-place between mark
 numbers c = line-has (c .before .before .before .before .line-at .ensures) (c .before .next .given .1)
 
-array-read-wide : tie.Need-array-read-wide
-array-read-wide c = search needs
+array-read-q : tie.Need-array-read-q
+array-read-q c = search needs
 
-wide-requires : tie.Need-wide-requires
-wide-requires c κs = search needs
+cast-q : tie.Need-cast-q
+cast-q c = record { fits = omega (arith, head-small (numbers c)) }
 
 refused-head-requires-2 : tie.Need-refused-head-requires-2
 refused-head-requires-2 c κs = search needs
@@ -51,13 +51,12 @@ refused-head-requires-2 c κs = search needs
 returns : tie.Need-returns
 unfolding list-of
 returns c =
-    let w = c .before .before in
     rw (c .refused-head2 .ensures)
-    (head-unfit (numbers (w .before)) _ (w .wide .ensures) _ _ (⊎-elim (λ o. inl (o .taken)) (λ o. inr (o .1 .taken)) (c .before .if1 .came)))
+    (head-unfit (numbers (c .before .before)) _ _ _ (⊎-elim (λ o. inl (o .taken)) (λ o. inr (o .1 .taken)) (c .before .if1 .came)))
 
 read-body-requires : tie.Need-read-body-requires
 read-body-requires c κs =
-    let k = c .before .before .before .before .before in
+    let k = c .before .before .before .before in
     let start = k .before .before .before .before .before .before .before .before .before .before .before .before in
     (numbers k .within, start .pre)
 
@@ -88,9 +87,8 @@ returns-3 : tie.Need-returns-3
 unfolding list-of
 returns-3 c =
     let b = c .before .before .before .before in
-    let w = b .before .before .before .before .before in
-    head-read (numbers (w .before)) _ (w .wide .ensures) (b .before .before .before .before .if1 .left) (b .before .before .before .if2 .left)
-    (b .read-body .ensures)
+    let i = b .before .before .before .before in
+    head-read (numbers (i .before)) _ (i .if1 .left) (b .before .before .before .if2 .left) (b .read-body .ensures)
 
 pub read-sheet-spec : {M : Type 1} → statement M
 read-sheet-spec =
@@ -102,8 +100,8 @@ read-sheet-spec =
     enum-told
     refused-head-requires
     enum-known-next
-    array-read-wide
-    wide-requires
+    array-read-q
+    cast-q
     refused-head-requires-2
     returns
     read-body-requires

@@ -1,5 +1,4 @@
 -- `share_line` meets its contract. Assumes nothing.
-use mathlib.Core.Path.{refl}
 use mathlib.Core.Logic.{⊎-elim, inl, inr}
 use native.Mathlib.Omega.{arith}
 use Rattle.theory.specs.Basics.{mark}

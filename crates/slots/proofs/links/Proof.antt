@@ -2,16 +2,17 @@
 use native.Mathlib.Omega.{arith}
 use mathlib.Core.Path.{_≡_, refl, _∙_}
 use Prim.Native.Nat.{_*_, _-_, _≤_, _<_}
-use lib.ListN.{length, length-set}
+use lib.ListN.{length, getD}
 use Rattle.slots.specs.Slots.{Ends}
-use Rattle.slots.proofs.Linking.{Chained, chained-start, chained-next, chained-end}
+use Rattle.slots.specs.Links.{Linked}
+use Rattle.slots.proofs.Linking.{linked-start, linked-next}
 use Rattle.slots.proofs.links.Statement.{statement}
 use Rattle.slots.proofs.links.Tie as tie
 
 abbrev Inv-loop : tie.InvT-loop
 Inv-loop n m ends first₀ next₀ slots s₀ first next s =
     Ends n m ends × (s ≤ slots) × (slots ≡ 2 * m) × (length first ≡ length first₀) × (length next ≡ length next₀) × (n ≤ length first)
-    × (2 * m ≤ length next) × Chained n s ends first next
+    × (2 * m ≤ length next) × Linked n s (λ k. getD ends k 0) first next
 
 abbrev μ-loop : tie.MeasureT-loop
 μ-loop n m ends first₀ next₀ slots s₀ first next s = slots - s
@@ -41,7 +42,7 @@ loop-holds c =
       refl,
       omega (arith, c .before .before .clear .kept .1 .0, q .1 .0),
       q .1 .1,
-      chained-start (c .before .before .clear .ensures),
+      linked-start (c .before .before .clear .ensures),
     )
 
 mul-wide : tie.Need-mul-wide Inv-loop μ-loop
@@ -53,29 +54,10 @@ shared-slice-read-wide c = omega arith
 wide-requires : tie.Need-wide-requires Inv-loop μ-loop
 wide-requires c κs = tt
 
-mul-next : tie.Need-mul-next Inv-loop μ-loop
-mul-next c = let l = module-low c in omega arith
-
-slice-read-next : tie.Need-slice-read-next Inv-loop μ-loop
-slice-read-next c = let l = module-low (c .before) in omega arith
-
-mul-next-2 : tie.Need-mul-next-2 Inv-loop μ-loop
-mul-next-2 c = omega arith
-
-slice-write-next : tie.Need-slice-write-next Inv-loop μ-loop
-slice-write-next c = omega arith
-
-add-first : tie.Need-add-first Inv-loop μ-loop
-add-first c = omega arith
-
-cast-first : tie.Need-cast-first Inv-loop μ-loop
-cast-first c = omega arith
-
-mul-first : tie.Need-mul-first Inv-loop μ-loop
-mul-first c = let l = module-low (c .before) in omega arith
-
-slice-write-first : tie.Need-slice-write-first Inv-loop μ-loop
-slice-write-first c = let l = module-low (c .before) in omega arith
+link-requires : tie.Need-link-requires Inv-loop μ-loop
+link-requires c κs =
+    let l = module-low (c .before .before) in
+    (omega (arith, c .before .before .before .before .before .loop .inv .0 .few), (omega arith, omega arith))
 
 add-s : tie.Need-add-s Inv-loop μ-loop
 add-s c = omega arith
@@ -85,15 +67,17 @@ loop-less c = omega arith
 
 loop-again : tie.Need-loop-again Inv-loop μ-loop
 loop-again c =
-    let i = c .before .before .before .before .loop .inv in (
+    let k = c .before .before .before .before in
+    let w = k .before .before .before in
+    let i = w .before .before .before .loop .inv in (
       i .0,
       omega arith,
       refl,
-      simp length-set (i .3),
-      simp length-set (i .4),
-      simp length-set (i .5),
-      simp length-set (i .6),
-      chained-next (c .before .wide .ensures) (module-low (c .before)) (i .5) (omega arith) (i .7),
+      k .link .kept .1 .1 .0 ∙ i .3,
+      k .link .kept .1 .1 .1 .0 ∙ i .4,
+      omega (arith, k .link .kept .1 .1 .0),
+      omega (arith, k .link .kept .1 .1 .1 .0),
+      linked-next (w .wide .ensures) (module-low w) (i .5) (omega arith) (i .7) (k .link .ensures),
     )
 
 same-length : tie.Need-same-length Inv-loop μ-loop
@@ -103,7 +87,9 @@ same-length-2 : tie.Need-same-length-2 Inv-loop μ-loop
 same-length-2 c = c .before .loop .inv .4
 
 returns : tie.Need-returns Inv-loop μ-loop
-returns c = chained-end (omega arith) (c .before .loop .inv .7)
+returns c =
+    let all : c .before .loop .s ≡ 2 * begin (c .before) .args .m = omega arith in
+    rw all at (c .before .loop .inv .7)
 
 pub links-spec : {M : Type 1} → statement M
 links-spec =
@@ -117,14 +103,7 @@ links-spec =
     mul-wide
     shared-slice-read-wide
     wide-requires
-    mul-next
-    slice-read-next
-    mul-next-2
-    slice-write-next
-    add-first
-    cast-first
-    mul-first
-    slice-write-first
+    link-requires
     add-s
     loop-less
     loop-again

@@ -1,9 +1,8 @@
 -- `subsets::compare` is safe, and calls solve and check_words only where the words hold a list. Assumes nothing.
-use mathlib.Core.Path.{_≡_, sym}
+use mathlib.Core.Path.{_≡_}
 use mathlib.Core.Bool.{true}
 use mathlib.Core.List.{List}
 use Prim.Native.Nat.{ℕ, _≤_}
-use lib.Seq.{length-take-le}
 use Rattle.theory.specs.Lists.{is-list}
 use Rattle.theory.specs.Words.{word-pair, pairs-in, list-in}
 use Rattle.theory.proofs.Lists.{listed}
@@ -43,12 +42,6 @@ is-held-requires c κs = search needs
 returns : tie.Need-returns
 returns c = search needs
 
-mul-words : tie.Need-mul-words
-mul-words c = let h = held c in omega arith
-
-slice-aggregate-pairs : tie.Need-slice-aggregate-pairs
-slice-aggregate-pairs c = sym (length-take-le _ _ (held (c .before) .words .ends-long))
-
 slice-aggregate-solve : tie.Need-slice-aggregate-solve
 slice-aggregate-solve c = search needs
 
@@ -60,7 +53,7 @@ slice-aggregate-solve-3 c = search needs
 
 solve-requires : tie.Need-solve-requires
 solve-requires c κs =
-    let e = c .before .before .before .before in
+    let e = c .before .before .before in
     let h = held e in
     (h .words, (h .few, h .few, few e))
 
@@ -94,7 +87,7 @@ slice-aggregate-check-words-2 c = search needs
 check-words-requires : tie.Need-check-words-requires
 check-words-requires c κs =
     let altered = c .before .before .before .before .before .before .before .before .before in
-    let e = altered .before .before .before .before .before .before .before .before .before .before .before .before in
+    let e = altered .before .before .before .before .before .before .before .before .before .before .before in
     let h = held e in (
       h .words,
       (omega (arith, h .few, slice-aggregate-check-words (c .before)), omega (arith, few e, slice-aggregate-check-words-2 c)),
@@ -122,8 +115,6 @@ compare-spec =
     wide-requires
     is-held-requires
     returns
-    mul-words
-    slice-aggregate-pairs
     slice-aggregate-solve
     slice-aggregate-solve-2
     slice-aggregate-solve-3

@@ -5,10 +5,10 @@ use Rattle.subsets.proofs.orders_right.Statement.{statement}
 use Rattle.subsets.proofs.orders_right.Tie as tie
 
 abbrev Inv-loop : tie.InvT-loop
-Inv-loop n pairs cores k₀ k = Unit {0}
+Inv-loop n m ends cores k₀ k = Unit {0}
 
 abbrev μ-loop : tie.MeasureT-loop
-μ-loop n pairs cores k₀ k = n - k
+μ-loop n m ends cores k₀ k = n - k
 
 loop-holds : tie.Need-loop-holds Inv-loop μ-loop
 loop-holds c = search needs

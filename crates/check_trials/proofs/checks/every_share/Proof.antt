@@ -5,10 +5,10 @@ use Rattle.check_trials.proofs.checks.every_share.Statement.{statement}
 use Rattle.check_trials.proofs.checks.every_share.Tie as tie
 
 abbrev Inv-loop : tie.InvT-loop
-Inv-loop m ends weights members count now₀ code₀ now code = Unit {0}
+Inv-loop m ends weights members group count now₀ code₀ now code = Unit {0}
 
 abbrev μ-loop : tie.MeasureT-loop
-μ-loop m ends weights members count now₀ code₀ now code = count - code
+μ-loop m ends weights members group count now₀ code₀ now code = count - code
 
 share-codes-requires : tie.Need-share-codes-requires Inv-loop μ-loop
 share-codes-requires c κs = search needs

@@ -5,10 +5,10 @@ use Rattle.check_trials.proofs.plain.overloaded.Statement.{statement}
 use Rattle.check_trials.proofs.plain.overloaded.Tie as tie
 
 abbrev Inv-loop : tie.InvT-loop
-Inv-loop n p q pairs shares v₀ v = Unit {0}
+Inv-loop n p q m ends shares v₀ v = Unit {0}
 
 abbrev μ-loop : tie.MeasureT-loop
-μ-loop n p q pairs shares v₀ v = n - v
+μ-loop n p q m ends shares v₀ v = n - v
 
 loop-holds : tie.Need-loop-holds Inv-loop μ-loop
 loop-holds c = search needs

@@ -7,37 +7,19 @@ use Rattle.check_trials.proofs.sheets.share_out.Statement.{statement}
 use Rattle.check_trials.proofs.sheets.share_out.Tie as tie
 
 abbrev Inv-loop : tie.InvT-loop
-Inv-loop kind q pairs shares₀ m j₀ shares j = length shares ≡ length shares₀
+Inv-loop kind q m ends shares₀ j₀ shares j = length shares ≡ length shares₀
 
 abbrev μ-loop : tie.MeasureT-loop
-μ-loop kind q pairs shares₀ m j₀ shares j = m - j
+μ-loop kind q m ends shares₀ j₀ shares j = m - j
 
 loop-holds : tie.Need-loop-holds Inv-loop μ-loop
 loop-holds c = search needs
 
-mul-fair-share : tie.Need-mul-fair-share Inv-loop μ-loop
-mul-fair-share c = search needs
+pair-at-requires : tie.Need-pair-at-requires Inv-loop μ-loop
+pair-at-requires c κs = search needs
 
-mul-fair-share-2 : tie.Need-mul-fair-share-2 Inv-loop μ-loop
-mul-fair-share-2 c = search needs
-
-shared-slice-read-fair-share : tie.Need-shared-slice-read-fair-share Inv-loop μ-loop
-shared-slice-read-fair-share c = search needs
-
-mul-fair-share-3 : tie.Need-mul-fair-share-3 Inv-loop μ-loop
-mul-fair-share-3 c = search needs
-
-add-fair-share : tie.Need-add-fair-share Inv-loop μ-loop
-add-fair-share c = search needs
-
-mul-fair-share-4 : tie.Need-mul-fair-share-4 Inv-loop μ-loop
-mul-fair-share-4 c = search needs
-
-shared-slice-read-fair-share-2 : tie.Need-shared-slice-read-fair-share-2 Inv-loop μ-loop
-shared-slice-read-fair-share-2 c = search needs
-
-fair-share-requires : tie.Need-fair-share-requires Inv-loop μ-loop
-fair-share-requires c κs = search needs
+pair-share-requires : tie.Need-pair-share-requires Inv-loop μ-loop
+pair-share-requires c κs = search needs
 
 put-share-requires : tie.Need-put-share-requires Inv-loop μ-loop
 put-share-requires c κs = search needs
@@ -64,14 +46,8 @@ share-out-spec =
     Inv-loop
     μ-loop
     loop-holds
-    mul-fair-share
-    mul-fair-share-2
-    shared-slice-read-fair-share
-    mul-fair-share-3
-    add-fair-share
-    mul-fair-share-4
-    shared-slice-read-fair-share-2
-    fair-share-requires
+    pair-at-requires
+    pair-share-requires
     put-share-requires
     add-j
     loop-less

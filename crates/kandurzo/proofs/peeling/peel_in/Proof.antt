@@ -1,10 +1,9 @@
 -- `peel_in` meets its contract: peel on the parts, narrowed. Assumes nothing.
 use mathlib.Core.Path.{_≡_, _∙_}
-use Prim.Native.Nat.{_+_, _*_, _-_, _≤_}
+use Prim.Native.Nat.{_≤_}
 use native.Mathlib.Omega.{arith}
 use borrow.Author.Needs.{needs}
-use lib.ListN.{length, take, drop, length-drop}
-use lib.Seq.{length-take-le}
+use lib.ListN.{length}
 use denote.Ref.{now}
 use Rattle.theory.specs.Lists.{Pairs}
 use Rattle.theory.specs.Leaving.{leaving}
@@ -13,10 +12,18 @@ use Rattle.theory.specs.Promise.{Leaving-steps}
 use Rattle.theory.proofs.Lists.{listed}
 use Rattle.theory.proofs.Leaving.{leaving-steps}
 use Rattle.theory.proofs.Bounds.{leaving-below}
-use Rattle.kandurzo.specs.Gate.{ends-part, weights-part}
+use Rattle.kandurzo.specs.Gate.{list-in-parts}
+use Rattle.kandurzo.proofs.Parts.{cut-list, cut-held}
 use Rattle.kandurzo.proofs.Peels.{narrowed, narrow-long, narrow-fits, cores-long, cores-fit, cores-narrowed, cores-in-front}
 use Rattle.kandurzo.proofs.peeling.peel_in.Statement.{statement}
 use Rattle.kandurzo.proofs.peeling.peel_in.Tie as tie
+
+-- the function's entry, and its list
+abbrev begin : tie.After-peel → tie.Start
+begin c = c .before .before .before .before .before .before .before .before .before
+
+abbrev list-of : tie.Start → Pairs
+list-of s = list-in-parts (s .args .n) (s .args .m) (now (s .args .work))
 
 mul-ends : tie.Need-mul-ends
 mul-ends c = search needs
@@ -52,19 +59,12 @@ slice-aggregate-peel-3 : tie.Need-slice-aggregate-peel-3
 slice-aggregate-peel-3 c = search needs
 
 peel-requires : tie.Need-peel-requires
-unfolding ends-part weights-part
 peel-requires c κs =
-    let a = c .before .before .before .before .before .before .before .before .args in
-    let h = c .before .before .before .before .before .before .before .before .pre in
-    let l = listed (list-in (a .n) (a .m) (ends-part (a .m) (now (a .work))) (weights-part (a .m) (now (a .work)))) (h .0) in
-    let none : 2 * a .m - 0 ≡ 2 * a .m = omega arith in
-    let same : 8192 + a .m - 8192 ≡ a .m = omega arith in
-    let ends : length (take (2 * a .m) (now (a .work))) ≡ 2 * a .m = length-take-le (2 * a .m) (now (a .work)) (omega (arith, h .1)) in
-    let weights : length (take (a .m) (drop 8192 (now (a .work)))) ≡ a .m =
-    length-take-le (a .m) (drop 8192 (now (a .work))) (omega (arith, h .1, length-drop 8192 (now (a .work)))) in
-    let some : 1 ≤ a .n = unfold list-in in (l .some) in
-    let few : a .n ≤ 512 = unfold list-in in (l .few) in (
-      rw (none, same) (record { listed = h .0; ends-long = omega (arith, ends); weights-long = omega (arith, weights) }),
+    let s = c .before .before .before .before .before .before .before .before in
+    let l = listed (list-of s) (s .pre .0 .0) in
+    let some : 1 ≤ s .args .n = unfold list-in-parts list-in in (l .some) in
+    let few : s .args .n ≤ 512 = unfold list-in-parts list-in in (l .few) in (
+      cut-held (s .args .n) (s .args .m) (now (s .args .work)) (s .pre .0),
       record { some = omega arith; few = some; order-long = few; cores-long = few; place-long = few },
     )
 
@@ -72,20 +72,18 @@ slice-aggregate-narrow : tie.Need-slice-aggregate-narrow
 slice-aggregate-narrow c = search needs
 
 narrow-requires : tie.Need-narrow-requires
-unfolding ends-part weights-part list-in
+unfolding list-in-parts list-in
 narrow-requires c κs =
-    let a = c .before .before .before .before .before .before .before .before .before .before .before .before .before .before .args in
-    let h = c .before .before .before .before .before .before .before .before .before .before .before .before .before .before .pre in
-    let none : 2 * a .m - 0 ≡ 2 * a .m = omega arith in
-    let same : 8192 + a .m - 8192 ≡ a .m = omega arith in
-    let done = rw (none, same) at (c .before .before .before .before .before .peel .ensures) in
-    let g : Pairs = (list-in (a .n) (a .m) (ends-part (a .m) (now (a .work))) (weights-part (a .m) (now (a .work)))) in
-    let l = listed g (h .0) in
+    let v = c .before .before .before .before .before in
+    let a = begin v .args in
+    let done = rw (cut-list (a .n) (a .m) (now (a .work))) at (v .peel .ensures) in
+    let g = list-of (begin v) in
+    let l = listed g (begin v .pre .0 .0) in
     let long : length (leaving g) ≡ a .n = unfold Leaving-steps in (leaving-steps g .0) in (
-      narrow-long (a .n) (leaving g) _ _ long (done .order-is),
+      narrow-long _ (leaving g) _ _ long (done .order-is),
       (
-        h .1 .1 .1 .0,
-        narrow-fits (a .n) (leaving g) _ _ long (done .order-is) 65536 (λ i b. omega (arith, leaving-below g i b, l .few)),
+        begin v .pre .1 .0,
+        narrow-fits _ (leaving g) _ _ long (done .order-is) 65536 (λ i b. omega (arith, leaving-below g i b, l .few)),
       ),
     )
 
@@ -93,15 +91,13 @@ slice-aggregate-narrow-2 : tie.Need-slice-aggregate-narrow-2
 slice-aggregate-narrow-2 c = search needs
 
 narrow-requires-2 : tie.Need-narrow-requires-2
-unfolding ends-part weights-part list-in
+unfolding list-in-parts list-in
 narrow-requires-2 c κs =
-    let a = c .before .before .before .before .before .before .before .before .before .before .before .before .before .before .before .before .before .before .before .args in
-    let h = c .before .before .before .before .before .before .before .before .before .before .before .before .before .before .before .before .before .before .before .pre in
-    let none : 2 * a .m - 0 ≡ 2 * a .m = omega arith in
-    let same : 8192 + a .m - 8192 ≡ a .m = omega arith in
-    let done = rw (none, same) at (c .before .before .before .before .before .before .before .before .before .before .peel .ensures) in
-    let g : Pairs = (list-in (a .n) (a .m) (ends-part (a .m) (now (a .work))) (weights-part (a .m) (now (a .work)))) in
-    (cores-long g _ _ (done .cores-are), (h .1 .1 .1 .1 .0, cores-fit g _ _ (done .cores-are) (h .1 .1 .1 .1 .1)))
+    let v = c .before .before .before .before .before .before .before .before .before .before in
+    let a = begin v .args in
+    let done = rw (cut-list (a .n) (a .m) (now (a .work))) at (v .peel .ensures) in
+    let h = begin v .pre in
+    (cores-long (list-of (begin v)) _ _ (done .cores-are), (h .1 .1 .0, cores-fit (list-of (begin v)) _ _ (done .cores-are) (h .1 .1 .1)))
 
 same-length : tie.Need-same-length
 same-length c = search needs
@@ -110,15 +106,15 @@ same-length-2 : tie.Need-same-length-2
 same-length-2 c = search needs
 
 returns : tie.Need-returns
-unfolding ends-part weights-part list-in
+unfolding list-in-parts list-in
 returns c =
-    let a = c .before .before .before .before .before .before .before .before .before .before .before .before .before .before .before .before .before .before .before .before .before .before .args in
-    let none : 2 * a .m - 0 ≡ 2 * a .m = omega arith in
-    let same : 8192 + a .m - 8192 ≡ a .m = omega arith in
-    let done = rw (none, same) at (c .before .before .before .before .before .before .before .before .before .before .before .before .before .peel .ensures) in
-    let g : Pairs = (list-in (a .n) (a .m) (ends-part (a .m) (now (a .work))) (weights-part (a .m) (now (a .work)))) in (
-      (c .before .before .before .before .before .before .before .narrow .ensures ∙ narrowed (a .n) (leaving g) _ _ (unfold Leaving-steps in (leaving-steps g .0)) (done .order-is) (now (a .order))),
-      (c .before .before .narrow2 .ensures ∙ cores-narrowed g _ _ (done .cores-are) (now (a .cores)) ∙ cores-in-front g (now (a .cores))),
+    let v = c .before .before .before .before .before .before .before .before .before .before .before .before .before in
+    let a = begin v .args in
+    let done = rw (cut-list (a .n) (a .m) (now (a .work))) at (v .peel .ensures) in
+    let g = list-of (begin v) in
+    let cores = now (a .cores) in (
+      c .before .before .before .before .before .before .before .narrow .ensures ∙ narrowed (a .n) (leaving g) _ _ (unfold Leaving-steps in (leaving-steps g .0)) (done .order-is) (now (a .order)),
+      c .before .before .narrow2 .ensures ∙ cores-narrowed g _ _ (done .cores-are) cores ∙ cores-in-front g cores,
     )
 
 pub peel-in-spec : {M : Type 1} → statement M

@@ -1,20 +1,16 @@
 -- `peel_on_words` meets its contract: nothing behind a shut gate; else the list in the parts, and zeros in the end. Assumes nothing.
-use mathlib.Core.Path.{sym, ap, _∙_}
-use native.Mathlib.Omega.{arith}
+use mathlib.Core.Path.{sym, _∙_}
 use borrow.Author.Needs.{needs}
 use borrow.Author.Tests.{eq-eqb, ne-eqb}
-use lib.ListN.{length}
-use denote.Ref.{now}
 use Rattle.theory.specs.Refusals.{if-taken}
-use Rattle.kandurzo.specs.Buffers.{filled}
-use Rattle.kandurzo.proofs.Parts.{few, room, length-weighed, parts-list, parts-held, weighed-cleared, shut-left}
+use Rattle.kandurzo.proofs.Parts.{few, shut-left, room, weighed-list, weighed-parts, weighed-long, weighed-cleared}
 use Rattle.kandurzo.proofs.Peels.{core-numbers-few}
 use Rattle.kandurzo.proofs.peeling.peel_on_words.Statement.{statement}
 use Rattle.kandurzo.proofs.peeling.peel_on_words.Tie as tie
 
 returns : tie.Need-returns
 unfolding if-taken
-returns c = let n = ne-eqb _ 0 (c .if1 .taken) in record { order-is = sym (rw n); cores-are = sym (rw n); left = shut-left _ _ _ (c .before .before .before .before .pre .0) (c .if1 .taken) }
+returns c = let n = ne-eqb _ 0 (c .if1 .taken) in record { order-is = sym (rw n); cores-are = sym (rw n); left = shut-left (c .before .before .before .before .pre .0) (c .if1 .taken) }
 
 cast-n : tie.Need-cast-n
 cast-n c = search needs
@@ -26,40 +22,17 @@ add-fill : tie.Need-add-fill
 add-fill c = search needs
 
 fill-requires : tie.Need-fill-requires
-fill-requires c κs =
-    let a = c .before .before .before .before .before .before .before .args in
-    let h = c .before .before .before .before .before .before .before .pre in
-    let z = c .before .before .before .if1 .left in
-    (omega arith, room (a .head) (a .gate) (now (a .work)) (h .0) z)
+fill-requires c κs = room (c .before .before .before .before .before .before .before .pre .0) (c .before .before .before .if1 .left)
 
 peel-in-requires : tie.Need-peel-in-requires
 peel-in-requires c κs =
-    let a = c .before .before .before .before .before .before .before .before .before .before .before .before .before .args in
     let h = c .before .before .before .before .before .before .before .before .before .before .before .before .before .pre in
     let z = c .before .before .before .before .before .before .before .before .before .if1 .left in
-    let w = c .before .before .before .before .before .fill .ensures in (
-      rw w (parts-held (a .head) (a .gate) (now (a .work)) (h .0) z),
-      (
-        few (a .head) (a .gate) (now (a .work)) (h .0) z,
-        (
-          omega (arith, ap length w, length-weighed (a .head) (a .gate) (now (a .work)) (h .0) z, h .0 .long z),
-          (
-            h .1 z,
-            (
-              h .2 z,
-              λ v. rw (w, parts-list (a .head) (a .gate) (now (a .work)) (h .0) z) (core-numbers-few _ _ v (few (a .head) (a .gate) (now (a .work)) (h .0) z)),
-            ),
-          ),
-        ),
-      ),
-    )
+    let w = c .before .before .before .before .before .fill .ensures in
+    (weighed-parts (h .0) z w, (h .1 z, (h .2 z, λ v. rw (weighed-list (h .0) z w) (core-numbers-few _ _ v (few (h .0) z)))))
 
 fill-requires-2 : tie.Need-fill-requires-2
-fill-requires-2 c κs =
-    let a = c .before .before .before .before .before .before .before .before .before .before .before .before .before .before .before .before .before .before .before .args in
-    let h = c .before .before .before .before .before .before .before .before .before .before .before .before .before .before .before .before .before .before .before .pre in
-    let z = c .before .before .before .before .before .before .before .before .before .before .before .before .before .before .before .if1 .left in
-    (omega arith, omega (arith, ap length (c .before .before .before .before .before .before .before .before .before .before .before .fill .ensures), length-weighed (a .head) (a .gate) (now (a .work)) (h .0) z, h .0 .long z))
+fill-requires-2 c κs = weighed-long (c .before .before .before .before .before .before .before .before .before .before .before .before .before .before .before .before .before .before .before .pre .0) (c .before .before .before .before .before .before .before .before .before .before .before .before .before .before .before .if1 .left) (c .before .before .before .before .before .before .before .before .before .before .before .fill .ensures)
 
 same-length : tie.Need-same-length
 same-length c = search needs
@@ -73,17 +46,12 @@ same-length-3 c = search needs
 returns-2 : tie.Need-returns-2
 unfolding if-taken
 returns-2 c =
-    let a = c .before .before .before .before .before .before .before .before .before .before .before .before .before .before .before .before .before .before .before .before .before .before .args in
-    let h = c .before .before .before .before .before .before .before .before .before .before .before .before .before .before .before .before .before .before .before .before .before .before .pre in
+    let on = c .before .before .before .before .before .before .before .before .before .before .before .before .before .before .before .before .before .before .before .before .before .before .pre .0 in
     let y = c .before .before .before .before .before .before .before .before .before .before .before .before .before .before .before .before .before .before .if1 .left in
     let z = eq-eqb _ 0 y in
     let w = c .before .before .before .before .before .before .before .before .before .before .before .before .before .before .fill .ensures in
-    let done = rw (w, parts-list (a .head) (a .gate) (now (a .work)) (h .0) y) at (c .before .before .before .before .before .before .before .before .peel-in .ensures) in
-    record {
-      order-is = done .0 ∙ sym (rw z);
-      cores-are = done .1 ∙ sym (rw z);
-      left = c .before .before .fill2 .ensures ∙ ap (filled 0 16384 0) w ∙ weighed-cleared (a .head) (a .gate) (now (a .work)) (h .0) y;
-    }
+    let done = rw (weighed-list on y w) at (c .before .before .before .before .before .before .before .before .peel-in .ensures) in
+    record { order-is = done .0 ∙ sym (rw z); cores-are = done .1 ∙ sym (rw z); left = weighed-cleared on y w (c .before .before .fill2 .ensures) }
 
 pub peel-on-words-spec : {M : Type 1} → statement M
 peel-on-words-spec =

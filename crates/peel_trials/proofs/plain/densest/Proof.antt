@@ -5,19 +5,19 @@ use Rattle.peel_trials.proofs.plain.densest.Statement.{statement}
 use Rattle.peel_trials.proofs.plain.densest.Tie as tie
 
 abbrev Inv-loop : tie.InvT-loop
-Inv-loop n pairs place best₀ p₀ i₀ best p i = Unit {0}
+Inv-loop n m ends place best₀ p₀ i₀ best p i = Unit {0}
 
 abbrev μ-loop : tie.MeasureT-loop
-μ-loop n pairs place best₀ p₀ i₀ best p i = n - i
+μ-loop n m ends place best₀ p₀ i₀ best p i = n - i
 
-inside-from-requires : tie.Need-inside-from-requires Inv-loop μ-loop
-inside-from-requires c κs = search needs
+inside-requires : tie.Need-inside-requires Inv-loop μ-loop
+inside-requires c κs = search needs
 
 loop-holds : tie.Need-loop-holds Inv-loop μ-loop
 loop-holds c = search needs
 
-inside-from-requires-2 : tie.Need-inside-from-requires-2 Inv-loop μ-loop
-inside-from-requires-2 c κs = search needs
+inside-requires-2 : tie.Need-inside-requires-2 Inv-loop μ-loop
+inside-requires-2 c κs = search needs
 
 thinner-requires : tie.Need-thinner-requires Inv-loop μ-loop
 thinner-requires c κs = search needs
@@ -40,9 +40,9 @@ densest-spec =
     (tie.spec
     Inv-loop
     μ-loop
-    inside-from-requires
+    inside-requires
     loop-holds
-    inside-from-requires-2
+    inside-requires-2
     thinner-requires
     add-i
     loop-less

@@ -7,10 +7,10 @@ use Rattle.peel_trials.proofs.plain.try_orders.Statement.{statement}
 use Rattle.peel_trials.proofs.plain.try_orders.Tie as tie
 
 abbrev Inv-loop : tie.InvT-loop
-Inv-loop n pairs present₀ degrees₀ cores₀ size k₀ present degrees cores k = (length present ≡ length present₀) × (length degrees ≡ length degrees₀) × (length cores ≡ length cores₀)
+Inv-loop n m ends present₀ cores₀ size k₀ present cores k = (length present ≡ length present₀) × (length cores ≡ length cores₀)
 
 abbrev μ-loop : tie.MeasureT-loop
-μ-loop n pairs present₀ degrees₀ cores₀ size k₀ present degrees cores k = n - k
+μ-loop n m ends present₀ cores₀ size k₀ present cores k = n - k
 
 wide-requires : tie.Need-wide-requires Inv-loop μ-loop
 wide-requires c κs = search needs
@@ -18,8 +18,8 @@ wide-requires c κs = search needs
 loop-holds : tie.Need-loop-holds Inv-loop μ-loop
 loop-holds c = search needs
 
-shrink-requires : tie.Need-shrink-requires Inv-loop μ-loop
-shrink-requires c κs = search needs
+core-requires : tie.Need-core-requires Inv-loop μ-loop
+core-requires c κs = search needs
 
 note-requires : tie.Need-note-requires Inv-loop μ-loop
 note-requires c κs = search needs
@@ -39,9 +39,6 @@ same-length c = search needs
 same-length-2 : tie.Need-same-length-2 Inv-loop μ-loop
 same-length-2 c = search needs
 
-same-length-3 : tie.Need-same-length-3 Inv-loop μ-loop
-same-length-3 c = search needs
-
 returns : tie.Need-returns Inv-loop μ-loop
 returns c = search needs
 
@@ -53,12 +50,11 @@ try-orders-spec =
     μ-loop
     wide-requires
     loop-holds
-    shrink-requires
+    core-requires
     note-requires
     add-k
     loop-less
     loop-again
     same-length
     same-length-2
-    same-length-3
     returns)

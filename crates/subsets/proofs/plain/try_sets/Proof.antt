@@ -5,10 +5,10 @@ use Rattle.subsets.proofs.plain.try_sets.Statement.{statement}
 use Rattle.subsets.proofs.plain.try_sets.Tie as tie
 
 abbrev Inv-loop : tie.InvT-loop
-Inv-loop n count pairs best₀ number₀ best number = Unit {0}
+Inv-loop n count m ends best₀ number₀ best number = Unit {0}
 
 abbrev μ-loop : tie.MeasureT-loop
-μ-loop n count pairs best₀ number₀ best number = count - number
+μ-loop n count m ends best₀ number₀ best number = count - number
 
 loop-holds : tie.Need-loop-holds Inv-loop μ-loop
 loop-holds c = search needs
@@ -31,12 +31,4 @@ returns c = search needs
 pub try-sets-spec : {M : Type 1} → statement M
 try-sets-spec =
     tie.close
-    (tie.spec
-    Inv-loop
-    μ-loop
-    loop-holds
-    look-requires
-    add-number
-    loop-less
-    loop-again
-    returns)
+    (tie.spec Inv-loop μ-loop loop-holds look-requires add-number loop-less loop-again returns)

@@ -1,0 +1,179 @@
+-- `densest::find_in_core` meets its contract. Assumes nothing.
+use native.Mathlib.Omega.{arith}
+use mathlib.Core.Path.{_≡_, _∙_, ap}
+use Prim.Native.Nat.{_*_, _≤_}
+use lib.ListN.{length}
+use Rattle.theory.specs.Lists.{Pairs}
+use Rattle.theory.specs.Cores.{core}
+use Rattle.theory.specs.Splits.{rounded-up}
+use Rattle.theory.specs.Words.{list-in}
+use Rattle.theory.proofs.Lists.{listed}
+use Rattle.slots.proofs.Words.{few-pairs, list-ends}
+use Rattle.densest.proofs.Counts.{core-marked}
+use Rattle.densest.proofs.Rounds.{candidate-bounded}
+use Rattle.densest.proofs.Gathering.{gathered-few}
+use Rattle.densest.proofs.Narrowing.{narrow-held, narrow-candidate, narrow-cored, narrow-searched}
+use Rattle.densest.proofs.Solving.{room-zeros}
+use borrow.Author.Needs.{needs}
+use Rattle.densest.proofs.find_in_core.Statement.{statement}
+use Rattle.densest.proofs.find_in_core.Tie as tie
+
+-- the places of the calls, each from the next
+abbrev begin : tie.After-rounded-up → tie.Start
+begin c = c .before .before .before .before .before .before .before .before
+
+abbrev rounded : tie.After-mark-core → tie.After-rounded-up
+rounded c = c .before .before
+
+abbrev marked : tie.After-gather → tie.After-mark-core
+marked c = c .before .before .before .before .before .before
+
+abbrev gathered : tie.After-cut → tie.After-gather
+gathered c = c .before .before .before .before
+
+abbrev cut : tie.After-find → tie.After-cut
+cut c = c .before .before .before .before .before .before .before .before
+
+abbrev start : tie.After-gather → tie.Start
+start c = begin (rounded (marked c))
+
+abbrev list-of : tie.Start → Pairs
+list-of s = list-in (s .args .n) (s .args .m) (s .args .ends .now) (s .args .weights .now)
+
+-- what is known from then on
+few : (s : tie.Start) → s .args .n ≤ 512
+unfolding list-in
+few s = listed (list-of s) (s .pre .0 .listed) .few
+
+short : (s : tie.Start) → s .args .m ≤ 4096
+short s = few-pairs (s .args .n) (s .args .m) (s .args .ends .now) (s .args .weights .now) (s .pre .0 .listed)
+
+core-long : (c : tie.After-mark-core) → length (c .mark-core .last .1 .1 .1 .0) ≡ begin (rounded c) .args .n
+core-long c = c .mark-core .kept .1 .1 .1 .0 ∙ begin (rounded c) .pre .1 .1 .1 .0 .0
+
+core-is : (c : tie.After-mark-core) →
+    c .mark-core .last .1 .1 .1 .0 ≡ core (list-of (begin (rounded c))) (rounded-up (begin (rounded c) .args .p) (begin (rounded c) .args .q))
+unfolding list-in
+core-is c =
+    let s = begin (rounded c) in
+    core-marked (list-of s) _ (s .args .cores .now) (c .mark-core .last .1 .1 .1 .0) (s .pre .0 .listed) (s .pre .1 .1 .0) (core-long c) (c .mark-core .ensures)
+    ∙ ap (core (list-of s)) (rounded c .rounded-up .ensures)
+
+rounded-up-requires : tie.Need-rounded-up-requires
+rounded-up-requires c κs =
+    let s = c .before .before .before .before .before .before .before in
+    let b = candidate-bounded (list-of s) (s .args .p) (s .args .q) (s .pre .0 .listed) (s .pre .1 .0) in
+    (b .few, b .some, b .small)
+
+mark-core-requires : tie.Need-mark-core-requires
+unfolding list-in
+mark-core-requires c κs = let q = begin (c .before) .pre in (q .1 .1 .0 .long, omega (arith, q .1 .1 .1 .0 .0))
+
+slice-aggregate-gather : tie.Need-slice-aggregate-gather
+slice-aggregate-gather c = search needs
+
+slice-aggregate-gather-2 : tie.Need-slice-aggregate-gather-2
+slice-aggregate-gather-2 c = search needs
+
+gather-requires : tie.Need-gather-requires
+gather-requires c κs =
+    let k = c .before .before .before .before .before in
+    let s = begin (rounded k) in
+    (s .pre .0, (core-long k, (omega (arith, short s), short s)))
+
+slice-aggregate-cut : tie.Need-slice-aggregate-cut
+slice-aggregate-cut c = search needs
+
+cut-requires : tie.Need-cut-requires
+unfolding list-in
+cut-requires c κs = let s = start (c .before .before .before) in (s .pre .1 .1 .0 .long, few s)
+
+slice-aggregate-find : tie.Need-slice-aggregate-find
+slice-aggregate-find c = search needs
+
+slice-aggregate-find-2 : tie.Need-slice-aggregate-find-2
+slice-aggregate-find-2 c = search needs
+
+slice-aggregate-find-3 : tie.Need-slice-aggregate-find-3
+slice-aggregate-find-3 c = search needs
+
+slice-aggregate-find-4 : tie.Need-slice-aggregate-find-4
+slice-aggregate-find-4 c = search needs
+
+find-requires : tie.Need-find-requires
+find-requires c κs =
+    let k = c .before .before .before .before .before .before .before in
+    let t = gathered k in
+    let s = start t in
+    let a = s .args in
+    let q = s .pre in
+    let is = core-is (marked t) in
+    let n = gathered-few (t .gather .ensures) in (
+      narrow-held (a .n) (a .m) (a .p) (a .q) (a .ends .now) (a .weights .now) _ _ _ _ (q .0) (q .1 .0) is (t .gather .ensures)
+          (omega (arith, short s, t .gather .kept .1 .1 .1 .1 .1 .0)) (omega (arith, short s, t .gather .kept .1 .1 .1 .1 .1 .1 .0)),
+      (
+        narrow-candidate (a .n) (a .m) (a .p) (a .q) (a .ends .now) (a .weights .now) _ _ _ _ (q .0) (q .1 .0) is (t .gather .ensures),
+        (
+          narrow-cored (a .n) (a .m) (a .p) (a .q) (a .ends .now) (a .weights .now) _ _ _ _ (q .0) (q .1 .0) is (t .gather .ensures) _ (a .cores .now) _
+              (rounded (marked t) .rounded-up .ensures) (q .1 .1 .0) (omega (arith, few s, k .cut .kept .1 .1 .1 .0)) (k .cut .ensures),
+          ((q .1 .1 .1 .0 .1, q .1 .1 .1 .0 .2), room-zeros (t .gather .result) 8192 (omega (arith, short s))),
+        ),
+      ),
+    )
+
+slice-aggregate-scatter : tie.Need-slice-aggregate-scatter
+slice-aggregate-scatter c = search needs
+
+scatter-requires : tie.Need-scatter-requires
+scatter-requires c κs =
+    let f = c .before .before .before .before .before .before .before .before in
+    let t = gathered (cut f) in
+    let s = start t in (
+      list-ends _ _ _ _ (s .pre .0 .listed) (s .pre .0 .ends-long),
+      (core-long (marked t), (omega (arith, short s, f .find .kept .1 .1 .1 .1 .1 .1 .1 .1 .0), s .pre .1 .1 .1 .1)),
+    )
+
+same-length : tie.Need-same-length
+same-length c = marked (gathered (cut (c .before .before .before .before .before .before .before .before .before .before .before))) .mark-core .kept .1 .1 .1 .0
+
+same-length-2 : tie.Need-same-length-2
+same-length-2 c = search needs
+
+same-length-3 : tie.Need-same-length-3
+same-length-3 c = search needs
+
+same-length-4 : tie.Need-same-length-4
+same-length-4 c = search needs
+
+returns : tie.Need-returns
+returns c =
+    let f = c .before .before .before .before .before .before .before .before .before .before .before in
+    let t = gathered (cut f) in
+    let s = start t in
+    let a = s .args in
+    narrow-searched (a .n) (a .m) (a .p) (a .q) (a .ends .now) (a .weights .now) _ _ _ _ (s .pre .0) (s .pre .1 .0) (core-is (marked t)) (t .gather .ensures)
+    _ _ _ _ _ _ (f .find .ensures) (c .before .before .scatter .ensures)
+
+pub find-in-core-spec : {M : Type 1} → statement M
+find-in-core-spec =
+    tie.close
+    (tie.spec
+    rounded-up-requires
+    mark-core-requires
+    slice-aggregate-gather
+    slice-aggregate-gather-2
+    gather-requires
+    slice-aggregate-cut
+    cut-requires
+    slice-aggregate-find
+    slice-aggregate-find-2
+    slice-aggregate-find-3
+    slice-aggregate-find-4
+    find-requires
+    slice-aggregate-scatter
+    scatter-requires
+    same-length
+    same-length-2
+    same-length-3
+    same-length-4
+    returns)

@@ -1,0 +1,92 @@
+-- Numbers of at most four digits, and how long the texts are.
+--   Smalls, no-more, and-small                       the numbers of a line, one by one
+--   small-at                                         each number of a list that is short
+--   ends-small                                       the ends of a pair in words
+--   refusal-length, accepted-length, head-length     the first lines
+--   members-length, numbers-length, shares-length    the lines behind them, by how many there are
+-- Assumes nothing.
+use mathlib.Core.Bool.{Bool, true, false, cond}
+use mathlib.Core.List.{List, [], _∷_}
+use Prim.Native.Nat.{ℕ, zero, suc, _+_, _*_, _≤_, _<_}
+use native.Mathlib.Omega.{arith}
+use lib.Dec.{eqb}
+use lib.ListN.{length, getD, length-append}
+use Rattle.theory.specs.Basics.{all, mark}
+use Rattle.theory.specs.Lists.{Pair, pair, ends-in-range}
+use Rattle.theory.proofs.Tests.{tests}
+use Rattle.pairs.specs.Located.{ones-in}
+use Rattle.pairs.proofs.General.{all-at}
+use Rattle.pairs.proofs.Weights.{length-ones}
+use Rattle.pairs.proofs.Words.{ones-pair}
+use Rattle.pairfile.specs.Text.{text, between}
+use Rattle.pairfile.specs.Lines.{is-place, places, filled}
+use Rattle.pairfile.proofs.Spelling.{spell-length}
+use Rattle.writing.proofs.Lengths.{filled-length}
+use Rattle.sheetfile.specs.Sheet.{head-form, member-form, number-form, share-form}
+use Rattle.sheetfile.specs.Writer.{member-lines, number-lines, share-lines, short}
+use Rattle.texts.specs.Texts.{refusal-text, accepted-form}
+use Rattle.texts.specs.Contracts.{Ends-spelled}
+
+-- the numbers of a line, one by one
+pub record Smalls (ns : List ℕ) : Type 0 where
+  pub each : (k : ℕ) → getD ns k 0 ≤ 9999
+
+pub no-more : Smalls []
+no-more = record { each = λ k. omega arith }
+
+pub and-small : (n : ℕ) {ns : List ℕ} → n ≤ 9999 → Smalls ns → Smalls (n ∷ ns)
+and-small n {ns} h hs = record { each = go }
+  where
+    go : (k : ℕ) → getD (n ∷ ns) k 0 ≤ 9999
+    go zero = h
+    go (suc k) = hs .each k
+
+pub small-at : (ns : List ℕ) → short ns → (k : ℕ) → getD ns k 0 ≤ 9999
+unfolding short all
+small-at [] h k = omega arith
+small-at (n ∷ ns) h zero = (simp tests at h) .0
+small-at (n ∷ ns) h (suc k) = small-at ns ((simp tests at h) .1) k
+
+-- the two words of a pair
+pub ends-small : {ends shares : List ℕ} → Ends-spelled ends shares → (j : ℕ) → j < length shares →
+    (getD ends (2 * j) 0 ≤ 9999) × (getD ends (2 * j + 1) 0 ≤ 9999)
+unfolding ends-in-range pair
+ends-small {ends} {shares} s j h =
+    let n = length shares in
+    let t = all-at (ends-in-range 512) (ones-in n ends) j (pair 0 0) (s .ends-few) (omega (arith, length-ones n ends)) in
+    let below = simp tests at (rw (ones-pair n ends j (pair 0 0) h) at t) in
+    (omega (arith, below .0), omega (arith, below .1))
+
+pub refusal-length : (k : ℕ) → length (refusal-text k) ≤ 18
+unfolding refusal-text text
+refusal-length k = simp length-append (omega (arith, spell-length 9 k .1))
+
+pub accepted-length : (ns : List ℕ) → length (filled accepted-form ns) ≤ 25
+unfolding accepted-form text places is-place between mark
+accepted-length ns = filled-length accepted-form ns
+
+pub head-length : (ns : List ℕ) → length (filled head-form ns) ≤ 40
+unfolding head-form text places is-place between mark
+head-length ns = filled-length head-form ns
+
+-- a line at most, for each module
+member-length : (b : Bool) (v : ℕ) → length (cond b (filled member-form (v ∷ [])) []) ≤ 12
+unfolding member-form text places is-place between mark
+member-length true v = filled-length member-form (v ∷ [])
+member-length false v = omega arith
+
+pub members-length : (v : ℕ) (s : List ℕ) → length (member-lines v s) ≤ 12 * length s
+unfolding member-lines
+members-length v [] = omega arith
+members-length v (b ∷ bs) = simp length-append (omega (arith, member-length (eqb b 1) v, members-length (suc v) bs))
+
+pub numbers-length : (cs : List ℕ) → length (number-lines cs) ≤ 12 * length cs
+unfolding number-lines number-form text places is-place between mark
+numbers-length [] = omega arith
+numbers-length (c ∷ cs) = simp length-append (omega (arith, filled-length number-form (c ∷ []), numbers-length cs))
+
+pub shares-length : (ps : List Pair) (xs : List ℕ) → length (share-lines ps xs) ≤ 21 * length ps
+unfolding share-lines share-form text places is-place between mark
+shares-length [] xs = omega arith
+shares-length (p ∷ ps) [] = omega arith
+shares-length (p ∷ ps) (x ∷ xs) = simp length-append (omega (arith, filled-length share-form (p .a ∷ p .b ∷ x ∷ []), shares-length ps xs))

@@ -1,0 +1,58 @@
+-- `write_group` meets its contract: the head, then the members. Assumes nothing.
+use native.Mathlib.Omega.{arith}
+use Rattle.pairfile.specs.Text.{text}
+use Rattle.sheetfile.specs.Sheet.{head-form}
+use Rattle.texts.specs.Contracts.{answer-lines}
+use lib.ListN.{length-append}
+use Rattle.texts.proofs.Lengths.{no-more, and-small}
+use Rattle.texts.proofs.Lines.{members-left}
+use borrow.Author.Needs.{needs}
+use Rattle.texts.proofs.write_group.Statement.{statement}
+use Rattle.texts.proofs.write_group.Tie as tie
+
+slice-aggregate-write-line : tie.Need-slice-aggregate-write-line
+slice-aggregate-write-line c = search needs
+
+slice-aggregate-write-line-2 : tie.Need-slice-aggregate-write-line-2
+slice-aggregate-write-line-2 c = search needs
+
+-- where the function begins
+abbrev begin : tie.After-write-line → tie.Start
+begin c = c .before .before .before .before .before .before
+
+write-line-requires : tie.Need-write-line-requires
+unfolding answer-lines head-form text
+write-line-requires c κs =
+    let start = c .before .before .before .before .before in
+    let s = start .pre .0 in (
+      and-small _ (s .p) (and-small _ (s .q) (and-small _ (s .k) (and-small _ (s .coresize) no-more))) .each,
+      omega (arith, simp length-append at (start .pre .1)),
+    )
+
+write-members-requires : tie.Need-write-members-requires
+unfolding head-form text
+write-members-requires c κs =
+    let w = c .before .before .before in
+    let start = begin w in
+    (start .pre .0 .few, members-left (start .args .found) _ (start .pre .1) (w .write-line .ensures) .room)
+
+same-length : tie.Need-same-length
+same-length c = search needs
+
+returns : tie.Need-returns
+unfolding head-form text
+returns c =
+    let w = c .before .before .before .before .before .before in
+    let start = begin w in
+    members-left (start .args .found) _ (start .pre .1) (w .write-line .ensures) .joined (c .before .before .write-members .ensures)
+
+pub write-group-spec : {M : Type 1} → statement M
+write-group-spec =
+    tie.close
+    (tie.spec
+    slice-aggregate-write-line
+    slice-aggregate-write-line-2
+    write-line-requires
+    write-members-requires
+    same-length
+    returns)

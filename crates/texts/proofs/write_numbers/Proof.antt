@@ -1,0 +1,84 @@
+-- `write_numbers` meets its contract: the loop's invariant is what is `Left` of the lines, the measure how many numbers are left. Assumes nothing.
+use Prim.Native.Nat.{_-_}
+use native.Mathlib.Omega.{arith}
+use lib.ListN.{length, drop, length-append}
+use Rattle.pairfile.specs.Text.{text}
+use Rattle.sheetfile.specs.Sheet.{number-form}
+use Rattle.sheetfile.specs.Writer.{number-lines}
+use Rattle.texts.proofs.Lengths.{no-more, and-small, small-at}
+use Rattle.writing.proofs.Parts.{Left, left-start, left-step, left-done}
+use Rattle.texts.proofs.Lines.{next-number, no-number}
+use borrow.Author.Needs.{needs}
+use Rattle.texts.proofs.write_numbers.Statement.{statement}
+use Rattle.texts.proofs.write_numbers.Tie as tie
+
+abbrev Inv-loop : tie.InvT-loop
+Inv-loop cores out₀ at i₀ v₀ t7 out i v = Left (number-lines cores) out₀ at (number-lines (drop v cores)) out i
+
+abbrev μ-loop : tie.MeasureT-loop
+μ-loop cores out₀ at i₀ v₀ t7 out i v = length cores - v
+
+loop-holds : tie.Need-loop-holds Inv-loop μ-loop
+loop-holds c = left-start _ _ _ (c .before .before .pre .1)
+
+mul-t8 : tie.Need-mul-t8 Inv-loop μ-loop
+mul-t8 c = search needs
+
+shared-slice-read-t11 : tie.Need-shared-slice-read-t11 Inv-loop μ-loop
+shared-slice-read-t11 c = search needs
+
+cast-t12 : tie.Need-cast-t12 Inv-loop μ-loop
+cast-t12 c = omega (arith, small-at _ (c .before .before .before .before .before .pre .0) (c .before .before .loop .v))
+
+slice-aggregate-write-line : tie.Need-slice-aggregate-write-line Inv-loop μ-loop
+slice-aggregate-write-line c = search needs
+
+slice-aggregate-write-line-2 : tie.Need-slice-aggregate-write-line-2 Inv-loop μ-loop
+slice-aggregate-write-line-2 c = search needs
+
+write-line-requires : tie.Need-write-line-requires Inv-loop μ-loop
+unfolding number-form text
+write-line-requires c κs =
+    let l = c .before .before .before .before in
+    let start = l .before .before .before .before in
+    let next = next-number (start .args .cores .now) (l .before .loop .v) (l .loop-test .taken) in (
+      and-small _ (small-at _ (start .pre .0) (l .before .loop .v)) no-more .each,
+      omega (arith, simp length-append at (rw next at (l .before .loop .inv .room))),
+    )
+
+add-v : tie.Need-add-v Inv-loop μ-loop
+add-v c = search needs
+
+loop-less : tie.Need-loop-less Inv-loop μ-loop
+loop-less c = search needs
+
+loop-again : tie.Need-loop-again Inv-loop μ-loop
+unfolding number-form text
+loop-again c =
+    let l = c .before .before .before .before .before .before .before in
+    left-step (l .before .loop .inv) _ _ (next-number _ _ (l .loop-test .taken)) (c .before .before .write-line .ensures)
+
+same-length : tie.Need-same-length Inv-loop μ-loop
+same-length c = c .before .loop .inv .long
+
+returns : tie.Need-returns Inv-loop μ-loop
+returns c = left-done (c .before .loop .inv) (no-number _ _ (c .loop-test .left))
+
+pub write-numbers-spec : {M : Type 1} → statement M
+write-numbers-spec =
+    tie.close
+    (tie.spec
+    Inv-loop
+    μ-loop
+    loop-holds
+    mul-t8
+    shared-slice-read-t11
+    cast-t12
+    slice-aggregate-write-line
+    slice-aggregate-write-line-2
+    write-line-requires
+    add-v
+    loop-less
+    loop-again
+    same-length
+    returns)

@@ -1,0 +1,71 @@
+-- `write_refusal` meets its contract: what stands before the number, the number, the end of the line. Assumes nothing.
+use native.Mathlib.Omega.{arith}
+use lib.ListN.{length-append}
+use Rattle.pairfile.specs.Text.{text, between}
+use Rattle.pairfile.specs.Lines.{is-place, filled}
+use Rattle.texts.proofs.Lengths.{no-more}
+use Rattle.texts.proofs.Lines.{refusal-left, refusal-end}
+use borrow.Author.Needs.{needs}
+use Rattle.texts.proofs.write_refusal.Statement.{statement}
+use Rattle.texts.proofs.write_refusal.Tie as tie
+
+slice-aggregate-write-line : tie.Need-slice-aggregate-write-line
+slice-aggregate-write-line c = search needs
+
+slice-aggregate-write-line-2 : tie.Need-slice-aggregate-write-line-2
+slice-aggregate-write-line-2 c = search needs
+
+-- where the function begins
+abbrev begin : tie.After-write-line → tie.Start
+begin c = c .before .before .before .before .before
+
+write-line-requires : tie.Need-write-line-requires
+unfolding filled is-place between
+write-line-requires c κs = (no-more .each, omega arith)
+
+write-number-requires : tie.Need-write-number-requires
+unfolding filled is-place between text
+write-number-requires c κs =
+    let w = c .before .before .before in
+    let start = begin w in
+    omega (arith, simp length-append at (refusal-left (start .args .number) (start .pre) (w .write-line .ensures) .room))
+
+slice-aggregate-write-line-3 : tie.Need-slice-aggregate-write-line-3
+slice-aggregate-write-line-3 c = search needs
+
+slice-aggregate-write-line-4 : tie.Need-slice-aggregate-write-line-4
+slice-aggregate-write-line-4 c = search needs
+
+write-line-requires-2 : tie.Need-write-line-requires-2
+unfolding filled is-place between text
+write-line-requires-2 c κs =
+    let n = c .before .before .before .before .before in
+    let w = n .before .before .before .before in
+    let start = begin w in
+    (no-more .each, refusal-end (start .args .number) (start .pre) (w .write-line .ensures) (n .write-number .ensures) .room)
+
+same-length : tie.Need-same-length
+same-length c = search needs
+
+returns : tie.Need-returns
+unfolding filled is-place between text
+returns c =
+    let n = c .before .before .before .before .before .before .before .before in
+    let w = n .before .before .before .before in
+    let start = begin w in
+    refusal-end (start .args .number) (start .pre) (w .write-line .ensures) (n .write-number .ensures)
+    .joined (c .before .before .write-line2 .ensures)
+
+pub write-refusal-spec : {M : Type 1} → statement M
+write-refusal-spec =
+    tie.close
+    (tie.spec
+    slice-aggregate-write-line
+    slice-aggregate-write-line-2
+    write-line-requires
+    write-number-requires
+    slice-aggregate-write-line-3
+    slice-aggregate-write-line-4
+    write-line-requires-2
+    same-length
+    returns)

@@ -1,0 +1,170 @@
+// What the programs `group`, `sheet` and `audit` print, written into a lent buffer (document 01, end of "Lists tried by hand").
+//
+// A program reads its input, calls one of the three public functions, and writes the first bytes of the buffer out, as many as the function answers.
+// A text is written once, from front to back, line by line, at the cost of its bytes. 8,192 bytes hold the text of any group, 100,000 that of any
+// sheet, 64 that of any audit; a file is refused by its number on the status line.
+ghost use mathlib.Core.Path.{_≡_};
+ghost use mathlib.Core.Bool.{cond};
+ghost use mathlib.Core.List.{[], _∷_};
+ghost use Prim.Native.Nat.{_+_, _≤_};
+ghost use lib.Dec.{eqb};
+ghost use lib.ListN.{length};
+ghost use Rattle.pairs.specs.Located.{ones-in};
+ghost use Rattle.pairfile.specs.Lines.{filled};
+ghost use Rattle.writing.specs.Putting.{Puts};
+ghost use Rattle.sheetfile.specs.Sheet.{member-form};
+ghost use Rattle.sheetfile.specs.Writer.{member-lines, number-lines, share-lines, short};
+ghost use Rattle.sheetfile.specs.Audit.{audit};
+ghost use Rattle.texts.specs.Texts.{refusal-text, audit-text};
+ghost use Rattle.texts.specs.Contracts.{Prints, Of-file, Group-due, Sheet-due, Spelled, Ends-spelled, Sheet-spelled, answer-lines, sheet-lines};
+use answer::Answer;
+use answer::sheet_file;
+use answer::solve_file;
+use writing::write_line;
+use writing::write_number;
+
+// The status line of a refusal.
+fn write_refusal(number: u32, out: &mut [u8]) -> usize
+    requires { ⌜ 18 ≤ length (now out) ⌝ }
+    ensures { λ r. ⌜ Puts (refusal-text number) (now (out .entry)) 0 (now (out .exit)) r ⌝ }
+{
+    let i = write_line(b"status=", &[], out, 0);
+    let j = write_number(number, out, i);
+    write_line(b"\n", &[], out, j)
+}
+
+// The line of module v, if its member byte is 1.
+fn write_member(v: usize, byte: u8, out: &mut [u8], at: usize) -> usize
+    requires { ⌜ v ≤ 9999 ⌝ }
+    requires { ⌜ at + length (cond (eqb byte 1) (filled member-form (v ∷ [])) []) ≤ length (now out) ⌝ }
+    ensures { λ r. ⌜ Puts (cond (eqb byte 1) (filled member-form (v ∷ [])) []) (now (out .entry)) at (now (out .exit)) r ⌝ }
+{
+    if byte != 1 {
+        return at;
+    }
+    let numbers = [v as u32];
+    write_line(b"member=A\n", &numbers, out, at)
+}
+
+// A line for each member byte that is 1.
+fn write_members(members: &[u8], out: &mut [u8], at: usize) -> usize
+    requires { ⌜ length (now members) ≤ 512 ⌝ }
+    requires { ⌜ at + length (member-lines 0 (now members)) ≤ length (now out) ⌝ }
+    ensures { λ r. ⌜ Puts (member-lines 0 (now (members .entry))) (now (out .entry)) at (now (out .exit)) r ⌝ }
+{
+    let mut i = at;
+    let mut v: usize = 0;
+    while v < members.len() {
+        i = write_member(v, members[v], out, i);
+        v += 1;
+    }
+    i
+}
+
+// A line for each core number.
+fn write_numbers(cores: &[u16], out: &mut [u8], at: usize) -> usize
+    requires { ⌜ short (now cores) ⌝ }
+    requires { ⌜ at + length (number-lines (now cores)) ≤ length (now out) ⌝ }
+    ensures { λ r. ⌜ Puts (number-lines (now (cores .entry))) (now (out .entry)) at (now (out .exit)) r ⌝ }
+{
+    let mut i = at;
+    let mut v: usize = 0;
+    while v < cores.len() {
+        let numbers = [cores[v] as u32];
+        i = write_line(b"number=C\n", &numbers, out, i);
+        v += 1;
+    }
+    i
+}
+
+// A line for each pair, with its share.
+fn write_shares(ends: &[u32], shares: &[u16], out: &mut [u8], at: usize) -> usize
+    requires { ⌜ Ends-spelled (now ends) (now shares) ⌝ }
+    requires { ⌜ at + length (share-lines (ones-in (length (now shares)) (now ends)) (now shares)) ≤ length (now out) ⌝ }
+    ensures { λ r. ⌜ Puts (share-lines (ones-in (length (now (shares .entry))) (now (ends .entry))) (now (shares .entry))) (now (out .entry)) at
+        (now (out .exit)) r ⌝ }
+{
+    let mut i = at;
+    let mut j: usize = 0;
+    while j < shares.len() {
+        let numbers = [ends[2 * j], ends[2 * j + 1], shares[j] as u32];
+        i = write_line(b"share=A,B,U\n", &numbers, out, i);
+        j += 1;
+    }
+    i
+}
+
+// The found group's lines.
+fn write_group(found: Answer, members: &[u8], out: &mut [u8]) -> usize
+    requires { ⌜ Spelled found (now members) ⌝ }
+    requires { ⌜ length (answer-lines found (now members)) ≤ length (now out) ⌝ }
+    ensures { λ r. ⌜ Puts (answer-lines found (now (members .entry))) (now (out .entry)) 0 (now (out .exit)) r ⌝ }
+{
+    let numbers = [found.p, found.q, found.k, found.coresize];
+    let i = write_line(b"status=0\nratio=P/Q\ncore=K,C\n", &numbers, out, 0);
+    write_members(members, out, i)
+}
+
+// The found group's lines, and behind them the core numbers and the shares.
+fn write_sheet(
+    found: Answer,
+    members: &[u8],
+    cores: &[u16],
+    ends: &[u32],
+    shares: &[u16],
+    out: &mut [u8],
+) -> usize
+    requires { ⌜ Sheet-spelled found (now members) (now cores) (now ends) (now shares) ⌝ }
+    requires { ⌜ length (sheet-lines found (now members) (now cores) (now ends) (now shares)) ≤ length (now out) ⌝ }
+    ensures { λ r. ⌜ Puts (sheet-lines found (now (members .entry)) (now (cores .entry)) (now (ends .entry)) (now (shares .entry))) (now (out .entry)) 0
+        (now (out .exit)) r ⌝ }
+{
+    let i = write_group(found, members, out);
+    let j = write_numbers(cores, out, i);
+    write_shares(ends, shares, out, j)
+}
+
+// The text of `group`, of a pair file's bytes; answers how long it is.
+pub fn group_text(file: &[u8], out: &mut [u8]) -> usize
+    requires { ⌜ 8192 ≤ length (now out) ⌝ }
+    ensures { λ r. ⌜ Prints (Of-file (now (file .entry)) Group-due) (now (out .entry)) (now (out .exit)) r ⌝ }
+{
+    let mut members = [0u8; 512];
+    let found = solve_file(file, &mut members);
+    if found.number != 0 {
+        return write_refusal(found.number, out);
+    }
+    let n = found.n as usize;
+    write_group(found, &members[..n], out)
+}
+
+// The text of `sheet`, of a pair file's bytes; answers how long it is.
+pub fn sheet_text(file: &[u8], out: &mut [u8]) -> usize
+    requires { ⌜ 100000 ≤ length (now out) ⌝ }
+    ensures { λ r. ⌜ Prints (Of-file (now (file .entry)) (Sheet-due (now (file .entry)))) (now (out .entry)) (now (out .exit)) r ⌝ }
+{
+    let mut members = [0u8; 512];
+    let mut cores = [0u16; 512];
+    let mut shares = [0u16; 4096];
+    let mut ends = [0u32; 8192];
+    let found = sheet_file(file, &mut members, &mut cores, &mut shares, &mut ends);
+    if found.number != 0 {
+        return write_refusal(found.number, out);
+    }
+    let n = found.n as usize;
+    let m = found.m as usize;
+    write_sheet(found, &members[..n], &cores[..n], &ends, &shares[..m], out)
+}
+
+// The text of `audit`, of the bytes of a pair file and of a sheet; answers how long it is.
+pub fn audit_text(file: &[u8], sheet: &[u8], out: &mut [u8]) -> usize
+    requires { ⌜ 64 ≤ length (now out) ⌝ }
+    ensures { λ r. ⌜ Prints (λ text. text ≡ audit-text (audit (now (file .entry)) (now (sheet .entry)))) (now (out .entry)) (now (out .exit)) r ⌝ }
+{
+    let verdict = sheetfile::audit(file, sheet);
+    if verdict.number != 0 {
+        return write_refusal(verdict.number, out);
+    }
+    let numbers = [verdict.p, verdict.q];
+    write_line(b"status=0\nratio=P/Q\n", &numbers, out, 0)
+}

@@ -1,0 +1,3 @@
+-- The laws that the proofs here cite.
+pub mod Turns
+pub mod Plain

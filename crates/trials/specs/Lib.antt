@@ -1,0 +1,4 @@
+-- What the contracts cite.
+pub mod Sweeps
+pub mod Turns
+pub mod Plain
