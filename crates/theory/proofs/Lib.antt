@@ -3,6 +3,7 @@ pub mod Tests
 pub mod Tables
 pub mod Sums
 pub mod Lists
+pub mod Words
 pub mod Refusals
 pub mod Groups
 pub mod Duality
