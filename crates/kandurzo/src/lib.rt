@@ -254,7 +254,7 @@ pub extern "C" fn kandurzo_surplus(
     let mut words = [0u32; 16384];
     let gate = surplus_gate(head, agreed, first.len(), second.len());
     copy_out(list, &mut words, gate.out);
-    surplus_on_words(head, gate.number, &mut words, first, second)
+    surplus_on_words(head, gate.number, first, second, &mut words)
 }
 
 pub use kandurzo_surplus as surplus;
