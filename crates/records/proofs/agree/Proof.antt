@@ -45,7 +45,7 @@ use Rattle.records.proofs.Frame.{Blocks, env, block, frees, frame-of, e
 use Rattle.records.proofs.Entry.{Par, plain, held, hold-shr, entry, passed, shut, begins, ends}
 use Rattle.records.proofs.Signs.{Kinds, record-kind, shr-kind, stays}
 use Rattle.records.proofs.Stated.{states}
-use Rattle.records.proofs.Loop.{Turn, turn, counts, tests, adds-one}
+use Rattle.records.proofs.Loop.{Turn, counts, adds-one}
 use Rattle.records.proofs.Records.{plain-pair, plain-head, plain-seen, pair-row, record-of}
 use Rattle.records.proofs.Scans.{scan-more, scan-agrees, tested-le}
 use Rattle.records.proofs.Pair as P
@@ -130,10 +130,7 @@ module _ {M : Type 1} (𝓤 : URA M) (H : Heap 𝓤) (A : Atoms 𝓤) (W : Given
         ∷ (frame-of E (nothing-in ∷ some (plain-head W .val h) ∷ some (sliceVal (list .ptr) (length ps)) ∷ some (vint w32 (h .n))
         ∷ some (plain-seen W .val (seen i)) ∷ some (vint w64 k) ∷ some (vint w64 i) ∷ some (vint w64 (length ps)) ∷ []) ++ (‵ (frees E) ∷ []))
 
-    module _ (n : ℕ) (less : T (ltb n k)) where
-      abbrev t : Turn k n
-      t = turn k n (tested-le h ps .1) less
-
+    module _ (n : ℕ) (t : Turn k n) where
       abbrev p : Pair
       p = getD ps n blank
 
@@ -149,22 +146,6 @@ module _ {M : Type 1} (𝓤 : URA M) (H : Heap 𝓤) (A : Atoms 𝓤) (W : Given
       next-is : step-of (h .n) (seen n) p ≡ seen (suc n)
       next-is = sym (scan-more (h .n) start ps n in-list)
 
-    turns : (n : ℕ) → Kept n → (q : Post 𝓤 H) → (n < k → Kept (suc n) → Sq W (At (suc n)) (prop (post 𝓤 H q next))) → (k ≤ n → Sq W (At n) (prop (post 𝓤 H q (exits 1))))
-        → Sq W (At n) (runs C Λ E body.turn-1 q)
-    turns n now q on over =
-        sets ! (2 + 8) empty (bin ! (var ! (2 + 6) refl) (var ! (2 + 5) refl) tt) (tt, tt) $
-        tests ! (var ! (2 + 8) refl) (λ less.
-        sets ! (2 + 9) empty (bin ! (var ! (2 + 6) refl) (lit ! tt) (fit (t n less .size-fits))) (num (t n less .size-fits)) $
-        sets ! (2 + 10) empty (bin ! (part-of ! (2 + 2) 0 refl refl refl) (var ! (2 + 9) refl) tt) (tt, tt) $
-        sets ! (2 + 11) empty (of-opd ! (record-of ! (2 + 10) 0 s (list .ptr .0) (list .ptr .1) n ps (in-list n less) refl refl))
-        (typed-as (plain-pair W) (p n less) (p-fits n less)) $
-        calls-outright ! fm (step-args n less now) S.the-row (plain-seen W) (emp 𝓤) (λ r us. r ≡ step-of (h .n) (seen n) (p n less)) refl (id⊢ 𝓤 _)
-        (λ ks. known .steps (bound (step-args n less now) ks, tt)) (seen (suc n)) (tt, (tt, (tt, tt))) (λ r us e. (e ∙ next-is n less, refl))
-        (and-then ! (var ! (2 + 3) refl) (and-then ! (var ! (2 + 4) refl) (and-then ! (var ! (2 + 11) refl) (no-more !)))) (λ fits _.
-        lands-in ! (2 + 4) full (typed-as (plain-seen W) (seen (suc n)) fits) $
-        adds-one ! (2 + 6) refl (t n less .next-fits) (num (t n less .next-fits)) $ clears ! E 2 8 _ refl $ on (t n less .below) fits))
-        (λ left. forget ! (2 + 8) refl $ over (nltb→le n k left))
-
     ended : Sq W (At k) (runs C Λ E body.t-7 (atRet E Post-of))
     ended =
         sets ! (2 + 0) empty (of-opd ! (part-of ! (2 + 4) 0 refl refl refl)) (tt, tt) $ leaves ! 2 (λ j. ltb j 8) _ refl (look ! (2 + 0) refl) $
@@ -173,7 +154,17 @@ module _ {M : Type 1} (𝓤 : URA M) (H : Heap 𝓤) (A : Atoms 𝓤) (W : Given
 
     -- from the loop on
     loop-on : Kept 0 → Sq W (At 0) (runs C Λ E body.t-6 (atRet E Post-of))
-    loop-on fits = counts ! k Kept 𝓣 At turns fits ended
+    loop-on fits =
+        counts ! k (tested-le h ps .1) Kept 𝓣 At (2 + 6) (2 + 5) (2 + 8) (λ n. (refl, refl)) (λ n. (empty, (tt, tt))) (λ n. refl) (λ n. refl) (λ n now t q on.
+        sets ! (2 + 9) empty (bin ! (var ! (2 + 6) refl) (lit ! tt) (fit (t .size-fits))) (num (t .size-fits)) $
+        sets ! (2 + 10) empty (bin ! (part-of ! (2 + 2) 0 refl refl refl) (var ! (2 + 9) refl) tt) (tt, tt) $
+        sets ! (2 + 11) empty (of-opd ! (record-of ! (2 + 10) 0 s (list .ptr .0) (list .ptr .1) n ps (in-list n t) refl refl))
+        (typed-as (plain-pair W) (p n t) (p-fits n t)) $
+        calls-outright ! fm (step-args n t now) S.the-row (plain-seen W) (emp 𝓤) (λ r us. r ≡ step-of (h .n) (seen n) (p n t)) refl (id⊢ 𝓤 _)
+        (λ ks. known .steps (bound (step-args n t now) ks, tt)) (seen (suc n)) (tt, (tt, (tt, tt))) (λ r us e. (e ∙ next-is n t, refl))
+        (and-then ! (var ! (2 + 3) refl) (and-then ! (var ! (2 + 4) refl) (and-then ! (var ! (2 + 11) refl) (no-more !)))) (λ fits _.
+        lands-in ! (2 + 4) full (typed-as (plain-seen W) (seen (suc n)) fits) $
+        adds-one ! (2 + 6) refl (t .next-fits) (num (t .next-fits)) $ clears ! E 2 8 _ refl $ on fits)) fits ended
 
   walk : ent 𝓤 (onEntry 𝓤 H A f.signature κs qs (entry pars .3) (entry pars .4)) (WpFn 𝓤 H C Λ code.function (passed pars) Post-of)
   unfolding scan

@@ -40,7 +40,7 @@ use Rattle.records.proofs.Elements.{store-at}
 use Rattle.records.proofs.Frame.{Blocks, env, frees, frame-of, empty, fit, num, fit-slice, var, part-of, sets, lands-in, clears, leaves}
 use Rattle.records.proofs.Entry.{Par, plain, held, hold-shr, hold-mut, entry, passed, shut, begins, ends}
 use Rattle.records.proofs.Signs.{Kinds, shr-kind, mut-kind, count-kind, stays, states-by}
-use Rattle.records.proofs.Loop.{Turn, turn, counts, tests, adds-one}
+use Rattle.records.proofs.Loop.{Turn, counts, adds-one}
 use Rattle.records.proofs.Records.{plain-pair, pair-row, word-row}
 use Rattle.records.proofs.Copies.{length-put-back, put-back-none, put-back-more}
 use Rattle.records.proofs.Pair as P
@@ -86,10 +86,7 @@ module _ {M : Type 1} (𝓤 : URA M) (H : Heap 𝓤) (A : Atoms 𝓤) (W : Given
         ∷ (frame-of E (nothing-in ∷ some (sliceVal (list .ptr) (length ps)) ∷ some (sliceVal (words .ptr) (length ws)) ∷ some (vint w64 m) ∷ some (vint w64 i) ∷ [])
         ++ (‵ (frees E) ∷ []))
 
-    module _ (n : ℕ) (less : T (ltb n m)) where
-      abbrev t : Turn m n
-      t = turn m n (asked .room .few) less
-
+    module _ (n : ℕ) (t : Turn m n) where
       abbrev p : Pair
       p = word-record ws n
 
@@ -113,24 +110,6 @@ module _ {M : Type 1} (𝓤 : URA M) (H : Heap 𝓤) (A : Atoms 𝓤) (W : Given
       abbrev args : List (Arg W)
       args = loan (lend-shr (word-row W s (words .ptr .0) (words .ptr .1)) ws room′) ∷ by-value usize (plain-count W) n (refl, n-fits) ∷ []
 
-    turns : (n : ℕ) → Unit {0} → (q : Post 𝓤 H) → (n < m → Unit {0} → Sq W (At (suc n)) (prop (post 𝓤 H q next))) → (m ≤ n → Sq W (At n) (prop (post 𝓤 H q (exits 1))))
-        → Sq W (At n) (runs (𝓣 .C) (𝓣 .Λ) E body.turn-1 q)
-    turns n _ q on over =
-        sets ! (3 + 5) empty (bin ! (var ! (3 + 4) refl) (var ! (3 + 3) refl) tt) (tt, tt) $
-        tests ! (var ! (3 + 5) refl) (λ less.
-        move ! (1 ∷ []) $
-        calls-outright ! (fmOf 𝓤 H (W .laws) 𝓣) (args n less) P.the-row (plain-pair W) (fact 𝓤 (Fits-record n ws)) (λ r us. r ≡ p n less) refl
-        (factI 𝓤 _ (emp 𝓤) (lies-there n less)) (λ ks. known (bound (args n less) ks, tt)) (p n less) (tt, (tt, tt)) (λ r us e. (e, refl))
-        (and-then ! (var ! (3 + 2) refl) (and-then ! (var ! (3 + 4) refl) (no-more !))) (λ good _.
-        lands-in ! (3 + 6) empty (typed-as (plain-pair W) (p n less) good) $ move ! (1 ∷ []) $
-        sets ! (3 + 7) empty (bin ! (var ! (3 + 4) refl) (lit ! tt) (fit (t n less .size-fits))) (num (t n less .size-fits)) $
-        sets ! (3 + 8) empty (bin ! (part-of ! (3 + 1) 0 refl refl refl) (var ! (3 + 7) refl) tt) (tt, tt) $
-        assigns ! (of-opd ! (var ! (3 + 6) refl)) (from ! (hop ! (look ! (3 + 8) refl) (stop !)))
-        (store-at ! 0 row (put-back ps ws n) n blank (p n less) (in-row n less) good refl (λ _. store-raw ! 0 refl (typed-as (plain-pair W) (p n less) good))) $
-        adds-one ! (3 + 4) refl (t n less .next-fits) (num (t n less .next-fits)) $ clears ! E 3 5 _ refl $
-        rewrite ! 0 (holds row) (put-back-more ps ws n (in-list n less)) refl $ on (t n less .below) tt))
-        (λ left. forget ! (3 + 5) refl $ over (nltb→le n m left))
-
     abbrev length-end : length (put-back ps ws m) ≡ length ps
     length-end = length-put-back ps ws m (asked .room .enough)
 
@@ -141,10 +120,26 @@ module _ {M : Type 1} (𝓤 : URA M) (H : Heap 𝓤) (A : Atoms 𝓤) (W : Given
         (fact 𝓤 (put-back ps ws m ≡ put-back ps ws m)) (factI 𝓤 _ _ refl)
         (ends-at 𝓤 H A f.ended (stays f.ended kinds) (f.clauses 𝓤 H A mem run) W (entry pars, tt) vunit tt (put-back ps ws m, (tt, (tt, tt))) (length-end, (tt, (tt, tt)))))
 
+    -- from the loop on
+    loop-on : Sq W (At 0) (runs (𝓣 .C) (𝓣 .Λ) E body.t-2 (atRet E Post-of))
+    loop-on =
+        counts ! m (asked .room .few) (λ _. Unit {0}) 𝓣 At (3 + 4) (3 + 3) (3 + 5) (λ n. (refl, refl)) (λ n. (empty, (tt, tt))) (λ n. refl) (λ n. refl) (λ n _ t q on.
+        move ! (1 ∷ []) $
+        calls-outright ! (fmOf 𝓤 H (W .laws) 𝓣) (args n t) P.the-row (plain-pair W) (fact 𝓤 (Fits-record n ws)) (λ r us. r ≡ p n t) refl
+        (factI 𝓤 _ (emp 𝓤) (lies-there n t)) (λ ks. known (bound (args n t) ks, tt)) (p n t) (tt, (tt, tt)) (λ r us e. (e, refl))
+        (and-then ! (var ! (3 + 2) refl) (and-then ! (var ! (3 + 4) refl) (no-more !))) (λ good _.
+        lands-in ! (3 + 6) empty (typed-as (plain-pair W) (p n t) good) $ move ! (1 ∷ []) $
+        sets ! (3 + 7) empty (bin ! (var ! (3 + 4) refl) (lit ! tt) (fit (t .size-fits))) (num (t .size-fits)) $
+        sets ! (3 + 8) empty (bin ! (part-of ! (3 + 1) 0 refl refl refl) (var ! (3 + 7) refl) tt) (tt, tt) $
+        assigns ! (of-opd ! (var ! (3 + 6) refl)) (from ! (hop ! (look ! (3 + 8) refl) (stop !)))
+        (store-at ! 0 row (put-back ps ws n) n blank (p n t) (in-row n t) good refl (λ _. store-raw ! 0 refl (typed-as (plain-pair W) (p n t) good))) $
+        adds-one ! (3 + 4) refl (t .next-fits) (num (t .next-fits)) $ clears ! E 3 5 _ refl $
+        rewrite ! 0 (holds row) (put-back-more ps ws n (in-list n t)) refl $ on tt)) tt ended
+
   walk : ent 𝓤 (onEntry 𝓤 H A f.signature κs qs (entry pars .3) (entry pars .4)) (WpFn 𝓤 H (𝓣 .C) (𝓣 .Λ) code.function (passed pars) Post-of)
   walk = begins (𝓣 .C) (𝓣 .Λ) code.function Post-of pars (λ bs. (fit-slice (room .0), (fit-slice (room′ .0), (num m-fits, tt)))) (λ bs os.
       sets ! (3 + 4) empty (of-opd ! (lit ! tt)) (num (lit< tt)) $ rewrite ! 0 (holds row) (sym (put-back-none ps ws)) refl $
-      counts ! m (λ _. Unit {0}) 𝓣 (At (os .1 .0) bs) (turns (os .1 .0) bs) tt (ended (os .1 .0) bs))
+      loop-on (os .1 .0) bs)
 
 pub copy-in-spec : {M : Type 1} → stated.statement M
 unfolding code.routine tablesOf

@@ -40,7 +40,7 @@ use Rattle.records.proofs.Elements.{Fit-all, fit-at, knows-row}
 use Rattle.records.proofs.Frame.{Blocks, env, frees, frame-of, empty, fit, num, fit-slice, var, part-of, ptr-of, slice-again-as, sets, lands-in, clears, leaves}
 use Rattle.records.proofs.Entry.{Par, plain, held, hold-shr, hold-mut, entry, passed, shut, begins, ends}
 use Rattle.records.proofs.Signs.{Kinds, shr-kind, mut-kind, count-kind, stays, states-by}
-use Rattle.records.proofs.Loop.{Turn, turn, counts, tests, adds-one}
+use Rattle.records.proofs.Loop.{Turn, counts, adds-one}
 use Rattle.records.proofs.Records.{plain-pair, pair-row, word-row, room-as, record-of}
 use Rattle.records.proofs.Copies.{length-laid-out, laid-out-none, laid-out-more}
 use Rattle.records.proofs.Pair as P
@@ -86,10 +86,7 @@ module _ {M : Type 1} (𝓤 : URA M) (H : Heap 𝓤) (A : Atoms 𝓤) (W : Given
         ∷ (frame-of E (nothing-in ∷ some (sliceVal (list .ptr) (length ps)) ∷ some (sliceVal (words .ptr) (length ws)) ∷ some (vint w64 m) ∷ some (vint w64 i) ∷ [])
         ++ (‵ (frees E) ∷ []))
 
-    module _ (n : ℕ) (less : T (ltb n m)) where
-      abbrev t : Turn m n
-      t = turn m n (asked .few) less
-
+    module _ (n : ℕ) (t : Turn m n) where
       abbrev zs : List ℕ
       zs = laid-out ps ws n
 
@@ -117,27 +114,6 @@ module _ {M : Type 1} (𝓤 : URA M) (H : Heap 𝓤) (A : Atoms 𝓤) (W : Given
       abbrev args : List (Arg W)
       args = loan (lend-mut row zs (room-as u32 length-zs room′)) ∷ by-value usize (plain-count W) n (refl, n-fits) ∷ by-value P.the-row (plain-pair W) p p-fits ∷ []
 
-    turns : (n : ℕ) → Unit {0} → (q : Post 𝓤 H) → (n < m → Unit {0} → Sq W (At (suc n)) (prop (post 𝓤 H q next))) → (m ≤ n → Sq W (At n) (prop (post 𝓤 H q (exits 1))))
-        → Sq W (At n) (runs (𝓣 .C) (𝓣 .Λ) E body.turn-1 q)
-    turns n _ q on over =
-        sets ! (3 + 5) empty (bin ! (var ! (3 + 4) refl) (var ! (3 + 3) refl) tt) (tt, tt) $
-        tests ! (var ! (3 + 5) refl) (λ less.
-        sets ! (3 + 7) empty (ptr-of ! (3 + 2) refl refl) (tt, tt) $
-        sets ! (3 + 8) empty (slice-again-as ! (3 + 7) (3 + 2) (length (zs n less)) (length-zs n less) refl refl refl) (fit-slice (room-as u32 (length-zs n less) room′ .0)) $
-        sets ! (3 + 9) empty (bin ! (var ! (3 + 4) refl) (lit ! tt) (fit (t n less .size-fits))) (num (t n less .size-fits)) $
-        sets ! (3 + 10) empty (bin ! (part-of ! (3 + 1) 0 refl refl refl) (var ! (3 + 9) refl) tt) (tt, tt) $
-        sets ! (3 + 11) empty (of-opd ! (record-of ! (3 + 10) 0 s (list .ptr .0) (list .ptr .1) n ps (in-list n less) refl refl))
-        (typed-as (plain-pair W) (p n less) (p-fits n less)) $
-        move ! (1 ∷ []) $
-        calls-outright ! (fmOf 𝓤 H (W .laws) 𝓣) (args n less) unit (plain-none W) (fact 𝓤 (Room-at n (zs n less))) (λ r us. us .0 ≡ laid-record (zs n less) n (p n less)) refl
-        (factI 𝓤 _ (emp 𝓤) (has-place n less)) (λ ks. known (bound (args n less) ks, tt)) tt (laid-record (zs n less) n (p n less), (tt, (tt, tt)))
-        (λ r us e. (refl, λ i. (e i, (tt, (tt, tt))))) (and-then ! (var ! (3 + 8) refl) (and-then ! (var ! (3 + 4) refl) (and-then ! (var ! (3 + 11) refl) (no-more !)))) (λ _ _.
-        lands-in ! (3 + 6) empty (tt, tt) $ move ! (1 ∷ []) $
-        adds-one ! (3 + 4) refl (t n less .next-fits) (num (t n less .next-fits)) $ clears ! E 3 5 _ refl $
-        rewrite ! 1 (holds row) (laid-out-more ps ws n (in-list n less) (t n less .few) (long n less)) refl $
-        on (t n less .below) tt))
-        (λ left. forget ! (3 + 5) refl $ over (nltb→le n m left))
-
     ended : Sq W (At m) (runs (𝓣 .C) (𝓣 .Λ) E body.t-3 (atRet E Post-of))
     ended =
         sets ! (3 + 0) empty (of-opd ! (unit-lit !)) (tt, tt) $ leaves ! 3 (λ j. ltb j 5) _ refl (look ! (3 + 0) refl) $
@@ -146,11 +122,30 @@ module _ {M : Type 1} (𝓤 : URA M) (H : Heap 𝓤) (A : Atoms 𝓤) (W : Given
         (ends-at 𝓤 H A f.ended (stays f.ended kinds) (f.clauses 𝓤 H A mem run) W (entry pars, tt) vunit tt (tt, (laid-out ps ws m, (tt, tt)))
         (tt, (length-laid-out ps ws m asked, (tt, tt)))))
 
+    -- from the loop on
+    loop-on : Sq W (At 0) (runs (𝓣 .C) (𝓣 .Λ) E body.t-2 (atRet E Post-of))
+    loop-on =
+        counts ! m (asked .few) (λ _. Unit {0}) 𝓣 At (3 + 4) (3 + 3) (3 + 5) (λ n. (refl, refl)) (λ n. (empty, (tt, tt))) (λ n. refl) (λ n. refl) (λ n _ t q on.
+        sets ! (3 + 7) empty (ptr-of ! (3 + 2) refl refl) (tt, tt) $
+        sets ! (3 + 8) empty (slice-again-as ! (3 + 7) (3 + 2) (length (zs n t)) (length-zs n t) refl refl refl) (fit-slice (room-as u32 (length-zs n t) room′ .0)) $
+        sets ! (3 + 9) empty (bin ! (var ! (3 + 4) refl) (lit ! tt) (fit (t .size-fits))) (num (t .size-fits)) $
+        sets ! (3 + 10) empty (bin ! (part-of ! (3 + 1) 0 refl refl refl) (var ! (3 + 9) refl) tt) (tt, tt) $
+        sets ! (3 + 11) empty (of-opd ! (record-of ! (3 + 10) 0 s (list .ptr .0) (list .ptr .1) n ps (in-list n t) refl refl))
+        (typed-as (plain-pair W) (p n t) (p-fits n t)) $
+        move ! (1 ∷ []) $
+        calls-outright ! (fmOf 𝓤 H (W .laws) 𝓣) (args n t) unit (plain-none W) (fact 𝓤 (Room-at n (zs n t))) (λ r us. us .0 ≡ laid-record (zs n t) n (p n t)) refl
+        (factI 𝓤 _ (emp 𝓤) (has-place n t)) (λ ks. known (bound (args n t) ks, tt)) tt (laid-record (zs n t) n (p n t), (tt, (tt, tt)))
+        (λ r us e. (refl, λ i. (e i, (tt, (tt, tt))))) (and-then ! (var ! (3 + 8) refl) (and-then ! (var ! (3 + 4) refl) (and-then ! (var ! (3 + 11) refl) (no-more !)))) (λ _ _.
+        lands-in ! (3 + 6) empty (tt, tt) $ move ! (1 ∷ []) $
+        adds-one ! (3 + 4) refl (t .next-fits) (num (t .next-fits)) $ clears ! E 3 5 _ refl $
+        rewrite ! 1 (holds row) (laid-out-more ps ws n (in-list n t) (t .few) (long n t)) refl $
+        on tt)) tt ended
+
   walk : ent 𝓤 (onEntry 𝓤 H A f.signature κs qs (entry pars .3) (entry pars .4)) (WpFn 𝓤 H (𝓣 .C) (𝓣 .Λ) code.function (passed pars) Post-of)
   walk = begins (𝓣 .C) (𝓣 .Λ) code.function Post-of pars (λ bs. (fit-slice (room .0), (fit-slice (room′ .0), (num m-fits, tt)))) (λ bs os.
       knows-row ! 0 (pair-row W (os .0) (list .ptr .0) (list .ptr .1)) ps refl (λ good.
       sets ! (3 + 4) empty (of-opd ! (lit ! tt)) (num (lit< tt)) $ rewrite ! 1 (holds row) (sym (laid-out-none ps ws)) refl $
-      counts ! m (λ _. Unit {0}) 𝓣 (At (os .0) bs good) (turns (os .0) bs good) tt (ended (os .0) bs good)))
+      loop-on (os .0) bs good))
 
 pub copy-out-spec : {M : Type 1} → stated.statement M
 unfolding code.routine tablesOf
