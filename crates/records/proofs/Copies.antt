@@ -185,12 +185,12 @@ module _ (ps : List Pair) (ws : List ℕ) (i : ℕ) (l : i < length ps) (few : i
       )
 
 -- a buffer keeps its length
-pub length-laid-out : (ps : List Pair) (ws : List ℕ) (m : ℕ) → Room-out m ps ws → length (laid-out ps ws m) ≡ length ws
+pub length-laid-out : (ps : List Pair) (ws : List ℕ) (m : ℕ) → Room-out ps ws m → length (laid-out ps ws m) ≡ length ws
 length-laid-out ps ws zero r = ap {B = ℕ} (λ (xs : List ℕ). length xs) (laid-out-none ps ws)
 length-laid-out ps ws (suc m) r = length-laid ps ws (suc m) (r .enough) (r .few) (r .long (omega arith))
 
 -- and what lies past the places
-pub laid-out-past : (ps : List Pair) (ws : List ℕ) (m : ℕ) → Room-out m ps ws → drop 12288 (laid-out ps ws m) ≡ drop 12288 ws
+pub laid-out-past : (ps : List Pair) (ws : List ℕ) (m : ℕ) → Room-out ps ws m → drop 12288 (laid-out ps ws m) ≡ drop 12288 ws
 laid-out-past ps ws zero r = ap {B = List ℕ} (λ (xs : List ℕ). drop 12288 xs) (laid-out-none ps ws)
 laid-out-past ps ws (suc m) r = past-laid ps ws (suc m) (r .enough) (r .few) (r .long (omega arith))
 
@@ -228,7 +228,7 @@ unfolding table
 table-map f g zero = refl
 table-map f g (suc m) = ap {B = List _} (λ r. g (f 0) ∷ r) (table-map (λ j. f (suc j)) g m)
 
-module _ (ps : List Pair) (ws : List ℕ) (m : ℕ) (r : Room-out m ps ws) where
+module _ (ps : List Pair) (ws : List ℕ) (m : ℕ) (r : Room-out ps ws m) where
   some-long : (j : ℕ) → j < m → 12288 ≤ length ws
   some-long j l = r .long (omega (arith, l))
 

@@ -4,7 +4,7 @@
 //   agree      whether head and list agree (document 01, number 13)
 // Each is one pass over the records that it names, and blind to what is in a record: lay, record_at and step know that.
 ghost use mathlib.Core.Path.{_≡_};
-ghost use Rattle.records.specs.Records.{laid-record, word-record, laid-out, put-back, Room-at, Fits-record, Room-out, Room-back, agrees};
+ghost use Rattle.records.specs.Records.{laid-record, word-record, laid-out, put-back, Room-at, Fits-at, Room-out, Room-back, agrees};
 ghost use Rattle.records.specs.Scan.{begin-of, tested-of, step-of};
 
 // A record: two module numbers, the smaller first.
@@ -33,7 +33,7 @@ fn lay(words: &mut [u32], i: usize, p: Pair)
 
 // One record from words.
 fn record_at(words: &[u32], i: usize) -> Pair
-    requires { ⌜ Fits-record i (now words) ⌝ }
+    requires { ⌜ Room-at i (now words) × Fits-at i (now words) ⌝ }
     ensures { λ r. ⌜ r ≡ word-record (now (words .entry)) i ⌝ }
 {
     Pair {
@@ -44,7 +44,7 @@ fn record_at(words: &[u32], i: usize) -> Pair
 
 // The first m records to words. The other words stay.
 pub fn copy_out(list: &[Pair], words: &mut [u32], m: usize)
-    requires { ⌜ Room-out m (now list) (now words) ⌝ }
+    requires { ⌜ Room-out (now list) (now words) m ⌝ }
     ensures { λ _. ⌜ now (words .exit) ≡ laid-out (now (list .entry)) (now (words .entry)) m ⌝ }
 {
     let mut i = 0;
@@ -56,7 +56,7 @@ pub fn copy_out(list: &[Pair], words: &mut [u32], m: usize)
 
 // The first m records from words. The records after them stay.
 pub fn copy_in(list: &mut [Pair], words: &[u32], m: usize)
-    requires { ⌜ Room-back m (now list) (now words) ⌝ }
+    requires { ⌜ Room-back (now list) (now words) m ⌝ }
     ensures { λ _. ⌜ now (list .exit) ≡ put-back (now (list .entry)) (now (words .entry)) m ⌝ }
 {
     let mut i = 0;

@@ -31,7 +31,7 @@ use denote.Triple.Spec.{tripleOf}
 use denote.Triple.Statement.{Triple}
 use denote.Triple.Table.{cited}
 use denote.Triple.Walked.{needs, walkOf, ends-at}
-use Rattle.records.specs.Records.{blank, word-record, put-back, Fits-records, Fits-record, Room-back}
+use Rattle.records.specs.Records.{blank, word-record, put-back, Room-at, Fits-at, Fits-records, Room-back}
 use Rattle.records.specs.declared.Pair.{Pair}
 use Rattle.records.proofs.Plain.{Fits, typed-as, plain-word, plain-count, plain-none}
 use Rattle.records.proofs.Rows.{Row, holds, lend-shr}
@@ -59,7 +59,7 @@ kinds = (mut-kind 0 tt P.the-row, (shr-kind 1 tt u32, (count-kind, tt)))
 module _ {M : Type 1} (𝓤 : URA M) (H : Heap 𝓤) (A : Atoms 𝓤) (W : Given 𝓤 H A) (mem : Memory → SProp 𝓤) (run : Routine → Fun 𝓤) (𝓣 : Tables 𝓤 H)
     (known : Triple 𝓤 (𝓣 .C record-at-def.name) (tripleOf 𝓤 H A record-at.signature (record-at.spec 𝓤 H A mem run)))
     (κs : Lfts 2) (qs : Shares 2) (list : RefT (List Pair)) (words : RefT (List ℕ)) (m : ℕ)
-    (room : Room P.the-row (length (list .now))) (room′ : Room u32 (length (words .now))) (m-fits : m < 2 ^ 64) (asked : Room-back m (list .now) (words .now)) where
+    (room : Room P.the-row (length (list .now))) (room′ : Room u32 (length (words .now))) (m-fits : m < 2 ^ 64) (asked : Room-back (list .now) (words .now) m) where
   abbrev ps : List Pair
   ps = list .now
 
@@ -96,13 +96,9 @@ module _ {M : Type 1} (𝓤 : URA M) (H : Heap 𝓤) (A : Atoms 𝓤) (W : Given
       in-row : n < length (put-back ps ws n)
       in-row = omega (arith, in-list, length-put-back ps ws n (omega (arith, in-list)))
 
-      lies-there : Fits-record n ws
+      lies-there : Room-at n ws × Fits-at n ws
       unfolding Fits-records
-      lies-there = record {
-        room = record { few = t .few; long = asked .room .long (omega (arith, t .below)) };
-        first-fits = asked .fits n (t .below) .0;
-        second-fits = asked .fits n (t .below) .1;
-      }
+      lies-there = (record { few = t .few; long = asked .room .long (omega (arith, t .below)) }, asked .fits n (t .below))
 
       n-fits : n < 2 ^ 64
       n-fits = omega (arith, t .next-fits)
@@ -125,7 +121,7 @@ module _ {M : Type 1} (𝓤 : URA M) (H : Heap 𝓤) (A : Atoms 𝓤) (W : Given
     loop-on =
         counts ! m (asked .room .few) (λ _. Unit {0}) 𝓣 At (3 + 4) (3 + 3) (3 + 5) (λ n. (refl, refl)) (λ n. (empty, (tt, tt))) (λ n. refl) (λ n. refl) (λ n _ t q on.
         move ! (1 ∷ []) $
-        calls-outright ! (fmOf 𝓤 H (W .laws) 𝓣) (args n t) P.the-row (plain-pair W) (fact 𝓤 (Fits-record n ws)) (λ r us. r ≡ p n t) refl
+        calls-outright ! (fmOf 𝓤 H (W .laws) 𝓣) (args n t) P.the-row (plain-pair W) (fact 𝓤 (Room-at n ws × Fits-at n ws)) (λ r us. r ≡ p n t) refl
         (factI 𝓤 _ (emp 𝓤) (lies-there n t)) (λ ks. known (bound (args n t) ks, tt)) (p n t) (tt, (tt, tt)) (λ r us e. (e, refl))
         (and-then ! (var ! (3 + 2) refl) (and-then ! (var ! (3 + 4) refl) (no-more !))) (λ good _.
         lands-in ! (3 + 6) empty (typed-as (plain-pair W) (p n t) good) $ move ! (1 ∷ []) $
@@ -145,7 +141,7 @@ pub copy-in-spec : {M : Type 1} → stated.statement M
 unfolding code.routine tablesOf
 copy-in-spec 𝓤 H 𝓜 𝓖 𝓡 =
     states-by 𝓤 H 𝓜 𝓖 𝓡 code.env f.ended kinds (f.clauses 𝓤 H (𝓖 .A) (𝓜 .mem) (𝓡 .run)) #records·copy-in code.function (code.unfolded 𝓤 H 𝓜 𝓡) (λ κs qs bounds a g are.
-    needs 𝓤 (Room-back (a .1 .1 .0) (now (a .0)) (now (a .1 .0))) _ (λ asked.
+    needs 𝓤 (Room-back (now (a .0)) (now (a .1 .0)) (a .1 .1 .0)) _ (λ asked.
     walk 𝓤 H (𝓖 .A) (givenOf 𝓤 H 𝓜 𝓖) (𝓜 .mem) (𝓡 .run) (tablesOf 𝓤 H 𝓜 (tables 𝓤 H 𝓜 𝓡 code.env))
     (cited 𝓤 H _ 𝓜 𝓡 code.env record-at-def.name record-at-def.routine code.calls-records·record-at (record-at-thm.met 𝓤 H 𝓜 𝓖 𝓡))
     κs qs (a .0) (a .1 .0) (a .1 .1 .0) (are .0 .0 .1) (are .1 .0 .0 .1) (are .1 .1 .0 .1) asked))

@@ -59,7 +59,7 @@ kinds = (shr-kind 0 tt P.the-row, (mut-kind 1 tt u32, (count-kind, tt)))
 module _ {M : Type 1} (𝓤 : URA M) (H : Heap 𝓤) (A : Atoms 𝓤) (W : Given 𝓤 H A) (mem : Memory → SProp 𝓤) (run : Routine → Fun 𝓤) (𝓣 : Tables 𝓤 H)
     (known : Triple 𝓤 (𝓣 .C lay-def.name) (tripleOf 𝓤 H A lay.signature (lay.spec 𝓤 H A mem run)))
     (κs : Lfts 2) (qs : Shares 2) (list : RefT (List Pair)) (words : RefT (List ℕ)) (m : ℕ)
-    (room : Room P.the-row (length (list .now))) (room′ : Room u32 (length (words .now))) (m-fits : m < 2 ^ 64) (asked : Room-out m (list .now) (words .now)) where
+    (room : Room P.the-row (length (list .now))) (room′ : Room u32 (length (words .now))) (m-fits : m < 2 ^ 64) (asked : Room-out (list .now) (words .now) m) where
   abbrev ps : List Pair
   ps = list .now
 
@@ -151,7 +151,7 @@ pub copy-out-spec : {M : Type 1} → stated.statement M
 unfolding code.routine tablesOf
 copy-out-spec 𝓤 H 𝓜 𝓖 𝓡 =
     states-by 𝓤 H 𝓜 𝓖 𝓡 code.env f.ended kinds (f.clauses 𝓤 H (𝓖 .A) (𝓜 .mem) (𝓡 .run)) #records·copy-out code.function (code.unfolded 𝓤 H 𝓜 𝓡) (λ κs qs bounds a g are.
-    needs 𝓤 (Room-out (a .1 .1 .0) (now (a .0)) (now (a .1 .0))) _ (λ asked.
+    needs 𝓤 (Room-out (now (a .0)) (now (a .1 .0)) (a .1 .1 .0)) _ (λ asked.
     walk 𝓤 H (𝓖 .A) (givenOf 𝓤 H 𝓜 𝓖) (𝓜 .mem) (𝓡 .run) (tablesOf 𝓤 H 𝓜 (tables 𝓤 H 𝓜 𝓡 code.env))
     (cited 𝓤 H _ 𝓜 𝓡 code.env lay-def.name lay-def.routine code.calls-records·lay (lay-thm.met 𝓤 H 𝓜 𝓖 𝓡))
     κs qs (a .0) (a .1 .0) (a .1 .1 .0) (are .0 .0 .1) (are .1 .0 .0 .1) (are .1 .1 .0 .1) asked))

@@ -58,14 +58,14 @@ cast-if2 : tie.Need-cast-if2
 cast-if2 c = search needs
 
 returns-2 : tie.Need-returns-2
-returns-2 c = let e = c .before .before in let a = passed e in outside (a .n) (a .seen) (a .p) (e .if1 .left) (c .if2 .taken)
+returns-2 c = let e = c .before .before in let a = passed e in outside (a .n) (a .seen) (a .p) (e .if1 .left) (omega (arith, c .if2 .taken))
 
 returns-3 : tie.Need-returns-3
 returns-3 c =
     let f = c .before .before in
     let e = f .before .before in
     let a = passed e in
-    turned (a .n) (a .seen) (a .p) (e .if1 .left) (f .if2 .left) (c .if3 .taken)
+    turned (a .n) (a .seen) (a .p) (e .if1 .left) (omega (arith, f .if2 .left)) (omega (arith, c .if3 .taken))
 
 returns-4 : tie.Need-returns-4
 returns-4 c =
@@ -73,7 +73,7 @@ returns-4 c =
     let f = g .before .before in
     let e = f .before .before in
     let a = passed e in
-    same-first (a .n) (a .seen) (a .p) (e .if1 .left) (f .if2 .left) (g .if3 .left) (c .before .before .if4 .taken)
+    same-first (a .n) (a .seen) (a .p) (e .if1 .left) (omega (arith, f .if2 .left)) (omega (arith, g .if3 .left)) (c .before .before .if4 .taken)
 
 returns-5 : tie.Need-returns-5
 returns-5 c =
@@ -81,7 +81,7 @@ returns-5 c =
     let f = g .before .before in
     let e = f .before .before in
     let a = passed e in
-    other-first (a .n) (a .seen) (a .p) (e .if1 .left) (f .if2 .left) (g .if3 .left) (c .before .before .if4 .left)
+    other-first (a .n) (a .seen) (a .p) (e .if1 .left) (omega (arith, f .if2 .left)) (omega (arith, g .if3 .left)) (c .before .before .if4 .left)
 
 pub step-spec : {M : Type 1} → statement M
 step-spec = tie.close (tie.spec returns cast-if2 returns-2 returns-3 returns-4 returns-5)
