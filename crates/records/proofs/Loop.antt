@@ -65,7 +65,8 @@ module _ {M : Type 1} {𝓤 : URA M} {H : Heap 𝓤} {A : Atoms 𝓤} {K : Type 
   tests t o held failed = first t $ branches t o (λ h. skips t $ record { prf = held h .prf }) (λ h. jumps t $ record { prf = failed h .prf })
 
   -- i and m stand at ni and nm, room for the test's outcome at nf
-  pub counts : K → (m : ℕ) → m ≤ 4096 → (Kept : ℕ → Type 0) (𝓣 : Tables 𝓤 H) (At : ℕ → List (Item 𝓤)) (ni nm nf : ℕ) {i l f : ℕ} {body rest : Body} {Q : Post 𝓤 H}
+  pub counts : K → (m : ℕ) → m ≤ 4096 → (Kept : ℕ → Type 0) (𝓣 : Tables 𝓤 H) (At : ℕ → List (Item 𝓤))
+      (ni nm nf : ℕ) {i l f : ℕ} {body rest : Body} {Q : Post 𝓤 H}
       → ((n : ℕ) → (nth 𝓤 H A ni (At n) ≡ cell (at E i) (vint w64 n)) × (nth 𝓤 H A nm (At n) ≡ cell (at E l) (vint w64 m)))
       → ((n : ℕ) → Slot (at E f) (nth 𝓤 H A nf (At n)) × Typed (at E f) (vbool (ltb n m)))
       → ((n : ℕ) → nth 𝓤 H A nf (put 𝓤 H A nf (cell (at E f) (vbool (ltb n m))) (At n)) ≡ cell (at E f) (vbool (ltb n m)))

@@ -109,7 +109,8 @@ module _ (h : Head) (ps : List Pair) where
       simp tests (k .1 .1, ((k .0, short), (g .ends, (g .first, (weights-good held, g .rises)))))
 
   -- and where they agree, both are so
-  parts-agree : agrees h ps ≡ true → (fits h (length ps) ≡ true) × (all (ends-in-range (h .n)) (as-pairs held) ≡ true) × (all smaller-first (as-pairs held) ≡ true) × (rising (as-pairs held) ≡ true)
+  parts-agree : agrees h ps ≡ true → (fits h (length ps) ≡ true) × (all (ends-in-range (h .n)) (as-pairs held) ≡ true) ×
+      (all smaller-first (as-pairs held) ≡ true) × (rising (as-pairs held) ≡ true)
   unfolding agrees held-list is-list size-in-range as-pairs fits
   parts-agree e =
       let k = simp tests at e in

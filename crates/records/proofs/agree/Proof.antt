@@ -41,7 +41,8 @@ use Rattle.records.proofs.Plain.{Fits, typed-as, plain-word, plain-coun
 use Rattle.records.proofs.Rows.{holds}
 use Rattle.records.proofs.Calls.{Arg, plain as by-value, bound, calls-outright}
 use Rattle.records.proofs.Elements.{Fit-all, fit-at, knows-row}
-use Rattle.records.proofs.Frame.{Blocks, env, block, frees, frame-of, empty, holds as full, fit, num, fit-slice, var, part-of, sets, lands-in, clears, leaves}
+use Rattle.records.proofs.Frame.{Blocks, env, block, frees, frame-of, empty, holds as full, fit, num, fit-slice, var, part-of, sets, lands-in, clears}
+use Rattle.records.proofs.Frame.{leaves}
 use Rattle.records.proofs.Entry.{Par, plain, held, hold-shr, entry, passed, shut, begins, ends}
 use Rattle.records.proofs.Signs.{Kinds, record-kind, shr-kind, stays}
 use Rattle.records.proofs.Stated.{states}
@@ -141,7 +142,8 @@ module _ {M : Type 1} (𝓤 : URA M) (H : Heap 𝓤) (A : Atoms 𝓤) (W : Given
       p-fits = fit-at P.the-row (plain-pair W) ps good n blank in-list
 
       abbrev step-args : Kept n → List (Arg W)
-      step-args now = by-value u32 (plain-word W) (h .n) (refl, n-fits) ∷ by-value S.the-row (plain-seen W) (seen n) now ∷ by-value P.the-row (plain-pair W) p p-fits ∷ []
+      step-args now = by-value u32 (plain-word W) (h .n) (refl, n-fits) ∷ by-value S.the-row (plain-seen W) (seen n) now ∷ by-value P.the-row
+          (plain-pair W) p p-fits ∷ []
 
       next-is : step-of (h .n) (seen n) p ≡ seen (suc n)
       next-is = sym (scan-more (h .n) start ps n in-list)
@@ -149,8 +151,10 @@ module _ {M : Type 1} (𝓤 : URA M) (H : Heap 𝓤) (A : Atoms 𝓤) (W : Given
     ended : Sq W (At k) (runs C Λ E body.t-7 (atRet E Post-of))
     ended =
         sets ! (2 + 0) empty (of-opd ! (part-of ! (2 + 4) 0 refl refl refl)) (tt, tt) $ leaves ! 2 (λ j. ltb j 8) _ refl (look ! (2 + 0) refl) $
-        by ! (ends pars (s, tt) (tt, (tt, tt)) (tt, (tt, tt)) bool (plain-truth W) (seen k .ok) refl (fact 𝓤 (seen k .ok ≡ agrees h ps)) (factI 𝓤 _ _ (scan-agrees h ps))
-        (ends-at 𝓤 H A f.ended (stays f.ended kinds) (f.clauses 𝓤 H A mem run) W (entry pars, tt) (vbool (seen k .ok)) (seen k .ok) (tt, (tt, tt)) (tt, (tt, tt))))
+        by ! (ends pars (s, tt) (tt, (tt, tt)) (tt, (tt, tt)) bool (plain-truth W) (seen k .ok) refl (fact 𝓤 (seen k .ok ≡ agrees h ps))
+        (factI 𝓤 _ _ (scan-agrees h ps))
+        (ends-at 𝓤 H A f.ended (stays f.ended kinds) (f.clauses 𝓤 H A mem run) W (entry pars, tt) (vbool (seen k .ok)) (seen k .ok) (tt, (tt, tt))
+        (tt, (tt, tt))))
 
     -- from the loop on
     loop-on : Kept 0 → Sq W (At 0) (runs C Λ E body.t-6 (atRet E Post-of))
@@ -182,7 +186,8 @@ module _ {M : Type 1} (𝓤 : URA M) (H : Heap 𝓤) (A : Atoms 𝓤) (W : Given
 pub agree-spec : {M : Type 1} → stated.statement M
 unfolding code.routine tablesOf
 agree-spec 𝓤 H 𝓜 𝓖 𝓡 =
-    states 𝓤 H 𝓜 𝓖 𝓡 code.env f.ended kinds (f.clauses 𝓤 H (𝓖 .A) (𝓜 .mem) (𝓡 .run)) #records·agree code.function (code.unfolded 𝓤 H 𝓜 𝓡) (λ κs qs bounds a g are.
+    states 𝓤 H 𝓜 𝓖 𝓡 code.env f.ended kinds (f.clauses 𝓤 H (𝓖 .A) (𝓜 .mem) (𝓡 .run)) #records·agree code.function (code.unfolded 𝓤 H 𝓜 𝓡)
+    (λ κs qs bounds a g are.
     walk 𝓤 H (𝓖 .A) (givenOf 𝓤 H 𝓜 𝓖) (𝓜 .mem) (𝓡 .run) (tablesOf 𝓤 H 𝓜 (tables 𝓤 H 𝓜 𝓡 code.env)) (record {
       begins = cited 𝓤 H _ 𝓜 𝓡 code.env begin-def.name begin-def.routine code.calls-records·begin (begin-thm.met 𝓤 H 𝓜 𝓖 𝓡);
       tests = cited 𝓤 H _ 𝓜 𝓡 code.env tested-def.name tested-def.routine code.calls-records·tested (tested-thm.met 𝓤 H 𝓜 𝓖 𝓡);

@@ -59,7 +59,8 @@ kinds = (mut-kind 0 tt P.the-row, (shr-kind 1 tt u32, (count-kind, tt)))
 module _ {M : Type 1} (𝓤 : URA M) (H : Heap 𝓤) (A : Atoms 𝓤) (W : Given 𝓤 H A) (mem : Memory → SProp 𝓤) (run : Routine → Fun 𝓤) (𝓣 : Tables 𝓤 H)
     (known : Triple 𝓤 (𝓣 .C record-at-def.name) (tripleOf 𝓤 H A record-at.signature (record-at.spec 𝓤 H A mem run)))
     (κs : Lfts 2) (qs : Shares 2) (list : RefT (List Pair)) (words : RefT (List ℕ)) (m : ℕ)
-    (room : Room P.the-row (length (list .now))) (room′ : Room u32 (length (words .now))) (m-fits : m < 2 ^ 64) (asked : Room-back (list .now) (words .now) m) where
+    (room : Room P.the-row (length (list .now))) (room′ : Room u32 (length (words .now))) (m-fits : m < 2 ^ 64)
+    (asked : Room-back (list .now) (words .now) m) where
   abbrev ps : List Pair
   ps = list .now
 
@@ -83,7 +84,8 @@ module _ {M : Type 1} (𝓤 : URA M) (H : Heap 𝓤) (A : Atoms 𝓤) (W : Given
 
     abbrev At : ℕ → List (Item 𝓤)
     At i = holds row (put-back ps ws i) ∷ holds (word-row W s (words .ptr .0) (words .ptr .1)) ws ∷ ‵ (shut pars (tt, (s, tt)))
-        ∷ (frame-of E (nothing-in ∷ some (sliceVal (list .ptr) (length ps)) ∷ some (sliceVal (words .ptr) (length ws)) ∷ some (vint w64 m) ∷ some (vint w64 i) ∷ [])
+        ∷ (frame-of E (nothing-in ∷ some (sliceVal (list .ptr) (length ps)) ∷ some (sliceVal (words .ptr) (length ws)) ∷ some (vint w64 m) ∷ some
+        (vint w64 i) ∷ [])
         ++ (‵ (frees E) ∷ []))
 
     module _ (n : ℕ) (t : Turn m n) where
@@ -114,12 +116,14 @@ module _ {M : Type 1} (𝓤 : URA M) (H : Heap 𝓤) (A : Atoms 𝓤) (W : Given
         sets ! (3 + 0) empty (of-opd ! (unit-lit !)) (tt, tt) $ leaves ! 3 (λ j. ltb j 5) _ refl (look ! (3 + 0) refl) $
         by ! (ends pars (tt, (s, tt)) (put-back ps ws m, (tt, (tt, tt))) (length-end, (tt, (tt, tt))) unit (plain-none W) tt refl
         (fact 𝓤 (put-back ps ws m ≡ put-back ps ws m)) (factI 𝓤 _ _ refl)
-        (ends-at 𝓤 H A f.ended (stays f.ended kinds) (f.clauses 𝓤 H A mem run) W (entry pars, tt) vunit tt (put-back ps ws m, (tt, (tt, tt))) (length-end, (tt, (tt, tt)))))
+        (ends-at 𝓤 H A f.ended (stays f.ended kinds) (f.clauses 𝓤 H A mem run) W (entry pars, tt) vunit tt (put-back ps ws m, (tt, (tt, tt)))
+        (length-end, (tt, (tt, tt)))))
 
     -- from the loop on
     loop-on : Sq W (At 0) (runs (𝓣 .C) (𝓣 .Λ) E body.t-2 (atRet E Post-of))
     loop-on =
-        counts ! m (asked .room .few) (λ _. Unit {0}) 𝓣 At (3 + 4) (3 + 3) (3 + 5) (λ n. (refl, refl)) (λ n. (empty, (tt, tt))) (λ n. refl) (λ n. refl) (λ n _ t q on.
+        counts ! m (asked .room .few) (λ _. Unit {0}) 𝓣 At (3 + 4) (3 + 3) (3 + 5) (λ n. (refl, refl)) (λ n. (empty, (tt, tt))) (λ n. refl) (λ n. refl)
+        (λ n _ t q on.
         move ! (1 ∷ []) $
         calls-outright ! (fmOf 𝓤 H (W .laws) 𝓣) (args n t) P.the-row (plain-pair W) (fact 𝓤 (Room-at n ws × Fits-at n ws)) (λ r us. r ≡ p n t) refl
         (factI 𝓤 _ (emp 𝓤) (lies-there n t)) (λ ks. known (bound (args n t) ks, tt)) (p n t) (tt, (tt, tt)) (λ r us e. (e, refl))
@@ -140,7 +144,8 @@ module _ {M : Type 1} (𝓤 : URA M) (H : Heap 𝓤) (A : Atoms 𝓤) (W : Given
 pub copy-in-spec : {M : Type 1} → stated.statement M
 unfolding code.routine tablesOf
 copy-in-spec 𝓤 H 𝓜 𝓖 𝓡 =
-    states-by 𝓤 H 𝓜 𝓖 𝓡 code.env f.ended kinds (f.clauses 𝓤 H (𝓖 .A) (𝓜 .mem) (𝓡 .run)) #records·copy-in code.function (code.unfolded 𝓤 H 𝓜 𝓡) (λ κs qs bounds a g are.
+    states-by 𝓤 H 𝓜 𝓖 𝓡 code.env f.ended kinds (f.clauses 𝓤 H (𝓖 .A) (𝓜 .mem) (𝓡 .run)) #records·copy-in code.function (code.unfolded 𝓤 H 𝓜 𝓡)
+    (λ κs qs bounds a g are.
     needs 𝓤 (Room-back (now (a .0)) (now (a .1 .0)) (a .1 .1 .0)) _ (λ asked.
     walk 𝓤 H (𝓖 .A) (givenOf 𝓤 H 𝓜 𝓖) (𝓜 .mem) (𝓡 .run) (tablesOf 𝓤 H 𝓜 (tables 𝓤 H 𝓜 𝓡 code.env))
     (cited 𝓤 H _ 𝓜 𝓡 code.env record-at-def.name record-at-def.routine code.calls-records·record-at (record-at-thm.met 𝓤 H 𝓜 𝓖 𝓡))

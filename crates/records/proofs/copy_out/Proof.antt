@@ -37,7 +37,8 @@ use Rattle.records.proofs.Plain.{Fits, typed-as, plain-word, plain-coun
 use Rattle.records.proofs.Rows.{Row, holds, lend-mut}
 use Rattle.records.proofs.Calls.{Arg, plain as by-value, loan, bound, calls-outright}
 use Rattle.records.proofs.Elements.{Fit-all, fit-at, knows-row}
-use Rattle.records.proofs.Frame.{Blocks, env, frees, frame-of, empty, fit, num, fit-slice, var, part-of, ptr-of, slice-again-as, sets, lands-in, clears, leaves}
+use Rattle.records.proofs.Frame.{Blocks, env, frees, frame-of, empty, fit, num, fit-slice, var, part-of, ptr-of, slice-again-as, sets, lands-in}
+use Rattle.records.proofs.Frame.{clears, leaves}
 use Rattle.records.proofs.Entry.{Par, plain, held, hold-shr, hold-mut, entry, passed, shut, begins, ends}
 use Rattle.records.proofs.Signs.{Kinds, shr-kind, mut-kind, count-kind, stays, states-by}
 use Rattle.records.proofs.Loop.{Turn, counts, adds-one}
@@ -59,7 +60,8 @@ kinds = (shr-kind 0 tt P.the-row, (mut-kind 1 tt u32, (count-kind, tt)))
 module _ {M : Type 1} (𝓤 : URA M) (H : Heap 𝓤) (A : Atoms 𝓤) (W : Given 𝓤 H A) (mem : Memory → SProp 𝓤) (run : Routine → Fun 𝓤) (𝓣 : Tables 𝓤 H)
     (known : Triple 𝓤 (𝓣 .C lay-def.name) (tripleOf 𝓤 H A lay.signature (lay.spec 𝓤 H A mem run)))
     (κs : Lfts 2) (qs : Shares 2) (list : RefT (List Pair)) (words : RefT (List ℕ)) (m : ℕ)
-    (room : Room P.the-row (length (list .now))) (room′ : Room u32 (length (words .now))) (m-fits : m < 2 ^ 64) (asked : Room-out (list .now) (words .now) m) where
+    (room : Room P.the-row (length (list .now))) (room′ : Room u32 (length (words .now))) (m-fits : m < 2 ^ 64)
+    (asked : Room-out (list .now) (words .now) m) where
   abbrev ps : List Pair
   ps = list .now
 
@@ -83,7 +85,8 @@ module _ {M : Type 1} (𝓤 : URA M) (H : Heap 𝓤) (A : Atoms 𝓤) (W : Given
 
     abbrev At : ℕ → List (Item 𝓤)
     At i = holds (pair-row W s (list .ptr .0) (list .ptr .1)) ps ∷ holds row (laid-out ps ws i) ∷ ‵ (shut pars (s, (tt, tt)))
-        ∷ (frame-of E (nothing-in ∷ some (sliceVal (list .ptr) (length ps)) ∷ some (sliceVal (words .ptr) (length ws)) ∷ some (vint w64 m) ∷ some (vint w64 i) ∷ [])
+        ∷ (frame-of E (nothing-in ∷ some (sliceVal (list .ptr) (length ps)) ∷ some (sliceVal (words .ptr) (length ws)) ∷ some (vint w64 m) ∷ some
+        (vint w64 i) ∷ [])
         ++ (‵ (frees E) ∷ []))
 
     module _ (n : ℕ) (t : Turn m n) where
@@ -112,7 +115,8 @@ module _ {M : Type 1} (𝓤 : URA M) (H : Heap 𝓤) (A : Atoms 𝓤) (W : Given
       n-fits = omega (arith, t .next-fits)
 
       abbrev args : List (Arg W)
-      args = loan (lend-mut row zs (room-as u32 length-zs room′)) ∷ by-value usize (plain-count W) n (refl, n-fits) ∷ by-value P.the-row (plain-pair W) p p-fits ∷ []
+      args = loan (lend-mut row zs (room-as u32 length-zs room′)) ∷ by-value usize (plain-count W) n (refl, n-fits) ∷ by-value P.the-row
+          (plain-pair W) p p-fits ∷ []
 
     ended : Sq W (At m) (runs (𝓣 .C) (𝓣 .Λ) E body.t-3 (atRet E Post-of))
     ended =
@@ -127,15 +131,18 @@ module _ {M : Type 1} (𝓤 : URA M) (H : Heap 𝓤) (A : Atoms 𝓤) (W : Given
     loop-on =
         counts ! m (asked .few) (λ _. Unit {0}) 𝓣 At (3 + 4) (3 + 3) (3 + 5) (λ n. (refl, refl)) (λ n. (empty, (tt, tt))) (λ n. refl) (λ n. refl) (λ n _ t q on.
         sets ! (3 + 7) empty (ptr-of ! (3 + 2) refl refl) (tt, tt) $
-        sets ! (3 + 8) empty (slice-again-as ! (3 + 7) (3 + 2) (length (zs n t)) (length-zs n t) refl refl refl) (fit-slice (room-as u32 (length-zs n t) room′ .0)) $
+        sets ! (3 + 8) empty (slice-again-as ! (3 + 7) (3 + 2) (length (zs n t)) (length-zs n t) refl refl refl)
+        (fit-slice (room-as u32 (length-zs n t) room′ .0)) $
         sets ! (3 + 9) empty (bin ! (var ! (3 + 4) refl) (lit ! tt) (fit (t .size-fits))) (num (t .size-fits)) $
         sets ! (3 + 10) empty (bin ! (part-of ! (3 + 1) 0 refl refl refl) (var ! (3 + 9) refl) tt) (tt, tt) $
         sets ! (3 + 11) empty (of-opd ! (record-of ! (3 + 10) 0 s (list .ptr .0) (list .ptr .1) n ps (in-list n t) refl refl))
         (typed-as (plain-pair W) (p n t) (p-fits n t)) $
         move ! (1 ∷ []) $
-        calls-outright ! (fmOf 𝓤 H (W .laws) 𝓣) (args n t) unit (plain-none W) (fact 𝓤 (Room-at n (zs n t))) (λ r us. us .0 ≡ laid-record (zs n t) n (p n t)) refl
+        calls-outright ! (fmOf 𝓤 H (W .laws) 𝓣) (args n t) unit (plain-none W) (fact 𝓤 (Room-at n (zs n t)))
+        (λ r us. us .0 ≡ laid-record (zs n t) n (p n t)) refl
         (factI 𝓤 _ (emp 𝓤) (has-place n t)) (λ ks. known (bound (args n t) ks, tt)) tt (laid-record (zs n t) n (p n t), (tt, (tt, tt)))
-        (λ r us e. (refl, λ i. (e i, (tt, (tt, tt))))) (and-then ! (var ! (3 + 8) refl) (and-then ! (var ! (3 + 4) refl) (and-then ! (var ! (3 + 11) refl) (no-more !)))) (λ _ _.
+        (λ r us e. (refl, λ i. (e i, (tt, (tt, tt))))) (and-then ! (var ! (3 + 8) refl)
+        (and-then ! (var ! (3 + 4) refl) (and-then ! (var ! (3 + 11) refl) (no-more !)))) (λ _ _.
         lands-in ! (3 + 6) empty (tt, tt) $ move ! (1 ∷ []) $
         adds-one ! (3 + 4) refl (t .next-fits) (num (t .next-fits)) $ clears ! E 3 5 _ refl $
         rewrite ! 1 (holds row) (laid-out-more ps ws n (in-list n t) (t .few) (long n t)) refl $
@@ -150,7 +157,8 @@ module _ {M : Type 1} (𝓤 : URA M) (H : Heap 𝓤) (A : Atoms 𝓤) (W : Given
 pub copy-out-spec : {M : Type 1} → stated.statement M
 unfolding code.routine tablesOf
 copy-out-spec 𝓤 H 𝓜 𝓖 𝓡 =
-    states-by 𝓤 H 𝓜 𝓖 𝓡 code.env f.ended kinds (f.clauses 𝓤 H (𝓖 .A) (𝓜 .mem) (𝓡 .run)) #records·copy-out code.function (code.unfolded 𝓤 H 𝓜 𝓡) (λ κs qs bounds a g are.
+    states-by 𝓤 H 𝓜 𝓖 𝓡 code.env f.ended kinds (f.clauses 𝓤 H (𝓖 .A) (𝓜 .mem) (𝓡 .run)) #records·copy-out code.function (code.unfolded 𝓤 H 𝓜 𝓡)
+    (λ κs qs bounds a g are.
     needs 𝓤 (Room-out (now (a .0)) (now (a .1 .0)) (a .1 .1 .0)) _ (λ asked.
     walk 𝓤 H (𝓖 .A) (givenOf 𝓤 H 𝓜 𝓖) (𝓜 .mem) (𝓡 .run) (tablesOf 𝓤 H 𝓜 (tables 𝓤 H 𝓜 𝓡 code.env))
     (cited 𝓤 H _ 𝓜 𝓡 code.env lay-def.name lay-def.routine code.calls-records·lay (lay-thm.met 𝓤 H 𝓜 𝓖 𝓡))
