@@ -14,7 +14,6 @@ use mathlib.Core.List.{List, [], _∷_, _++_, map, append-assoc}
 use lib.ListN.{length, getD, set, take, drop, length-append, length-drop, length-map, length-set, take-append-drop}
 use lib.Seq.{length-take-le, getD-take, getD-drop, take-suc, drop-cons, append-snoc, set-at, set-append-left, take-set-lt, drop-set-lt}
 use Rattle.theory.specs.Basics.{table}
-use Rattle.theory.specs.Lists as Lists
 use Rattle.theory.specs.Lists.{pair}
 use Rattle.theory.specs.Words.{word-pair, pairs-in, counts-of, laid-pairs, put-at}
 use Rattle.theory.proofs.Tables.{length-table, table-ext}
