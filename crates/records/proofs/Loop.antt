@@ -29,13 +29,14 @@ use Rattle.records.proofs.Records.{record-size}
 pub record Turn (m n : ℕ) : Type 0 where
   pub below : n < m
   pub few : n < 4096
+  pub fits : n < 2 ^ 64
   pub next-fits : suc n < 2 ^ 64
   pub size-fits : n * record-size < 2 ^ 64  -- where the record lies
 
 turn : (m n : ℕ) → m ≤ 4096 → T (ltb n m) → Turn m n
 turn m n most less =
     let l : n < m = ltb→lt n m less in
-    record { below = l; few = omega (arith, l, most); next-fits = omega (arith, l, most); size-fits = omega (arith, l, most) }
+    record { below = l; few = omega (arith, l, most); fits = omega (arith, l, most); next-fits = omega (arith, l, most); size-fits = omega (arith, l, most) }
 
 -- the turns from n on: what is known at n is `Kept n`
 module _ (m : ℕ) (Kept : ℕ → Type 0) where

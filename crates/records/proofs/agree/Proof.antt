@@ -3,7 +3,7 @@
 use mathlib.Core.Path.{_≡_, refl, sym, _∙_}
 use Prim.Native.Nat.{ℕ, suc, _+_, _<_, _^_}
 use native.Mathlib.Omega.{arith}
-use mathlib.Core.List.{List, [], _∷_, _++_}
+use mathlib.Core.List.{List, [], _∷_}
 use mathlib.Core.Option.{none as nothing-in, some}
 use lib.ListN.{length, getD, take}
 use lib.Dec.{ltb, lit<}
@@ -19,7 +19,7 @@ use ghost.Atoms.{Atoms}
 use contract.Lifetimes.{Lfts, Shares}
 use contract.Monad.{Fun, fact, factI}
 use contract.Running.{givenOf, tables, tablesOf}
-use types.Kit.{Given, Item, ‵, post, runs, atRet, Sq, _$_, !, by}
+use types.Kit.{Given, Item, post, runs, atRet, Sq, _$_, !, by}
 use types.Run.{look, lit, and-then, no-more, of-opd, bin}
 use sound.WpLaws.{FmC, fmOf}
 use denote.Builtin.{bool, u32, usize}
@@ -37,12 +37,11 @@ use Rattle.records.specs.declared.Pair.{Pair}
 use Rattle.records.specs.declared.Head.{Head}
 use Rattle.records.specs.declared.Seen.{Seen}
 use Rattle.records.proofs.Plain.{Fits, typed-as, plain-word, plain-count, plain-truth}
-use Rattle.records.proofs.Rows.{holds}
 use Rattle.records.proofs.Calls.{Arg, plain as by-value, bound, calls-outright}
 use Rattle.records.proofs.Elements.{Fit-all, fit-at, knows-row}
-use Rattle.records.proofs.Frame.{Blocks, env, frees, frame-of, empty, holds as full, fit, num, fit-slice, var, part-of, sets, lands-in, clears}
+use Rattle.records.proofs.Frame.{Blocks, env, empty, holds as full, fit, num, fit-slice, var, part-of, sets, lands-in, clears}
 use Rattle.records.proofs.Frame.{leaves}
-use Rattle.records.proofs.Entry.{Par, plain, held, hold-shr, entry, passed, shut, begins, ends}
+use Rattle.records.proofs.Entry.{Par, plain, held-shr, entry, passed, standing, begins, ends}
 use Rattle.records.proofs.Signs.{Kinds, record-kind, shr-kind, stays}
 use Rattle.records.proofs.Stated.{states}
 use Rattle.records.proofs.Loop.{Turn, counts, adds-one}
@@ -92,8 +91,7 @@ module _ {M : Type 1} (𝓤 : URA M) (H : Heap 𝓤) (A : Atoms 𝓤) (W : Given
   ps = list .now
 
   abbrev pars : List (Par W)
-  pars = plain N.the-row (plain-head W) h is-head
-      ∷ held (hold-shr W (κs .0) (qs .0) (list .name) P.the-row (plain-pair W) (list .ptr .0) (list .ptr .1) ps room) ∷ []
+  pars = plain N.the-row (plain-head W) h is-head ∷ held-shr W (κs .0) (qs .0) P.the-row (plain-pair W) list room ∷ []
 
   abbrev Post-of : Val → SProp 𝓤
   Post-of = walkOf 𝓤 H A f.ended (stays f.ended kinds) (f.clauses 𝓤 H A mem run) .post (entry pars, tt)
@@ -125,9 +123,9 @@ module _ {M : Type 1} (𝓤 : URA M) (H : Heap 𝓤) (A : Atoms 𝓤) (W : Given
     Kept i = Fits S.the-row (plain-seen W) (seen i)
 
     abbrev At : ℕ → List (Item 𝓤)
-    At i = holds (pair-row W s (list .ptr .0) (list .ptr .1)) ps ∷ ‵ (shut pars (s, tt))
-        ∷ (frame-of E (nothing-in ∷ some (plain-head W .val h) ∷ some (sliceVal (list .ptr) (length ps)) ∷ some (vint w32 (h .n))
-        ∷ some (plain-seen W .val (seen i)) ∷ some (vint w64 k) ∷ some (vint w64 i) ∷ some (vint w64 (length ps)) ∷ []) ++ (‵ (frees E) ∷ []))
+    At i = standing pars (s, tt) (tt, (tt, tt)) E
+        (nothing-in ∷ some (plain-head W .val h) ∷ some (sliceVal (list .ptr) (length ps)) ∷ some (vint w32 (h .n)) ∷ some (plain-seen W .val (seen i))
+        ∷ some (vint w64 k) ∷ some (vint w64 i) ∷ some (vint w64 (length ps)) ∷ [])
 
     module _ (n : ℕ) (t : Turn k n) where
       abbrev p : Pair
