@@ -39,7 +39,7 @@ record Good (n : ℕ) (s : Seen) (ps : List Pair) : Type 0 where
   before : s .ok ≡ true
   ends : all (ends-in-range n) (as-pairs ps) ≡ true
   first : all smaller-first (as-pairs ps) ≡ true
-  next : before-first (pair (s .a) (s .b)) (as-pairs ps) ≡ true
+  next : before-first (as-pair (s .last)) (as-pairs ps) ≡ true
   rises : rising (as-pairs ps) ≡ true
 
 scan-good : (n : ℕ) (s : Seen) (ps : List Pair) → scan n s ps .ok ≡ true → Good n s ps
@@ -78,7 +78,7 @@ weights-good [] = refl
 weights-good (p ∷ ps) = weights-good ps
 
 -- 0,0 stands before every record whose smaller number is first
-zero-before : (ps : List Pair) → all smaller-first (as-pairs ps) ≡ true → before-first (pair 0 0) (as-pairs ps) ≡ true
+zero-before : (ps : List Pair) → all smaller-first (as-pairs ps) ≡ true → before-first (as-pair blank) (as-pairs ps) ≡ true
 unfolding as-pairs as-pair all smaller-first before-first stands-before pair
 zero-before [] e = refl
 zero-before (p ∷ ps) e = let l : p .a < p .b = (simp tests at e) .0 in go (p .a) (p .b) l
