@@ -244,7 +244,7 @@ module _ (ps : List Pair) (ws : List ℕ) (m : ℕ) (r : Room-out ps ws m) where
 
   -- words read back are the records
   pub records-laid-out : records-in m (laid-out ps ws m) ≡ take m ps
-  unfolding records-in word-record
+  unfolding records-in
   records-laid-out =
       table-ext m (word-record (laid-out ps ws m)) (λ j. getD ps j blank) (λ j l. λ i. record {
         a = first-laid ps ws m (r .enough) (r .few) (some-long j l) j l i;
