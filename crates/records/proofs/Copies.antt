@@ -12,7 +12,7 @@ use mathlib.Core.Path.{_≡_, refl, sym, ap, _∙_, subst}
 use Prim.Native.Nat.{ℕ, zero, suc, _+_, _*_, _≤_, _<_}
 use native.Mathlib.Omega.{arith}
 use mathlib.Core.Bool.{true}
-use mathlib.Core.List.{List, [], _∷_, _++_, map, append-assoc}
+use mathlib.Core.List.{List, [], _∷_, _++_, map, map-append, append-assoc}
 use lib.ListN.{length, getD, set, take, drop, length-append, length-drop, length-map, length-set, take-append-drop}
 use lib.Seq.{length-take-le, getD-take, getD-drop, take-suc, drop-cons, append-snoc, set-at, set-append-left, take-set-lt, drop-set-lt}
 use Rattle.theory.specs.Basics.{table}
@@ -64,8 +64,7 @@ ends-of-more (q ∷ ps) p = ap {B = List ℕ} (λ (xs : List ℕ). q .a ∷ q .b
 
 weights-of-more : (ps : List Pair) (p : Pair) → weights-of (ps ++ (p ∷ [])) ≡ weights-of ps ++ (as-pair p .w ∷ [])
 unfolding weights-of
-weights-of-more [] p = refl
-weights-of-more (q ∷ ps) p = ap {B = List ℕ} (λ (xs : List ℕ). as-pair q .w ∷ xs) (weights-of-more ps p)
+weights-of-more ps p = map-append (λ q. as-pair q .w) ps (p ∷ [])
 
 -- the words of record j
 double-suc : (j : ℕ) → 2 * suc j ≡ suc (suc (2 * j))
@@ -221,29 +220,32 @@ table-map f g zero = refl
 table-map f g (suc m) = ap {B = List _} (λ r. g (f 0) ∷ r) (table-map (λ j. f (suc j)) g m)
 
 module _ (ps : List Pair) (ws : List ℕ) (m : ℕ) (r : Room-out ps ws m) where
-  some-long : (j : ℕ) → j < m → 12288 ≤ length ws
-  some-long j l = r .long (omega (arith, l))
+  module _ (j : ℕ) (l : j < m) where
+    there : 12288 ≤ length ws
+    there = r .long (omega (arith, l))
+
+    -- the record at place j
+    record-laid : word-record (laid-out ps ws m) j ≡ getD ps j blank
+    record-laid = λ i. record {
+      a = first-laid ps ws m (r .enough) (r .few) there j l i;
+      b = second-laid ps ws m (r .enough) (r .few) there j l i;
+    }
+
+    pair-laid : word-pair (laid-out ps ws m) (counts-of (laid-out ps ws m)) j ≡ as-pair (getD ps j blank)
+    unfolding word-pair as-pair pair
+    pair-laid = λ i. record { a = record-laid i .a; b = record-laid i .b; w = weight-laid ps ws m (r .enough) (r .few) there j l i }
 
   -- words stand for the pairs that the records stand for
   pub laid-out-pairs : laid-pairs m (laid-out ps ws m) ≡ as-pairs (take m ps)
-  unfolding laid-pairs pairs-in word-pair as-pairs as-pair pair
+  unfolding laid-pairs pairs-in as-pairs
   laid-out-pairs =
-      table-ext m (word-pair (laid-out ps ws m) (counts-of (laid-out ps ws m))) (λ j. as-pair (getD ps j blank)) (λ j l. λ i. record {
-        a = first-laid ps ws m (r .enough) (r .few) (some-long j l) j l i;
-        b = second-laid ps ws m (r .enough) (r .few) (some-long j l) j l i;
-        w = weight-laid ps ws m (r .enough) (r .few) (some-long j l) j l i;
-      })
-      ∙ table-map (λ j. getD ps j blank) as-pair m ∙ ap (map as-pair) (table-take blank ps m (r .enough))
+      table-ext m _ (λ j. as-pair (getD ps j blank)) pair-laid ∙ table-map (λ j. getD ps j blank) as-pair m
+      ∙ ap (map as-pair) (table-take blank ps m (r .enough))
 
   -- words read back are the records
   pub records-laid-out : records-in m (laid-out ps ws m) ≡ take m ps
   unfolding records-in
-  records-laid-out =
-      table-ext m (word-record (laid-out ps ws m)) (λ j. getD ps j blank) (λ j l. λ i. record {
-        a = first-laid ps ws m (r .enough) (r .few) (some-long j l) j l i;
-        b = second-laid ps ws m (r .enough) (r .few) (some-long j l) j l i;
-      })
-      ∙ table-take blank ps m (r .enough)
+  records-laid-out = table-ext m _ (λ j. getD ps j blank) record-laid ∙ table-take blank ps m (r .enough)
 
   -- records copied out and back are as they were
   pub put-back-laid-out : put-back ps (laid-out ps ws m) m ≡ ps
