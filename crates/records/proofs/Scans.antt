@@ -39,7 +39,7 @@ record Good (n : ℕ) (s : Seen) (ps : List Pair) : Type 0 where
   before : s .ok ≡ true
   ends : all (ends-in-range n) (as-pairs ps) ≡ true
   first : all smaller-first (as-pairs ps) ≡ true
-  next : before-first (pair (s .a) (s .b)) (as-pairs ps) ≡ true
+  next : before-first (as-pair (s .last)) (as-pairs ps) ≡ true
   rises : rising (as-pairs ps) ≡ true
 
 scan-good : (n : ℕ) (s : Seen) (ps : List Pair) → scan n s ps .ok ≡ true → Good n s ps
@@ -78,7 +78,7 @@ weights-good [] = refl
 weights-good (p ∷ ps) = weights-good ps
 
 -- 0,0 stands before every record whose smaller number is first
-zero-before : (ps : List Pair) → all smaller-first (as-pairs ps) ≡ true → before-first (pair 0 0) (as-pairs ps) ≡ true
+zero-before : (ps : List Pair) → all smaller-first (as-pairs ps) ≡ true → before-first (as-pair blank) (as-pairs ps) ≡ true
 unfolding as-pairs as-pair all smaller-first before-first stands-before pair
 zero-before [] e = refl
 zero-before (p ∷ ps) e = let l : p .a < p .b = (simp tests at e) .0 in go (p .a) (p .b) l
@@ -118,7 +118,7 @@ module _ (h : Head) (ps : List Pair) where
 
   -- what the scan says is whether head and list agree
   pub scan-agrees : scan (h .n) start (take (tested-of h (start .ok)) ps) .ok ≡ agrees h ps
-  unfolding begin-of tested-of scan
+  unfolding begin-of scan
   scan-agrees = same-test _ _ to from
     where
       by-fit : (t : Bool) → fits h (length ps) ≡ t → scan (h .n) start (take (cond t (h .m) 0) ps) .ok ≡ true → agrees h ps ≡ true
@@ -135,7 +135,7 @@ module _ (h : Head) (ps : List Pair) where
 
   -- no more records are tested than there are, and at most 4,096
   pub tested-le : (tested-of h (start .ok) ≤ length ps) × (tested-of h (start .ok) ≤ 4096)
-  unfolding begin-of tested-of
+  unfolding begin-of
   tested-le = by-fit (fits h (length ps)) refl
     where
       by-fit : (t : Bool) → fits h (length ps) ≡ t → (cond t (h .m) 0 ≤ length ps) × (cond t (h .m) 0 ≤ 4096)

@@ -60,7 +60,7 @@ unfoldable pub laid-out : List Pair → List ℕ → ℕ → List ℕ
 laid-out ps ws m = put-at 8192 (weights-of (take m ps)) (put-at 0 (ends-of (take m ps)) ws)
 
 -- the record that lies in words at place j
-unfoldable pub word-record : List ℕ → ℕ → Pair
+abbrev pub word-record : List ℕ → ℕ → Pair
 word-record ws j = record { a = getD ws (2 * j) 0; b = getD ws (2 * j + 1) 0 }
 
 -- the first m of them

@@ -69,8 +69,7 @@ pub fn copy_in(list: &mut [Pair], words: &[u32], m: usize)
 // What the test of the records keeps: whether all so far are good, and the last one.
 struct Seen {
     ok: bool,
-    a: u16,
-    b: u16,
+    last: Pair,
 }
 
 // What head and length show before the first record.
@@ -78,31 +77,28 @@ fn begin(head: Head, len: usize) -> Seen
     ensures { λ r. ⌜ r ≡ begin-of head len ⌝ }
 {
     let m = head.m as usize;
+    let none = Pair { a: 0, b: 0 };
     if head.n < 1 {
         return Seen {
             ok: false,
-            a: 0,
-            b: 0,
+            last: none,
         };
     }
     if 512 < head.n {
         return Seen {
             ok: false,
-            a: 0,
-            b: 0,
+            last: none,
         };
     }
     if 4096 < m {
         return Seen {
             ok: false,
-            a: 0,
-            b: 0,
+            last: none,
         };
     }
     Seen {
         ok: m <= len,
-        a: 0,
-        b: 0,
+        last: none,
     }
 }
 
@@ -121,37 +117,23 @@ fn step(n: u32, seen: Seen, p: Pair) -> Seen
     ensures { λ r. ⌜ r ≡ step-of n seen p ⌝ }
 {
     if !seen.ok {
-        return Seen {
-            ok: false,
-            a: p.a,
-            b: p.b,
-        };
+        return Seen { ok: false, last: p };
     }
     if n <= p.b as u32 {
-        return Seen {
-            ok: false,
-            a: p.a,
-            b: p.b,
-        };
+        return Seen { ok: false, last: p };
     }
     if p.b <= p.a {
-        return Seen {
-            ok: false,
-            a: p.a,
-            b: p.b,
-        };
+        return Seen { ok: false, last: p };
     }
-    if seen.a == p.a {
+    if seen.last.a == p.a {
         return Seen {
-            ok: seen.b < p.b,
-            a: p.a,
-            b: p.b,
+            ok: seen.last.b < p.b,
+            last: p,
         };
     }
     Seen {
-        ok: seen.a < p.a,
-        a: p.a,
-        b: p.b,
+        ok: seen.last.a < p.a,
+        last: p,
     }
 }
 

@@ -3,7 +3,7 @@
 use mathlib.Core.Path.{_≡_, refl, sym}
 use Prim.Native.Nat.{ℕ, _+_, _<_, _^_}
 use native.Mathlib.Omega.{arith}
-use mathlib.Core.List.{List, [], _∷_, _++_}
+use mathlib.Core.List.{List, [], _∷_}
 use mathlib.Core.Option.{none as nothing-in, some}
 use lib.ListN.{length}
 use lib.Dec.{ltb, lit<}
@@ -20,7 +20,7 @@ use ghost.Atoms.{Atoms}
 use contract.Lifetimes.{Lfts, Shares}
 use contract.Monad.{Fun, fact, factI}
 use contract.Running.{givenOf, tables, tablesOf}
-use types.Kit.{Given, Item, ‵, post, runs, atRet, Sq, _$_, !, by, move, rewrite}
+use types.Kit.{Given, Item, post, runs, atRet, Sq, _$_, !, by, move, rewrite}
 use types.Run.{look, store-raw, stop, hop, from, lit, unit-lit, of-opd, bin, assigns, and-then, no-more}
 use sound.WpLaws.{fmOf}
 use denote.Builtin.{u32, usize, unit}
@@ -37,8 +37,8 @@ use Rattle.records.proofs.Plain.{typed-as, plain-word, plain-count, pla
 use Rattle.records.proofs.Rows.{Row, holds, lend-shr}
 use Rattle.records.proofs.Calls.{Arg, plain as by-value, loan, bound, calls-outright}
 use Rattle.records.proofs.Elements.{store-at}
-use Rattle.records.proofs.Frame.{Blocks, env, frees, frame-of, empty, fit, num, fit-slice, var, part-of, sets, lands-in, clears, leaves}
-use Rattle.records.proofs.Entry.{Par, plain, held, hold-shr, hold-mut, entry, passed, shut, begins, ends}
+use Rattle.records.proofs.Frame.{Blocks, env, empty, fit, num, fit-slice, var, part-of, sets, lands-in, clears, leaves}
+use Rattle.records.proofs.Entry.{Par, plain, held-mut, held-shr, entry, passed, Lasts, Fit, standing, begins, ends}
 use Rattle.records.proofs.Signs.{Kinds, shr-kind, mut-kind, count-kind, stays, states-by}
 use Rattle.records.proofs.Loop.{Turn, counts, adds-one}
 use Rattle.records.proofs.Records.{plain-pair, pair-row, word-row}
@@ -68,25 +68,29 @@ module _ {M : Type 1} (𝓤 : URA M) (H : Heap 𝓤) (A : Atoms 𝓤) (W : Given
   ws = words .now
 
   abbrev pars : List (Par W)
-  pars = held (hold-mut W (κs .0) (qs .0) (list .name) P.the-row (plain-pair W) (list .ptr .0) (list .ptr .1) ps room)
-      ∷ held (hold-shr W (κs .1 .0) (qs .1 .0) (words .name) u32 (plain-word W) (words .ptr .0) (words .ptr .1) ws room′)
+  pars = held-mut W (κs .0) (qs .0) P.the-row (plain-pair W) list room ∷ held-shr W (κs .1 .0) (qs .1 .0) u32 (plain-word W) words room′
       ∷ plain usize (plain-count W) m (refl, m-fits) ∷ []
 
-  abbrev Post-of : Val → SProp 𝓤
-  Post-of = walkOf 𝓤 H A f.ended (stays f.ended kinds) (f.clauses 𝓤 H A mem run) .post (entry pars, tt)
+  -- the list after i records, and that it is as long
+  abbrev last : ℕ → Lasts pars
+  last i = (put-back ps ws i, (tt, (tt, tt)))
 
-  abbrev row : Row W
-  row = pair-row W fullShare (list .ptr .0) (list .ptr .1)
+  last-fits : Fit pars (last m)
+  last-fits = (length-put-back ps ws m (asked .room .enough), (tt, (tt, tt)))
+
+  abbrev Post : Val → SProp 𝓤
+  Post = walkOf 𝓤 H A f.ended (stays f.ended kinds) (f.clauses 𝓤 H A mem run) .post (entry pars, tt)
+
+  abbrev pairs : Row W
+  pairs = pair-row W fullShare (list .ptr .0) (list .ptr .1)
 
   module _ (s : Share) (bs : Blocks (code.function .locals)) where
     abbrev E : Env 𝓤 H
     E = env (code.function .locals) bs
 
     abbrev At : ℕ → List (Item 𝓤)
-    At i = holds row (put-back ps ws i) ∷ holds (word-row W s (words .ptr .0) (words .ptr .1)) ws ∷ ‵ (shut pars (tt, (s, tt)))
-        ∷ (frame-of E (nothing-in ∷ some (sliceVal (list .ptr) (length ps)) ∷ some (sliceVal (words .ptr) (length ws)) ∷ some (vint w64 m) ∷ some
-        (vint w64 i) ∷ [])
-        ++ (‵ (frees E) ∷ []))
+    At i = standing pars (tt, (s, tt)) (last i) E
+        (nothing-in ∷ some (sliceVal (list .ptr) (length ps)) ∷ some (sliceVal (words .ptr) (length ws)) ∷ some (vint w64 m) ∷ some (vint w64 i) ∷ [])
 
     module _ (n : ℕ) (t : Turn m n) where
       abbrev p : Pair
@@ -102,25 +106,17 @@ module _ {M : Type 1} (𝓤 : URA M) (H : Heap 𝓤) (A : Atoms 𝓤) (W : Given
       unfolding Fits-records
       lies-there = (record { few = t .few; long = asked .room .long (omega (arith, t .below)) }, asked .fits n (t .below))
 
-      n-fits : n < 2 ^ 64
-      n-fits = omega (arith, t .next-fits)
-
       abbrev args : List (Arg W)
-      args = loan (lend-shr (word-row W s (words .ptr .0) (words .ptr .1)) ws room′) ∷ by-value usize (plain-count W) n (refl, n-fits) ∷ []
+      args = loan (lend-shr (word-row W s (words .ptr .0) (words .ptr .1)) ws room′) ∷ by-value usize (plain-count W) n (refl, t .fits) ∷ []
 
-    abbrev length-end : length (put-back ps ws m) ≡ length ps
-    length-end = length-put-back ps ws m (asked .room .enough)
-
-    ended : Sq W (At m) (runs (𝓣 .C) (𝓣 .Λ) E body.t-3 (atRet E Post-of))
+    ended : Sq W (At m) (runs (𝓣 .C) (𝓣 .Λ) E body.t-3 (atRet E Post))
     ended =
         sets ! (3 + 0) empty (of-opd ! (unit-lit !)) (tt, tt) $ leaves ! 3 (λ j. ltb j 5) _ refl (look ! (3 + 0) refl) $
-        by ! (ends pars (tt, (s, tt)) (put-back ps ws m, (tt, (tt, tt))) (length-end, (tt, (tt, tt))) unit (plain-none W) tt refl
-        (fact 𝓤 (put-back ps ws m ≡ put-back ps ws m)) (factI 𝓤 _ _ refl)
-        (ends-at 𝓤 H A f.ended (stays f.ended kinds) (f.clauses 𝓤 H A mem run) W (entry pars, tt) vunit tt (put-back ps ws m, (tt, (tt, tt)))
-        (length-end, (tt, (tt, tt)))))
+        by ! (ends pars (tt, (s, tt)) (last m) last-fits unit (plain-none W) tt refl (fact 𝓤 (put-back ps ws m ≡ put-back ps ws m)) (factI 𝓤 _ _ refl)
+        (ends-at 𝓤 H A f.ended (stays f.ended kinds) (f.clauses 𝓤 H A mem run) W (entry pars, tt) vunit tt (last m) last-fits))
 
     -- from the loop on
-    loop-on : Sq W (At 0) (runs (𝓣 .C) (𝓣 .Λ) E body.t-2 (atRet E Post-of))
+    loop-on : Sq W (At 0) (runs (𝓣 .C) (𝓣 .Λ) E body.t-2 (atRet E Post))
     loop-on =
         counts ! m (asked .room .few) (λ _. Unit {0}) 𝓣 At (3 + 4) (3 + 3) (3 + 5) (λ n. (refl, refl)) (λ n. (empty, (tt, tt))) (λ n. refl) (λ n. refl)
         (λ n _ t q on.
@@ -132,13 +128,13 @@ module _ {M : Type 1} (𝓤 : URA M) (H : Heap 𝓤) (A : Atoms 𝓤) (W : Given
         sets ! (3 + 7) empty (bin ! (var ! (3 + 4) refl) (lit ! tt) (fit (t .size-fits))) (num (t .size-fits)) $
         sets ! (3 + 8) empty (bin ! (part-of ! (3 + 1) 0 refl refl refl) (var ! (3 + 7) refl) tt) (tt, tt) $
         assigns ! (of-opd ! (var ! (3 + 6) refl)) (from ! (hop ! (look ! (3 + 8) refl) (stop !)))
-        (store-at ! 0 row (put-back ps ws n) n blank (p n t) (in-row n t) good refl (λ _. store-raw ! 0 refl (typed-as (plain-pair W) (p n t) good))) $
+        (store-at ! 0 pairs (put-back ps ws n) n blank (p n t) (in-row n t) good refl (λ _. store-raw ! 0 refl (typed-as (plain-pair W) (p n t) good))) $
         adds-one ! (3 + 4) refl (t .next-fits) (num (t .next-fits)) $ clears ! E 3 5 _ refl $
-        rewrite ! 0 (holds row) (put-back-more ps ws n (in-list n t)) refl $ on tt)) tt ended
+        rewrite ! 0 (holds pairs) (put-back-more ps ws n (in-list n t)) refl $ on tt)) tt ended
 
-  walk : ent 𝓤 (onEntry 𝓤 H A f.signature κs qs (entry pars .3) (entry pars .4)) (WpFn 𝓤 H (𝓣 .C) (𝓣 .Λ) code.function (passed pars) Post-of)
-  walk = begins (𝓣 .C) (𝓣 .Λ) code.function Post-of pars (λ bs. (fit-slice (room .0), (fit-slice (room′ .0), (num m-fits, tt)))) (λ bs os.
-      sets ! (3 + 4) empty (of-opd ! (lit ! tt)) (num (lit< tt)) $ rewrite ! 0 (holds row) (sym (put-back-none ps ws)) refl $
+  walk : ent 𝓤 (onEntry 𝓤 H A f.signature κs qs (entry pars .3) (entry pars .4)) (WpFn 𝓤 H (𝓣 .C) (𝓣 .Λ) code.function (passed pars) Post)
+  walk = begins (𝓣 .C) (𝓣 .Λ) code.function Post pars (λ bs. (fit-slice (room .0), (fit-slice (room′ .0), (num m-fits, tt)))) (λ bs os.
+      sets ! (3 + 4) empty (of-opd ! (lit ! tt)) (num (lit< tt)) $ rewrite ! 0 (holds pairs) (sym (put-back-none ps ws)) refl $
       loop-on (os .1 .0) bs)
 
 pub copy-in-spec : {M : Type 1} → stated.statement M

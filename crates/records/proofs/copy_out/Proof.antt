@@ -3,7 +3,7 @@
 use mathlib.Core.Path.{_≡_, refl, sym}
 use Prim.Native.Nat.{ℕ, _+_, _≤_, _<_, _^_}
 use native.Mathlib.Omega.{arith}
-use mathlib.Core.List.{List, [], _∷_, _++_}
+use mathlib.Core.List.{List, [], _∷_}
 use mathlib.Core.Option.{none as nothing-in, some}
 use lib.ListN.{length, getD}
 use lib.Dec.{ltb, lit<}
@@ -20,7 +20,7 @@ use ghost.Atoms.{Atoms}
 use contract.Lifetimes.{Lfts, Shares}
 use contract.Monad.{Fun, fact, factI}
 use contract.Running.{givenOf, tables, tablesOf}
-use types.Kit.{Given, Item, ‵, post, runs, atRet, Sq, _$_, !, by, move, rewrite}
+use types.Kit.{Given, Item, post, runs, atRet, Sq, _$_, !, by, move, rewrite}
 use types.Run.{look, lit, unit-lit, of-opd, bin, and-then, no-more}
 use sound.WpLaws.{fmOf}
 use denote.Builtin.{u32, usize, unit}
@@ -37,9 +37,9 @@ use Rattle.records.proofs.Plain.{Fits, typed-as, plain-word, plain-coun
 use Rattle.records.proofs.Rows.{Row, holds, lend-mut}
 use Rattle.records.proofs.Calls.{Arg, plain as by-value, loan, bound, calls-outright}
 use Rattle.records.proofs.Elements.{Fit-all, fit-at, knows-row}
-use Rattle.records.proofs.Frame.{Blocks, env, frees, frame-of, empty, fit, num, fit-slice, var, part-of, ptr-of, slice-again-as, sets, lands-in}
+use Rattle.records.proofs.Frame.{Blocks, env, empty, fit, num, fit-slice, var, part-of, ptr-of, slice-again-as, sets, lands-in}
 use Rattle.records.proofs.Frame.{clears, leaves}
-use Rattle.records.proofs.Entry.{Par, plain, held, hold-shr, hold-mut, entry, passed, shut, begins, ends}
+use Rattle.records.proofs.Entry.{Par, plain, held-mut, held-shr, entry, passed, Lasts, Fit, standing, begins, ends}
 use Rattle.records.proofs.Signs.{Kinds, shr-kind, mut-kind, count-kind, stays, states-by}
 use Rattle.records.proofs.Loop.{Turn, counts, adds-one}
 use Rattle.records.proofs.Records.{plain-pair, pair-row, word-row, room-as, record-of}
@@ -69,25 +69,29 @@ module _ {M : Type 1} (𝓤 : URA M) (H : Heap 𝓤) (A : Atoms 𝓤) (W : Given
   ws = words .now
 
   abbrev pars : List (Par W)
-  pars = held (hold-shr W (κs .0) (qs .0) (list .name) P.the-row (plain-pair W) (list .ptr .0) (list .ptr .1) ps room)
-      ∷ held (hold-mut W (κs .1 .0) (qs .1 .0) (words .name) u32 (plain-word W) (words .ptr .0) (words .ptr .1) ws room′)
+  pars = held-shr W (κs .0) (qs .0) P.the-row (plain-pair W) list room ∷ held-mut W (κs .1 .0) (qs .1 .0) u32 (plain-word W) words room′
       ∷ plain usize (plain-count W) m (refl, m-fits) ∷ []
 
-  abbrev Post-of : Val → SProp 𝓤
-  Post-of = walkOf 𝓤 H A f.ended (stays f.ended kinds) (f.clauses 𝓤 H A mem run) .post (entry pars, tt)
+  -- the words after i records, and that they are as many
+  abbrev last : ℕ → Lasts pars
+  last i = (tt, (laid-out ps ws i, (tt, tt)))
 
-  abbrev row : Row W
-  row = word-row W fullShare (words .ptr .0) (words .ptr .1)
+  last-fits : Fit pars (last m)
+  last-fits = (tt, (length-laid-out ps ws m asked, (tt, tt)))
+
+  abbrev Post : Val → SProp 𝓤
+  Post = walkOf 𝓤 H A f.ended (stays f.ended kinds) (f.clauses 𝓤 H A mem run) .post (entry pars, tt)
+
+  abbrev buffer : Row W
+  buffer = word-row W fullShare (words .ptr .0) (words .ptr .1)
 
   module _ (s : Share) (bs : Blocks (code.function .locals)) (good : Fit-all P.the-row (plain-pair W) ps) where
     abbrev E : Env 𝓤 H
     E = env (code.function .locals) bs
 
     abbrev At : ℕ → List (Item 𝓤)
-    At i = holds (pair-row W s (list .ptr .0) (list .ptr .1)) ps ∷ holds row (laid-out ps ws i) ∷ ‵ (shut pars (s, (tt, tt)))
-        ∷ (frame-of E (nothing-in ∷ some (sliceVal (list .ptr) (length ps)) ∷ some (sliceVal (words .ptr) (length ws)) ∷ some (vint w64 m) ∷ some
-        (vint w64 i) ∷ [])
-        ++ (‵ (frees E) ∷ []))
+    At i = standing pars (s, (tt, tt)) (last i) E
+        (nothing-in ∷ some (sliceVal (list .ptr) (length ps)) ∷ some (sliceVal (words .ptr) (length ws)) ∷ some (vint w64 m) ∷ some (vint w64 i) ∷ [])
 
     module _ (n : ℕ) (t : Turn m n) where
       abbrev zs : List ℕ
@@ -111,23 +115,18 @@ module _ {M : Type 1} (𝓤 : URA M) (H : Heap 𝓤) (A : Atoms 𝓤) (W : Given
       has-place : Room-at n zs
       has-place = record { few = t .few; long = omega (arith, long, length-zs) }
 
-      n-fits : n < 2 ^ 64
-      n-fits = omega (arith, t .next-fits)
-
       abbrev args : List (Arg W)
-      args = loan (lend-mut row zs (room-as u32 length-zs room′)) ∷ by-value usize (plain-count W) n (refl, n-fits) ∷ by-value P.the-row
-          (plain-pair W) p p-fits ∷ []
+      args = loan (lend-mut buffer zs (room-as u32 length-zs room′)) ∷ by-value usize (plain-count W) n (refl, t .fits)
+          ∷ by-value P.the-row (plain-pair W) p p-fits ∷ []
 
-    ended : Sq W (At m) (runs (𝓣 .C) (𝓣 .Λ) E body.t-3 (atRet E Post-of))
+    ended : Sq W (At m) (runs (𝓣 .C) (𝓣 .Λ) E body.t-3 (atRet E Post))
     ended =
         sets ! (3 + 0) empty (of-opd ! (unit-lit !)) (tt, tt) $ leaves ! 3 (λ j. ltb j 5) _ refl (look ! (3 + 0) refl) $
-        by ! (ends pars (s, (tt, tt)) (tt, (laid-out ps ws m, (tt, tt))) (tt, (length-laid-out ps ws m asked, (tt, tt))) unit (plain-none W) tt refl
-        (fact 𝓤 (laid-out ps ws m ≡ laid-out ps ws m)) (factI 𝓤 _ _ refl)
-        (ends-at 𝓤 H A f.ended (stays f.ended kinds) (f.clauses 𝓤 H A mem run) W (entry pars, tt) vunit tt (tt, (laid-out ps ws m, (tt, tt)))
-        (tt, (length-laid-out ps ws m asked, (tt, tt)))))
+        by ! (ends pars (s, (tt, tt)) (last m) last-fits unit (plain-none W) tt refl (fact 𝓤 (laid-out ps ws m ≡ laid-out ps ws m)) (factI 𝓤 _ _ refl)
+        (ends-at 𝓤 H A f.ended (stays f.ended kinds) (f.clauses 𝓤 H A mem run) W (entry pars, tt) vunit tt (last m) last-fits))
 
     -- from the loop on
-    loop-on : Sq W (At 0) (runs (𝓣 .C) (𝓣 .Λ) E body.t-2 (atRet E Post-of))
+    loop-on : Sq W (At 0) (runs (𝓣 .C) (𝓣 .Λ) E body.t-2 (atRet E Post))
     loop-on =
         counts ! m (asked .few) (λ _. Unit {0}) 𝓣 At (3 + 4) (3 + 3) (3 + 5) (λ n. (refl, refl)) (λ n. (empty, (tt, tt))) (λ n. refl) (λ n. refl) (λ n _ t q on.
         sets ! (3 + 7) empty (ptr-of ! (3 + 2) refl refl) (tt, tt) $
@@ -139,19 +138,17 @@ module _ {M : Type 1} (𝓤 : URA M) (H : Heap 𝓤) (A : Atoms 𝓤) (W : Given
         (typed-as (plain-pair W) (p n t) (p-fits n t)) $
         move ! (1 ∷ []) $
         calls-outright ! (fmOf 𝓤 H (W .laws) 𝓣) (args n t) unit (plain-none W) (fact 𝓤 (Room-at n (zs n t)))
-        (λ r us. us .0 ≡ laid-record (zs n t) n (p n t)) refl
-        (factI 𝓤 _ (emp 𝓤) (has-place n t)) (λ ks. known (bound (args n t) ks, tt)) tt (laid-record (zs n t) n (p n t), (tt, (tt, tt)))
-        (λ r us e. (refl, λ i. (e i, (tt, (tt, tt))))) (and-then ! (var ! (3 + 8) refl)
-        (and-then ! (var ! (3 + 4) refl) (and-then ! (var ! (3 + 11) refl) (no-more !)))) (λ _ _.
+        (λ r us. us .0 ≡ laid-record (zs n t) n (p n t)) refl (factI 𝓤 _ (emp 𝓤) (has-place n t)) (λ ks. known (bound (args n t) ks, tt))
+        tt (laid-record (zs n t) n (p n t), (tt, (tt, tt))) (λ r us e. (refl, λ i. (e i, (tt, (tt, tt)))))
+        (and-then ! (var ! (3 + 8) refl) (and-then ! (var ! (3 + 4) refl) (and-then ! (var ! (3 + 11) refl) (no-more !)))) (λ _ _.
         lands-in ! (3 + 6) empty (tt, tt) $ move ! (1 ∷ []) $
         adds-one ! (3 + 4) refl (t .next-fits) (num (t .next-fits)) $ clears ! E 3 5 _ refl $
-        rewrite ! 1 (holds row) (laid-out-more ps ws n (in-list n t) (t .few) (long n t)) refl $
-        on tt)) tt ended
+        rewrite ! 1 (holds buffer) (laid-out-more ps ws n (in-list n t) (t .few) (long n t)) refl $ on tt)) tt ended
 
-  walk : ent 𝓤 (onEntry 𝓤 H A f.signature κs qs (entry pars .3) (entry pars .4)) (WpFn 𝓤 H (𝓣 .C) (𝓣 .Λ) code.function (passed pars) Post-of)
-  walk = begins (𝓣 .C) (𝓣 .Λ) code.function Post-of pars (λ bs. (fit-slice (room .0), (fit-slice (room′ .0), (num m-fits, tt)))) (λ bs os.
+  walk : ent 𝓤 (onEntry 𝓤 H A f.signature κs qs (entry pars .3) (entry pars .4)) (WpFn 𝓤 H (𝓣 .C) (𝓣 .Λ) code.function (passed pars) Post)
+  walk = begins (𝓣 .C) (𝓣 .Λ) code.function Post pars (λ bs. (fit-slice (room .0), (fit-slice (room′ .0), (num m-fits, tt)))) (λ bs os.
       knows-row ! 0 (pair-row W (os .0) (list .ptr .0) (list .ptr .1)) ps refl (λ good.
-      sets ! (3 + 4) empty (of-opd ! (lit ! tt)) (num (lit< tt)) $ rewrite ! 1 (holds row) (sym (laid-out-none ps ws)) refl $
+      sets ! (3 + 4) empty (of-opd ! (lit ! tt)) (num (lit< tt)) $ rewrite ! 1 (holds buffer) (sym (laid-out-none ps ws)) refl $
       loop-on (os .0) bs good))
 
 pub copy-out-spec : {M : Type 1} → stated.statement M

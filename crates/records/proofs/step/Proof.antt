@@ -7,6 +7,7 @@ use native.Mathlib.Omega.{arith}
 use lib.Dec.{ltb}
 use borrow.Author.Tests.{le-ltb, lt-ltb, eq-eqb, ne-eqb, not-true, not-false}
 use Rattle.theory.specs.Lists.{pair, stands-before}
+use Rattle.records.specs.Records.{as-pair}
 use Rattle.records.specs.Scan.{step-of}
 use Rattle.records.specs.declared.Pair.{Pair}
 use Rattle.records.specs.declared.Seen.{Seen}
@@ -17,7 +18,7 @@ use Rattle.records.proofs.step.Lts as lts
 
 module _ (n : ℕ) (s : Seen) (p : Pair) where
   abbrev now-seen : Bool → Seen
-  now-seen t = record { ok = t; a = p .a; b = p .b }
+  now-seen t = record { ok = t; last = p }
 
   failed-before : not (s .ok) ≡ true → now-seen false ≡ step-of n s p
   unfolding step-of
@@ -33,15 +34,16 @@ module _ (n : ℕ) (s : Seen) (p : Pair) where
     turned k l = simp (not-false (s .ok) ok, lt-ltb (p .b) n k, le-ltb (p .a) (p .b) l)
 
     module _ (k : p .b < n) (l : p .a < p .b) where
-      same-first : s .a ≡ p .a → now-seen (ltb (s .b) (p .b)) ≡ step-of n s p
-      unfolding step-of stands-before pair
+      same-first : s .last .a ≡ p .a → now-seen (ltb (s .last .b) (p .b)) ≡ step-of n s p
+      unfolding step-of stands-before as-pair pair
       same-first e =
-          simp (not-false (s .ok) ok, lt-ltb (p .b) n k, lt-ltb (p .a) (p .b) l, le-ltb (s .a) (p .a) (omega (arith, e)), eq-eqb (s .a) (p .a) e)
+          simp (not-false (s .ok) ok, lt-ltb (p .b) n k, lt-ltb (p .a) (p .b) l, le-ltb (s .last .a) (p .a) (omega (arith, e)), eq-eqb (s .last .a) (p .a) e)
 
-      other-first : (s .a ≡ p .a → ⊥) → now-seen (ltb (s .a) (p .a)) ≡ step-of n s p
-      unfolding step-of stands-before pair
+      other-first : (s .last .a ≡ p .a → ⊥) → now-seen (ltb (s .last .a) (p .a)) ≡ step-of n s p
+      unfolding step-of stands-before as-pair pair
       other-first e =
-          simp (not-false (s .ok) ok, lt-ltb (p .b) n k, lt-ltb (p .a) (p .b) l, ne-eqb (s .a) (p .a) e) (ap now-seen (or-false (ltb (s .a) (p .a))))
+          simp (not-false (s .ok) ok, lt-ltb (p .b) n k, lt-ltb (p .a) (p .b) l, ne-eqb (s .last .a) (p .a) e)
+          (ap now-seen (or-false (ltb (s .last .a) (p .a))))
         where
           or-false : (t : Bool) → t ≡ (t || false)
           or-false true = refl
