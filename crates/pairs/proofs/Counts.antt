@@ -37,10 +37,6 @@ before-heavier : (r : Pair) (w : ℕ) (q : Pair) → stands-before (heavier w q)
 unfolding stands-before heavier
 before-heavier r w q = refl
 
-or-same : (a b : Bool) → (a || b) ≡ (a || (a || b))
-or-same true b = refl
-or-same false b = refl
-
 -- that pair is held, and nothing else has changed
 pub raise-held : (r p : Pair) (ps : List Pair) → is-held r (raise-pair p ps) ≡ (same-ends r p || is-held r ps)
 unfolding raise-pair is-held
