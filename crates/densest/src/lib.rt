@@ -17,7 +17,6 @@ ghost use lib.ListN.{length, getD, drop};
 ghost use Rattle.theory.specs.Basics.{mark};
 ghost use Rattle.theory.specs.Groups.{is-in, inside, size};
 ghost use Rattle.theory.specs.Cores.{core-numbers};
-ghost use Rattle.theory.specs.Splits.{rounded-up};
 ghost use Rattle.theory.specs.Words.{list-in};
 ghost use Rattle.slots.specs.Slots.{Ends, Room};
 ghost use Rattle.theory.specs.Words.{Held-words as Held};
@@ -48,28 +47,6 @@ fn both(a: u8, b: u8) -> bool
     ensures { λ r. ⌜ r ≡ (eqb a 1 && eqb b 1) ⌝ }
 {
     if a == 1 { b == 1 } else { false }
-}
-
-// Whether two numbers are two others.
-fn same(a: u32, b: u32, c: u32, d: u32) -> bool
-    ensures { λ r. ⌜ r ≡ (eqb a c && eqb b d) ⌝ }
-{
-    if a == c { b == d } else { false }
-}
-
-// x or 0.
-fn pick(c: bool, x: u32) -> u32
-    ensures { λ r. ⌜ r ≡ cond c x 0 ⌝ }
-{
-    if c { x } else { 0 }
-}
-
-// p over q, rounded up.
-fn rounded_up(p: u32, q: u32) -> u32
-    requires { ⌜ (p ≤ 4096000) × (1 ≤ q) × (q ≤ 512) ⌝ }
-    ensures { λ r. ⌜ r ≡ rounded-up p q ⌝ }
-{
-    (p + q - 1) / q
 }
 
 // Whether a core number is k or more, as a byte.
@@ -135,7 +112,7 @@ fn inside_count(n: usize, m: usize, ends: &[u32], weights: &[u32], group: &[u8])
     let mut count = 0;
     let mut j = 0;
     while j < m {
-        count = count + pick(inner(n, m, j, ends, group), weights[j]);
+        count = count + numbers::pick(inner(n, m, j, ends, group), weights[j]);
         j = j + 1;
     }
     count
@@ -167,7 +144,7 @@ fn round(
     ensures { λ r. ⌜ Round n m p q (now (ends .entry)) (now (weights .entry)) (now (scope .exit)) (now (hold .exit)) (now (group .exit)) r ⌝ }
 {
     let own = [0u32; 512];
-    let k = rounded_up(p, q);
+    let k = numbers::rounded_up(p, q);
     mark_core(n, k, cores, scope);
     slots::spread(n, m, q, old, ends, weights, scope, hold);
     flow::flow(n, m, p, 64, &own, scope, ends, first, next, hold, group)
@@ -220,7 +197,7 @@ fn search(
         );
         let inside = inside_count(n, m, ends, weights, group);
         let size = group_size(n, group);
-        settled = same(inside, size, p, q);
+        settled = numbers::same(inside, size, p, q);
         old = q;
         p = inside;
         q = size;
@@ -355,16 +332,9 @@ fn write_shares(
         ≡ sheet-share q (now (ends .entry)) (now (weights .entry)) (now (scope .entry)) (now (place .entry)) (now (hold .entry)) j) ⌝ }
 {
     for j in 0..m {
-        let forced = pick(first_left(n, m, j, ends, place), weights[j] * q);
+        let forced = numbers::pick(first_left(n, m, j, ends, place), weights[j] * q);
         shares[j] = share(inner(n, m, j, ends, scope), hold[2 * j], forced);
     }
-}
-
-// 1 or 0.
-fn step(b: bool) -> usize
-    ensures { λ r. ⌜ r ≡ cond b 1 0 ⌝ }
-{
-    if b { 1 } else { 0 }
 }
 
 // The pairs with both ends in the scope, in order, at the front of `few` and `heavy`; how many they are. Every pair is written behind those kept so
@@ -388,7 +358,7 @@ fn gather(
         few[2 * i] = ends[2 * j];
         few[2 * i + 1] = ends[2 * j + 1];
         heavy[i] = weights[j];
-        i = i + step(inner(n, m, j, ends, scope));
+        i = i + numbers::step(inner(n, m, j, ends, scope));
     }
     i
 }
@@ -421,9 +391,9 @@ fn scatter(n: usize, m: usize, ends: &[u32], scope: &[u8], units: &[u32], hold: 
     let mut i = 0;
     for j in 0..m {
         let kept = inner(n, m, j, ends, scope);
-        hold[2 * j] = pick(kept, units[2 * i]);
-        hold[2 * j + 1] = pick(kept, units[2 * i + 1]);
-        i = i + step(kept);
+        hold[2 * j] = numbers::pick(kept, units[2 * i]);
+        hold[2 * j + 1] = numbers::pick(kept, units[2 * i + 1]);
+        i = i + numbers::step(kept);
     }
 }
 
@@ -452,7 +422,7 @@ fn find_in_core(
     let mut heavy = [0u32; 4096];
     let mut high = [0u32; 512];
     let mut units = [0u32; 8192];
-    let k = rounded_up(p, q);
+    let k = numbers::rounded_up(p, q);
     mark_core(n, k, cores, core);
     let r = gather(n, m, ends, weights, core, &mut few, &mut heavy);
     cut(n, k, cores, &mut high);
@@ -527,7 +497,7 @@ fn solve_in(
     Solution {
         p: best.p,
         q: best.q,
-        k: rounded_up(best.p, best.q),
+        k: numbers::rounded_up(best.p, best.q),
         core: group_size(n, scope),
     }
 }

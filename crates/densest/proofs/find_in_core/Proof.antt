@@ -62,8 +62,7 @@ core-is c =
 rounded-up-requires : tie.Need-rounded-up-requires
 rounded-up-requires c κs =
     let s = c .before .before .before .before .before .before .before in
-    let b = candidate-bounded (list-of s) (s .args .p) (s .args .q) (s .pre .0 .listed) (s .pre .1 .0) in
-    (b .few, b .some, b .small)
+    candidate-bounded (list-of s) (s .args .p) (s .args .q) (s .pre .0 .listed) (s .pre .1 .0) .some
 
 mark-core-requires : tie.Need-mark-core-requires
 unfolding list-in

@@ -17,8 +17,7 @@ use Rattle.densest.proofs.round.Tie as tie
 rounded-up-requires : tie.Need-rounded-up-requires
 rounded-up-requires c κs =
     let k = c .before .before .before .before .before .before .before .before .pre in
-    let b = candidate-bounded _ _ _ (k .0 .listed) (k .1 .0) in
-    (b .few, b .some, b .small)
+    candidate-bounded _ _ _ (k .0 .listed) (k .1 .0) .some
 
 mark-core-requires : tie.Need-mark-core-requires
 unfolding list-in

@@ -96,7 +96,7 @@ write-shares-requires c κs =
     )
 
 rounded-up-requires : tie.Need-rounded-up-requires
-rounded-up-requires c κs = let b = bounded (found (c .before .before)) in (b .few, b .some, b .small)
+rounded-up-requires c κs = bounded (found (c .before .before)) .some
 
 group-size-requires : tie.Need-group-size-requires
 group-size-requires c κs = let f = found (c .before .before .before .before) in (few (start f), scope-long f)

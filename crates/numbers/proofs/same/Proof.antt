@@ -1,7 +1,7 @@
--- `densest::same` meets its contract. Assumes nothing.
+-- `numbers::same` meets its contract. Assumes nothing.
 use borrow.Author.Tests.{eq-eqb, ne-eqb}
-use Rattle.densest.proofs.same.Statement.{statement}
-use Rattle.densest.proofs.same.Tie as tie
+use Rattle.numbers.proofs.same.Statement.{statement}
+use Rattle.numbers.proofs.same.Tie as tie
 
 returns : tie.Need-returns
 returns c = rw (eq-eqb (c .before .args .a) (c .before .args .c) (c .if1 .taken))
