@@ -31,7 +31,8 @@ use Rattle.slots.proofs.Choice.{eq-or-ne}
 use Rattle.slots.proofs.Totals.{total-ext, total-next, total-first, total-const, total-upto, total-pairs}
 use Rattle.flow.specs.Flow.{Sub}
 use Rattle.densest.specs.Inner.{inner-pairs, inner-list}
-use Rattle.densest.specs.Gather.{inner-at, rank, Gathered, Put-back, Scattered}
+use Rattle.groups.specs.Inner.{inner-at}
+use Rattle.densest.specs.Gather.{rank, Gathered, Put-back, Scattered}
 
 -- ---- ranks
 

@@ -3,7 +3,7 @@
 --   narrow-searched                                what it finds, with the units put back
 -- Assumes nothing.
 use mathlib.Core.Path.{_≡_, refl, sym, ap, _∙_}
-use mathlib.Core.Bool.{Bool, true, cond}
+use mathlib.Core.Bool.{true, cond}
 use mathlib.Core.List.{List}
 use Prim.Native.Nat.{ℕ, suc, _+_, _*_, _-_, _/_, _≤_, _<_}
 use native.Mathlib.Omega.{arith}
@@ -11,7 +11,7 @@ use native.Mathlib.Nat.{div-lt-iff-lt-mul, mul-le-mul-right, le-of-mul-le-mul-ri
 use lib.Dec.{leb}
 use lib.ListN.{length, getD}
 use Rattle.theory.specs.Lists.{Pairs}
-use Rattle.theory.specs.Groups.{is-group, inside, Found}
+use Rattle.theory.specs.Groups.{inside, Found}
 use Rattle.theory.specs.Cores.{core, core-number}
 use Rattle.theory.specs.Splits.{rounded-up}
 use Rattle.theory.specs.Words.{list-in}
@@ -29,7 +29,6 @@ use Rattle.densest.proofs.Units.{split-room}
 use Rattle.densest.proofs.InnerPairs.{inner-is-list}
 use Rattle.densest.proofs.InnerCores.{core-sub, inner-core, inner-core-number, found-ratio, inner-dense, inner-found, inner-found-inside}
 use Rattle.densest.proofs.Gathering.{gathered-held, scattered-held, scattered-split}
-use Rattle.densest.proofs.Solving.{searched-bounded}
 
 -- a number over q rounded up, q times, is no less
 le-round : (p q : ℕ) → 0 < q → p ≤ rounded-up p q * q

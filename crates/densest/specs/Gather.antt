@@ -1,22 +1,17 @@
 -- The pairs inside a scope, gathered in words of their own, and their units put back.
---   inner-at     whether both ends of pair j are in the scope
 --   rank         how many pairs before pair j are (its number among the pairs gathered)
 --   Gathered     words that have the pairs inside the scope
 --   Put-back, Scattered    slots of all pairs that have the units of the pairs gathered
 -- Assumes nothing: these are definitions.
 use mathlib.Core.Path.{_≡_}
-use mathlib.Core.Bool.{Bool, true, _&&_, cond}
+use mathlib.Core.Bool.{true, cond}
 use mathlib.Core.List.{List}
 use Prim.Native.Nat.{ℕ, _+_, _*_, _≤_, _<_}
 use lib.ListN.{length, getD}
-use Rattle.theory.specs.Groups.{is-in}
 use Rattle.theory.specs.Words.{word-pair, list-in}
 use Rattle.slots.specs.Slots.{total}
+use Rattle.groups.specs.Inner.{inner-at}
 use Rattle.densest.specs.Inner.{inner-list}
-
--- whether both ends of pair j are in the scope
-abbrev pub inner-at : (ends scope : List ℕ) → (j : ℕ) → Bool
-inner-at ends scope j = is-in scope (getD ends (2 * j) 0) && is-in scope (getD ends (2 * j + 1) 0)
 
 -- how many of the first j pairs have both ends in the scope
 unfoldable pub rank : (ends scope : List ℕ) → (j : ℕ) → ℕ

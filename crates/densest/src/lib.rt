@@ -9,13 +9,12 @@
 // subgraph.)
 // Cost: peeling, and a few rounds over the core's pairs; ratios rise from round to round, so the rounds end. Nothing is refused, and 15 never comes.
 ghost use mathlib.Core.Path.{_≡_};
-ghost use mathlib.Core.Bool.{true, _&&_, cond};
+ghost use mathlib.Core.Bool.{true, cond};
 ghost use mathlib.Core.List.{_++_};
 ghost use Prim.Native.Nat.{ℕ, _+_, _*_, _≤_, _<_};
-ghost use lib.Dec.{leb, ltb, eqb};
+ghost use lib.Dec.{leb, ltb};
 ghost use lib.ListN.{length, getD, drop};
-ghost use Rattle.theory.specs.Basics.{mark};
-ghost use Rattle.theory.specs.Groups.{is-in, inside, size};
+ghost use Rattle.theory.specs.Groups.{inside, size};
 ghost use Rattle.theory.specs.Cores.{core-numbers};
 ghost use Rattle.theory.specs.Words.{list-in};
 ghost use Rattle.slots.specs.Slots.{Ends, Room};
@@ -42,56 +41,6 @@ struct Ratio {
 // An entry of the load sheet.
 type Share = u32;
 
-// Whether two bytes are member bytes.
-fn both(a: u8, b: u8) -> bool
-    ensures { λ r. ⌜ r ≡ (eqb a 1 && eqb b 1) ⌝ }
-{
-    if a == 1 { b == 1 } else { false }
-}
-
-// Whether a core number is k or more, as a byte.
-fn core_byte(k: u32, number: u32) -> u8
-    ensures { λ r. ⌜ r ≡ mark (leb k number) ⌝ }
-{
-    if k <= number { 1 } else { 0 }
-}
-
-// The core of order k.
-fn mark_core(n: usize, k: u32, cores: &[u32], scope: &mut [u8])
-    requires { ⌜ n ≤ length (now cores) ⌝ }
-    requires { ⌜ n ≤ length (now scope) ⌝ }
-    ensures { λ r. ⌜ ((v : ℕ) → v < n → getD (now (scope .exit)) v 0 ≡ mark (leb k (getD (now (cores .entry)) v 0))) ⌝ }
-{
-    for v in 0..n {
-        scope[v] = core_byte(k, cores[v]);
-    }
-}
-
-// The number of modules in a group.
-fn group_size(n: usize, group: &[u8]) -> u32
-    requires { ⌜ (n ≤ 512) × (length (now group) ≡ n) ⌝ }
-    ensures { λ r. ⌜ r ≡ size (now (group .entry)) ⌝ }
-{
-    let mut count = 0;
-    let mut v = 0;
-    while v < n {
-        count = count + (group[v] as u32);
-        v = v + 1;
-    }
-    count
-}
-
-// Whether both ends of pair j are in a group.
-fn inner(n: usize, m: usize, j: usize, ends: &[u32], group: &[u8]) -> bool
-    requires { ⌜ Ends n m (now ends) ⌝ }
-    requires { ⌜ (j < m) × (length (now group) ≡ n) ⌝ }
-    ensures { λ r. ⌜ r ≡ (is-in (now (group .entry)) (getD (now (ends .entry)) (2 * j) 0) && is-in (now (group .entry)) (getD (now (ends .entry)) (2 * j + 1) 0)) ⌝ }
-{
-    let a = slots::wide(ends[2 * j]);
-    let b = slots::wide(ends[2 * j + 1]);
-    both(group[a], group[b])
-}
-
 // Whether the first end of pair j left before the second.
 fn first_left(n: usize, m: usize, j: usize, ends: &[u32], place: &[u32]) -> bool
     requires { ⌜ Ends n m (now ends) ⌝ }
@@ -101,21 +50,6 @@ fn first_left(n: usize, m: usize, j: usize, ends: &[u32], place: &[u32]) -> bool
     let a = slots::wide(ends[2 * j]);
     let b = slots::wide(ends[2 * j + 1]);
     place[a] < place[b]
-}
-
-// The inside count of a group.
-fn inside_count(n: usize, m: usize, ends: &[u32], weights: &[u32], group: &[u8]) -> u32
-    requires { ⌜ Held n m (now ends) (now weights) ⌝ }
-    requires { ⌜ length (now group) ≡ n ⌝ }
-    ensures { λ r. ⌜ r ≡ inside (list-in n m (now (ends .entry)) (now (weights .entry))) (now (group .entry)) ⌝ }
-{
-    let mut count = 0;
-    let mut j = 0;
-    while j < m {
-        count = count + numbers::pick(inner(n, m, j, ends, group), weights[j]);
-        j = j + 1;
-    }
-    count
 }
 
 // One round: a split at share size q inside the core of p over q rounded up, near the one that hold has at share size `old`, and what `flow`
@@ -145,7 +79,7 @@ fn round(
 {
     let own = [0u32; 512];
     let k = numbers::rounded_up(p, q);
-    mark_core(n, k, cores, scope);
+    groups::mark_at_least(n, k, cores, scope);
     slots::spread(n, m, q, old, ends, weights, scope, hold);
     flow::flow(n, m, p, 64, &own, scope, ends, first, next, hold, group)
 }
@@ -195,8 +129,8 @@ fn search(
             hold,
             group,
         );
-        let inside = inside_count(n, m, ends, weights, group);
-        let size = group_size(n, group);
+        let inside = groups::inside_count(n, m, ends, weights, group);
+        let size = groups::group_size(n, group);
         settled = numbers::same(inside, size, p, q);
         old = q;
         p = inside;
@@ -333,7 +267,7 @@ fn write_shares(
 {
     for j in 0..m {
         let forced = numbers::pick(first_left(n, m, j, ends, place), weights[j] * q);
-        shares[j] = share(inner(n, m, j, ends, scope), hold[2 * j], forced);
+        shares[j] = share(groups::inner(n, m, j, ends, scope), hold[2 * j], forced);
     }
 }
 
@@ -358,16 +292,9 @@ fn gather(
         few[2 * i] = ends[2 * j];
         few[2 * i + 1] = ends[2 * j + 1];
         heavy[i] = weights[j];
-        i = i + numbers::step(inner(n, m, j, ends, scope));
+        i = i + numbers::step(groups::inner(n, m, j, ends, scope));
     }
     i
-}
-
-// A core number that is k or more, else 0.
-fn at_least(k: u32, number: u32) -> u32
-    ensures { λ r. ⌜ r ≡ cond (leb k number) number 0 ⌝ }
-{
-    if k <= number { number } else { 0 }
 }
 
 // The core numbers that are k or more, and 0 for the others.
@@ -377,7 +304,8 @@ fn cut(n: usize, k: u32, cores: &[u32], high: &mut [u32])
     ensures { λ r. ⌜ ((v : ℕ) → v < n → getD (now (high .exit)) v 0 ≡ cond (leb k (getD (now (cores .entry)) v 0)) (getD (now (cores .entry)) v 0) 0) ⌝ }
 {
     for v in 0..n {
-        high[v] = at_least(k, cores[v]);
+        let number = cores[v];
+        high[v] = numbers::pick(k <= number, number);
     }
 }
 
@@ -390,7 +318,7 @@ fn scatter(n: usize, m: usize, ends: &[u32], scope: &[u8], units: &[u32], hold: 
 {
     let mut i = 0;
     for j in 0..m {
-        let kept = inner(n, m, j, ends, scope);
+        let kept = groups::inner(n, m, j, ends, scope);
         hold[2 * j] = numbers::pick(kept, units[2 * i]);
         hold[2 * j + 1] = numbers::pick(kept, units[2 * i + 1]);
         i = i + numbers::step(kept);
@@ -423,7 +351,7 @@ fn find_in_core(
     let mut high = [0u32; 512];
     let mut units = [0u32; 8192];
     let k = numbers::rounded_up(p, q);
-    mark_core(n, k, cores, core);
+    groups::mark_at_least(n, k, cores, core);
     let r = gather(n, m, ends, weights, core, &mut few, &mut heavy);
     cut(n, k, cores, &mut high);
     let best = find(n, r, p, q, &few, &heavy, &high, scope, &mut units, group);
@@ -498,7 +426,7 @@ fn solve_in(
         p: best.p,
         q: best.q,
         k: numbers::rounded_up(best.p, best.q),
-        core: group_size(n, scope),
+        core: groups::group_size(n, scope),
     }
 }
 

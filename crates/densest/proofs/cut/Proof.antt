@@ -19,14 +19,14 @@ abbrev μ-loop : tie.MeasureT-loop
 loop-holds : tie.Need-loop-holds Inv-loop μ-loop
 loop-holds c = (omega arith, refl, λ i h. absurd (omega arith))
 
-mul-at-least : tie.Need-mul-at-least Inv-loop μ-loop
-mul-at-least c = omega arith
+mul-number : tie.Need-mul-number Inv-loop μ-loop
+mul-number c = omega arith
 
-shared-slice-read-at-least : tie.Need-shared-slice-read-at-least Inv-loop μ-loop
-shared-slice-read-at-least c = omega arith
+shared-slice-read-number : tie.Need-shared-slice-read-number Inv-loop μ-loop
+shared-slice-read-number c = omega arith
 
-at-least-requires : tie.Need-at-least-requires Inv-loop μ-loop
-at-least-requires c κs = tt
+pick-requires : tie.Need-pick-requires Inv-loop μ-loop
+pick-requires c κs = tt
 
 mul-high : tie.Need-mul-high Inv-loop μ-loop
 mul-high c = omega arith
@@ -46,8 +46,8 @@ loop-again c =
     let l = c .before .before .before .loop in (
       omega arith,
       simp length-set (l .inv .1),
-      stored-more (λ i x. x ≡ cond (leb (a .k) (getD (a .cores .now) i 0)) (getD (a .cores .now) i 0) 0) (l .high) (l .v) (c .at-least .result)
-          (omega arith) (l .inv .2) (c .at-least .ensures),
+      stored-more (λ i x. x ≡ cond (leb (a .k) (getD (a .cores .now) i 0)) (getD (a .cores .now) i 0) 0) (l .high) (l .v) (c .pick .result)
+          (omega arith) (l .inv .2) (c .pick .ensures),
     )
 
 same-length : tie.Need-same-length Inv-loop μ-loop
@@ -63,9 +63,9 @@ cut-spec =
     Inv-loop
     μ-loop
     loop-holds
-    mul-at-least
-    shared-slice-read-at-least
-    at-least-requires
+    mul-number
+    shared-slice-read-number
+    pick-requires
     mul-high
     slice-write-high
     add-v

@@ -1,7 +1,7 @@
 -- `densest::find_in_core` meets its contract. Assumes nothing.
 use native.Mathlib.Omega.{arith}
 use mathlib.Core.Path.{_≡_, _∙_, ap}
-use Prim.Native.Nat.{_*_, _≤_}
+use Prim.Native.Nat.{_≤_}
 use lib.ListN.{length}
 use Rattle.theory.specs.Lists.{Pairs}
 use Rattle.theory.specs.Cores.{core}
@@ -22,10 +22,10 @@ use Rattle.densest.proofs.find_in_core.Tie as tie
 abbrev begin : tie.After-rounded-up → tie.Start
 begin c = c .before .before .before .before .before .before .before .before
 
-abbrev rounded : tie.After-mark-core → tie.After-rounded-up
+abbrev rounded : tie.After-mark-at-least → tie.After-rounded-up
 rounded c = c .before .before
 
-abbrev marked : tie.After-gather → tie.After-mark-core
+abbrev marked : tie.After-gather → tie.After-mark-at-least
 marked c = c .before .before .before .before .before .before
 
 abbrev gathered : tie.After-cut → tie.After-gather
@@ -48,15 +48,15 @@ few s = listed (list-of s) (s .pre .0 .listed) .few
 short : (s : tie.Start) → s .args .m ≤ 4096
 short s = few-pairs (s .args .n) (s .args .m) (s .args .ends .now) (s .args .weights .now) (s .pre .0 .listed)
 
-core-long : (c : tie.After-mark-core) → length (c .mark-core .last .1 .1 .1 .0) ≡ begin (rounded c) .args .n
-core-long c = c .mark-core .kept .1 .1 .1 .0 ∙ begin (rounded c) .pre .1 .1 .1 .0 .0
+core-long : (c : tie.After-mark-at-least) → length (c .mark-at-least .last .1 .1 .1 .0) ≡ begin (rounded c) .args .n
+core-long c = c .mark-at-least .kept .1 .1 .1 .0 ∙ begin (rounded c) .pre .1 .1 .1 .0 .0
 
-core-is : (c : tie.After-mark-core) →
-    c .mark-core .last .1 .1 .1 .0 ≡ core (list-of (begin (rounded c))) (rounded-up (begin (rounded c) .args .p) (begin (rounded c) .args .q))
+core-is : (c : tie.After-mark-at-least) →
+    c .mark-at-least .last .1 .1 .1 .0 ≡ core (list-of (begin (rounded c))) (rounded-up (begin (rounded c) .args .p) (begin (rounded c) .args .q))
 unfolding list-in
 core-is c =
     let s = begin (rounded c) in
-    core-marked (list-of s) _ (s .args .cores .now) (c .mark-core .last .1 .1 .1 .0) (s .pre .0 .listed) (s .pre .1 .1 .0) (core-long c) (c .mark-core .ensures)
+    core-marked (list-of s) _ (s .args .cores .now) (c .mark-at-least .last .1 .1 .1 .0) (s .pre .0 .listed) (s .pre .1 .1 .0) (core-long c) (c .mark-at-least .ensures)
     ∙ ap (core (list-of s)) (rounded c .rounded-up .ensures)
 
 rounded-up-requires : tie.Need-rounded-up-requires
@@ -64,9 +64,9 @@ rounded-up-requires c κs =
     let s = c .before .before .before .before .before .before .before in
     candidate-bounded (list-of s) (s .args .p) (s .args .q) (s .pre .0 .listed) (s .pre .1 .0) .some
 
-mark-core-requires : tie.Need-mark-core-requires
+mark-at-least-requires : tie.Need-mark-at-least-requires
 unfolding list-in
-mark-core-requires c κs = let q = begin (c .before) .pre in (q .1 .1 .0 .long, omega (arith, q .1 .1 .1 .0 .0))
+mark-at-least-requires c κs = let q = begin (c .before) .pre in (q .1 .1 .0 .long, omega (arith, q .1 .1 .1 .0 .0))
 
 slice-aggregate-gather : tie.Need-slice-aggregate-gather
 slice-aggregate-gather c = search needs
@@ -133,7 +133,7 @@ scatter-requires c κs =
     )
 
 same-length : tie.Need-same-length
-same-length c = marked (gathered (cut (c .before .before .before .before .before .before .before .before .before .before .before))) .mark-core .kept .1 .1 .1 .0
+same-length c = marked (gathered (cut (c .before .before .before .before .before .before .before .before .before .before .before))) .mark-at-least .kept .1 .1 .1 .0
 
 same-length-2 : tie.Need-same-length-2
 same-length-2 c = search needs
@@ -158,7 +158,7 @@ find-in-core-spec =
     tie.close
     (tie.spec
     rounded-up-requires
-    mark-core-requires
+    mark-at-least-requires
     slice-aggregate-gather
     slice-aggregate-gather-2
     gather-requires

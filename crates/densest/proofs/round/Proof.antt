@@ -19,9 +19,9 @@ rounded-up-requires c κs =
     let k = c .before .before .before .before .before .before .before .before .pre in
     candidate-bounded _ _ _ (k .0 .listed) (k .1 .0) .some
 
-mark-core-requires : tie.Need-mark-core-requires
+mark-at-least-requires : tie.Need-mark-at-least-requires
 unfolding list-in
-mark-core-requires c κs = let k = c .before .before .before .before .before .before .before .before .before .before .pre in (k .1 .1 .0 .long, omega arith)
+mark-at-least-requires c κs = let k = c .before .before .before .before .before .before .before .before .before .before .pre in (k .1 .1 .0 .long, omega arith)
 
 spread-requires : tie.Need-spread-requires
 spread-requires c κs =
@@ -29,7 +29,7 @@ spread-requires c κs =
       list-ends _ _ _ _ (k .0 .listed) (k .0 .ends-long),
       (
         list-weights _ _ _ _ (k .0 .listed) (k .0 .weights-long),
-        (c .before .before .before .before .mark-core .kept .1 .1 .1 .0 ∙ k .1 .1 .1 .1 .0 .0, (candidate-bounded _ _ _ (k .0 .listed) (k .1 .0) .small, k .1 .1 .1 .1 .1)),
+        (c .before .before .before .before .mark-at-least .kept .1 .1 .1 .0 ∙ k .1 .1 .1 .1 .0 .0, (candidate-bounded _ _ _ (k .0 .listed) (k .1 .0) .small, k .1 .1 .1 .1 .1)),
       ),
     )
 
@@ -52,7 +52,7 @@ flow-requires c κs =
                 (list-weights _ _ _ _ (k .0 .listed) (k .0 .weights-long)),
             (
               (k .1 .1 .1 .0 .first-long, k .1 .1 .1 .0 .next-long),
-              (c .before .before .before .before .before .before .before .before .before .before .before .mark-core .kept .1 .1 .1 .0 ∙ k .1 .1 .1 .1 .0 .0, k .1 .1 .1 .1 .0 .1),
+              (c .before .before .before .before .before .before .before .before .before .before .before .mark-at-least .kept .1 .1 .1 .0 ∙ k .1 .1 .1 .1 .0 .0, k .1 .1 .1 .1 .0 .1),
             ),
           ),
         ),
@@ -74,9 +74,9 @@ returns c =
     let k = c .before .before .before .before .before .before .before .before .before .before .before .before .before .before .before .before .before .before .before .before .before .before .before .before .before .before .before .pre in
     let a = c .before .before .before .before .before .before .before .before .before .before .before .before .before .before .before .before .before .before .before .before .before .before .before .before .before .before .before .args in
     let g = list-in (a .n) (a .m) (a .ends .now) (a .weights .now) in
-    let scope = c .before .before .before .before .before .before .before .before .before .before .before .before .before .before .before .before .mark-core .last .1 .1 .1 .0 in
+    let scope = c .before .before .before .before .before .before .before .before .before .before .before .before .before .before .before .before .mark-at-least .last .1 .1 .1 .0 in
     let is-core : scope ≡ core g (c .before .before .before .before .before .before .before .before .before .before .before .before .before .before .before .before .before .before .rounded-up .result) =
-    core-marked g _ (a .cores .now) scope (k .0 .listed) (k .1 .1 .0) (c .before .before .before .before .before .before .before .before .before .before .before .before .before .before .before .before .mark-core .kept .1 .1 .1 .0 ∙ k .1 .1 .1 .1 .0 .0) (c .before .before .before .before .before .before .before .before .before .before .before .before .before .before .before .before .mark-core .ensures) in
+    core-marked g _ (a .cores .now) scope (k .0 .listed) (k .1 .1 .0) (c .before .before .before .before .before .before .before .before .before .before .before .before .before .before .before .before .mark-at-least .kept .1 .1 .1 .0 ∙ k .1 .1 .1 .1 .0 .0) (c .before .before .before .before .before .before .before .before .before .before .before .before .before .before .before .before .mark-at-least .ensures) in
     round-of _ _ _ _ _ _ (k .0) (k .1 .0) 512 scope _ _ _ _ (is-core ∙ ap (core g) (c .before .before .before .before .before .before .before .before .before .before .before .before .before .before .before .before .before .before .rounded-up .ensures)) (c .before .before .before .before .before .before .before .before .before .before .before .spread .ensures) (c .before .before .before .before .flow .ensures)
 
 pub round-spec : {M : Type 1} → statement M
@@ -84,7 +84,7 @@ round-spec =
     tie.close
     (tie.spec
     rounded-up-requires
-    mark-core-requires
+    mark-at-least-requires
     spread-requires
     slice-aggregate-flow
     flow-requires

@@ -1,7 +1,7 @@
 -- `densest::solve_in` meets its contract. Assumes nothing.
 use native.Mathlib.Omega.{arith}
 use mathlib.Core.Path.{_≡_, refl, sym, _∙_}
-use Prim.Native.Nat.{_*_, _≤_}
+use Prim.Native.Nat.{_≤_}
 use lib.ListN.{length}
 use Rattle.theory.specs.Lists.{Pairs}
 use Rattle.theory.specs.Words.{list-in}

@@ -1,6 +1,6 @@
 -- `numbers::rounded_up` meets its contract: where p is not 0, (p + q - 1) / q is (p - 1) / q and 1. Assumes nothing.
 use mathlib.Core.Path.{_≡_, sym, ap, _∙_}
-use Prim.Native.Nat.{ℕ, _+_, _-_, _/_, _≤_, _<_}
+use Prim.Native.Nat.{ℕ, _+_, _-_, _/_, _≤_}
 use native.Mathlib.Nat.{div-eq-of-lt, div-le-self, add-div-right}
 use native.Mathlib.Omega.{arith}
 use borrow.Author.Needs.{needs}

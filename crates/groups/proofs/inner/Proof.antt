@@ -1,10 +1,10 @@
--- `densest::inner` meets its contract. Assumes nothing.
+-- `groups::inner` meets its contract. Assumes nothing.
 use native.Mathlib.Omega.{arith}
 use Prim.Native.Nat.{_+_, _*_, _<_}
 use Rattle.theory.specs.Groups.{is-in}
 use borrow.Author.Needs.{needs}
-use Rattle.densest.proofs.inner.Statement.{statement}
-use Rattle.densest.proofs.inner.Tie as tie
+use Rattle.groups.proofs.inner.Statement.{statement}
+use Rattle.groups.proofs.inner.Tie as tie
 
 -- the modules of the pair at hand
 first-low : (c : tie.After-wide) → c .wide .result < c .before .before .before .before .args .n

@@ -1,13 +1,13 @@
--- `densest::group_size` meets its contract: the bytes passed are added up. Assumes nothing.
+-- `groups::group_size` meets its contract: the bytes passed are added up. Assumes nothing.
 use native.Mathlib.Omega.{arith}
 use mathlib.Core.Path.{_≡_, refl, _∙_, ap}
 use Prim.Native.Nat.{_*_, _-_, _≤_}
 use lib.ListN.{length, take}
 use lib.Seq.{take-all}
 use Rattle.theory.specs.Groups.{size}
-use Rattle.densest.proofs.Counts.{size-front}
-use Rattle.densest.proofs.group_size.Statement.{statement}
-use Rattle.densest.proofs.group_size.Tie as tie
+use Rattle.groups.proofs.Counts.{size-front}
+use Rattle.groups.proofs.group_size.Statement.{statement}
+use Rattle.groups.proofs.group_size.Tie as tie
 
 abbrev Inv-loop : tie.InvT-loop
 Inv-loop n group count₀ v₀ count v = (n ≤ 512) × (length group ≡ n) × (v ≤ n) × (count ≤ 255 * v) × (count ≡ size (take v group))

@@ -1,7 +1,7 @@
--- `densest::both` meets its contract. Assumes nothing.
+-- `groups::both` meets its contract. Assumes nothing.
 use borrow.Author.Tests.{eq-eqb, ne-eqb}
-use Rattle.densest.proofs.both.Statement.{statement}
-use Rattle.densest.proofs.both.Tie as tie
+use Rattle.groups.proofs.both.Statement.{statement}
+use Rattle.groups.proofs.both.Tie as tie
 
 returns : tie.Need-returns
 returns c = rw (eq-eqb (c .before .args .a) 1 (c .if1 .taken))
