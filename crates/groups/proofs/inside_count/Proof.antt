@@ -71,7 +71,9 @@ returns : tie.Need-returns Inv-loop μ-loop
 returns c = let i = c .before .loop .inv in
     let a = c .before .before .before .before .before .args in
     let e : c .before .loop .j ≡ a .m = omega arith in
-    i .4 ∙ ap (λ (x : ℕ). inside-upto x (a .ends .now) (a .weights .now) (a .group .now)) e ∙ upto-all (a .n) (a .m) (a .ends .now) (a .weights .now) (a .group .now)
+    i .4
+    ∙ ap (λ (x : ℕ). inside-upto x (a .ends .now) (a .weights .now) (a .group .now)) e
+    ∙ upto-all (a .n) (a .m) (a .ends .now) (a .weights .now) (a .group .now)
 
 pub inside-count-spec : {M : Type 1} → statement M
 inside-count-spec =

@@ -71,13 +71,16 @@ slice-aggregate-greatest-of : tie.Need-slice-aggregate-greatest-of
 slice-aggregate-greatest-of c = search needs
 
 greatest-of-requires : tie.Need-greatest-of-requires
-greatest-of-requires c κs = let s = c .before .before .before .before .before .before .before .before .before .before .before .before in omega (arith, few-modules _ _ _ _ (s .pre .0 .listed))
+greatest-of-requires c κs =
+    let s = c .before .before .before .before .before .before .before .before .before .before .before .before in
+    omega (arith, few-modules _ _ _ _ (s .pre .0 .listed))
 
 -- what is known when the greatest load has been found
 weighed : (c : tie.After-greatest-of) →
     let a = c .before .before .before .before .before .before .before .before .before .before .before .before .before .args in
     Weighed (a .n) (a .m) (a .ends .now) (a .weights .now) (a .members .now) (a .shares .now)
-    (c .before .before .before .before .before .before .before .before .counted .result) (c .before .before .before .inside-count .result) (c .greatest-of .result)
+    (c .before .before .before .before .before .before .before .before .counted .result) (c .before .before .before .inside-count .result)
+    (c .greatest-of .result)
 weighed c =
     let s = c .before .before .before .before .before .before .before .before .before .before .before .before .before in
     let k = c .before .before .before .before .before in

@@ -1,13 +1,15 @@
--- `densest::last_round` meets its contract. Assumes nothing.
+-- `densest::search::last_round` meets its contract. Assumes nothing.
 use borrow.Author.Needs.{needs}
-use Rattle.densest.proofs.last_round.Statement.{statement}
-use Rattle.densest.proofs.last_round.Tie as tie
+use Rattle.densest.proofs.search.last_round.Statement.{statement}
+use Rattle.densest.proofs.search.last_round.Tie as tie
 
 returns : tie.Need-returns
 returns c = c .before .before .before .before .before .before .before .before .before .pre .1 .1 .1 .1 .1 .1 (c .if1 .taken)
 
 round-requires : tie.Need-round-requires
-round-requires c κs = let q = c .before .before .before .before .before .before .before .before .before .before .before .before .pre in (q .0, (q .1 .0, (q .1 .1 .0, (q .1 .1 .1 .0, (q .1 .1 .1 .1 .0, q .1 .1 .1 .1 .1 .0)))))
+round-requires c κs =
+    let q = c .before .before .before .before .before .before .before .before .before .before .before .before .pre in
+    (q .0, (q .1 .0, (q .1 .1 .0, (q .1 .1 .1 .0, (q .1 .1 .1 .1 .0, q .1 .1 .1 .1 .1 .0)))))
 
 same-length : tie.Need-same-length
 same-length c = search needs

@@ -1,15 +1,13 @@
--- `densest::find` meets its contract. Assumes nothing.
+-- `densest::search::find` meets its contract. Assumes nothing.
 use native.Mathlib.Omega.{arith}
 use mathlib.Core.Path.{_∙_}
 use Prim.Native.Nat.{_*_, _≤_}
-use Rattle.theory.specs.Words.{list-in}
-use Rattle.theory.proofs.Lists.{listed}
-use Rattle.slots.proofs.Words.{few-pairs, list-ends}
+use Rattle.slots.proofs.Words.{few-modules, few-pairs, list-ends}
 use Rattle.densest.specs.Search.{Link-room}
-use Rattle.densest.proofs.Solving.{searched-candidate, searched-last}
+use Rattle.densest.proofs.Solving.{found-candidate, found-settled}
 use borrow.Author.Needs.{needs}
-use Rattle.densest.proofs.find.Statement.{statement}
-use Rattle.densest.proofs.find.Tie as tie
+use Rattle.densest.proofs.search.find.Statement.{statement}
+use Rattle.densest.proofs.search.find.Tie as tie
 
 -- the places of the calls, each from the next
 abbrev begin : tie.After-links → tie.Start
@@ -19,16 +17,12 @@ abbrev linked : tie.After-search → tie.After-links
 linked c = c .before .before .before .before .before .before .before .before
 
 -- what is known from then on
-few : (s : tie.Start) → s .args .n ≤ 512
-unfolding list-in
-few s = listed (list-in (s .args .n) (s .args .m) (s .args .ends .now) (s .args .weights .now)) (s .pre .0 .listed) .few
-
 short : (s : tie.Start) → 2 * s .args .m ≤ 8192
 short s = omega (arith, few-pairs (s .args .n) (s .args .m) (s .args .ends .now) (s .args .weights .now) (s .pre .0 .listed))
 
 links-long : (c : tie.After-links) → Link-room (begin c .args .n) (begin c .args .m) (c .links .last .1 .1 .1 .0) (c .links .last .1 .1 .1 .1 .0)
 links-long c = record {
-  first-long = omega (arith, few (begin c), c .links .kept .1 .1 .1 .0);
+  first-long = omega (arith, few-modules _ _ _ _ (begin c .pre .0 .listed), c .links .kept .1 .1 .1 .0);
   next-long = omega (arith, short (begin c), c .links .kept .1 .1 .1 .1 .0);
 }
 
@@ -41,7 +35,7 @@ slice-aggregate-links-2 c = search needs
 links-requires : tie.Need-links-requires
 links-requires c κs =
     let s = c .before .before .before .before .before .before .before .before in
-    (list-ends _ _ _ _ (s .pre .0 .listed) (s .pre .0 .ends-long), (few s, short s))
+    (list-ends _ _ _ _ (s .pre .0 .listed) (s .pre .0 .ends-long), (few-modules _ _ _ _ (s .pre .0 .listed), short s))
 
 slice-aggregate-search : tie.Need-slice-aggregate-search
 slice-aggregate-search c = search needs
@@ -67,15 +61,19 @@ last-round-requires c κs =
     let l = linked f in
     let s = begin l in
     let q = s .pre in
-    let e = f .search in (
+    let e = f .search in
+    let k = e .kept .1 .1 .1 .1 .1 .1 .1 .1 .1 in (
       q .0,
       (
-        searched-candidate (s .args .n) (s .args .m) (s .args .ends .now) (s .args .weights .now) (q .0) _ _ _ _ _ _ (e .ensures),
+        found-candidate (s .args .n) (s .args .m) (s .args .ends .now) (s .args .weights .now) (q .0) _ _ _ _ _ _ (e .ensures),
         (
           q .1 .1 .0,
           (
             links-long l,
-            ((e .kept .1 .1 .1 .1 .1 .1 .1 .1 .1 .0 ∙ q .1 .1 .1 .0 .0, e .kept .1 .1 .1 .1 .1 .1 .1 .1 .1 .1 .1 .0 ∙ q .1 .1 .1 .0 .1), (e .ensures .room, e .ensures .last)),
+            (
+              (k .0 ∙ q .1 .1 .1 .0 .0, k .1 .1 .0 ∙ q .1 .1 .1 .0 .1),
+              (e .ensures .room, e .ensures .last),
+            ),
           ),
         ),
       ),
@@ -95,7 +93,7 @@ returns c =
     let l = c .before .before .before .before .before .before in
     let f = l .before .before .before .before .before .before .before .before .before .before .before .before in
     let s = begin (linked f) in
-    searched-last (s .args .n) (s .args .m) (s .args .ends .now) (s .args .weights .now) (s .pre .0) _ _ _ _ _ _ (f .search .ensures) _ _ _ _
+    found-settled (s .args .n) (s .args .m) (s .args .ends .now) (s .args .weights .now) (s .pre .0) _ _ _ _ _ _ (f .search .ensures) _ _ _ _
     (l .last-round .ensures)
 
 pub find-spec : {M : Type 1} → statement M

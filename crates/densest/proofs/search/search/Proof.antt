@@ -1,21 +1,12 @@
--- `densest::search` meets its contract: from round to round `Going` holds, and `steps` falls. Assumes nothing.
-use mathlib.Core.Path.{_≡_, refl, sym, _∙_}
-use mathlib.Core.Bool.{Bool, true, false, not}
+-- `densest::search::search` meets its contract: from round to round `Going` holds, and `steps` falls. Assumes nothing.
+use mathlib.Core.Path.{_≡_, refl, _∙_}
 use lib.ListN.{length}
-use Rattle.theory.specs.Words.{list-in}
-use Rattle.theory.proofs.Lists.{listed}
+use borrow.Author.Tests.{not-true, not-false}
 use Rattle.theory.proofs.Tests.{no}
+use Rattle.slots.proofs.Words.{few-modules}
 use Rattle.densest.proofs.Rounds.{Going, going-on, steps, steps-fall}
-use Rattle.densest.proofs.search.Statement.{statement}
-use Rattle.densest.proofs.search.Tie as tie
-
-not-true : (b : Bool) → not b ≡ true → b ≡ false
-not-true true e = no e
-not-true false e = refl
-
-not-false : (b : Bool) → not b ≡ false → b ≡ true
-not-false true e = refl
-not-false false e = no (sym e)
+use Rattle.densest.proofs.search.search.Statement.{statement}
+use Rattle.densest.proofs.search.search.Tie as tie
 
 abbrev Inv-loop : tie.InvT-loop
 Inv-loop n m p0 q0 ends weights cores first next scope₀ hold₀ group₀ p₀ q₀ old₀ done₀ settled₀ scope hold group p q old done settled =
@@ -55,17 +46,17 @@ loop-holds c =
     )
 
 round-requires : tie.Need-round-requires Inv-loop μ-loop
-round-requires c κs = let i = c .before .before .before .before .loop .inv .0 in (i .held, (i .at-hand, (i .cored, (i .linked, ((i .scope-long, i .group-long), i .room)))))
+round-requires c κs =
+    let i = c .before .before .before .before .loop .inv .0 in
+    (i .held, (i .at-hand, (i .cored, (i .linked, ((i .scope-long, i .group-long), i .room)))))
 
 inside-count-requires : tie.Need-inside-count-requires Inv-loop μ-loop
 inside-count-requires c κs = let r = c .before .before .before .before .before .before .before in (turn r .loop .inv .0 .held, group-long r)
 
 group-size-requires : tie.Need-group-size-requires Inv-loop μ-loop
-unfolding list-in
 group-size-requires c κs =
     let r = c .before .before .before .before .before .before .before .before .before in
-    let a = begin (turn r) .args in
-    (listed (list-in (a .n) (a .m) (a .ends .now) (a .weights .now)) (turn r .loop .inv .0 .held .listed) .few, group-long r)
+    (few-modules _ _ _ _ (turn r .loop .inv .0 .held .listed), group-long r)
 
 same-requires : tie.Need-same-requires Inv-loop μ-loop
 same-requires c κs = tt

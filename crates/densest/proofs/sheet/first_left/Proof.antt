@@ -1,16 +1,20 @@
--- `densest::first_left` meets its contract. Assumes nothing.
+-- `densest::sheet::first_left` meets its contract. Assumes nothing.
 use native.Mathlib.Omega.{arith}
 use Prim.Native.Nat.{_+_, _*_, _<_}
 use borrow.Author.Needs.{needs}
-use Rattle.densest.proofs.first_left.Statement.{statement}
-use Rattle.densest.proofs.first_left.Tie as tie
+use Rattle.densest.proofs.sheet.first_left.Statement.{statement}
+use Rattle.densest.proofs.sheet.first_left.Tie as tie
 
 -- the modules of the pair at hand
 first-low : (c : tie.After-wide) → c .wide .result < c .before .before .before .before .args .n
-first-low c = omega (arith, c .before .before .before .before .pre .0 .below (2 * c .before .before .before .before .args .j) (omega arith), c .wide .ensures)
+first-low c =
+    let s = c .before .before .before .before in
+    omega (arith, s .pre .0 .below (2 * s .args .j) (omega arith), c .wide .ensures)
 
 second-low : (c : tie.After-wide2) → c .wide2 .result < c .before .before .before .before .before .before .args .n
-second-low c = omega (arith, c .before .before .before .before .before .before .pre .0 .below (2 * c .before .before .before .before .before .before .args .j + 1) (omega arith), c .wide2 .ensures)
+second-low c =
+    let s = c .before .before .before .before .before .before in
+    omega (arith, s .pre .0 .below (2 * s .args .j + 1) (omega arith), c .wide2 .ensures)
 
 mul-wide : tie.Need-mul-wide
 mul-wide c = search needs

@@ -1,14 +1,14 @@
--- `densest::scatter` meets its contract: the slots of the pairs passed are written. Assumes nothing.
+-- `densest::gather::scatter` meets its contract: the slots of the pairs passed are pair-stored. Assumes nothing.
 use native.Mathlib.Omega.{arith}
 use Prim.Native.Nat.{_-_}
 use lib.ListN.{length-set}
 use Rattle.slots.specs.Slots.{Ends}
-use Rattle.densest.proofs.Gathering.{bit-le, Ranked, ranked-start, ranked-next, Scattering, scattering-start, scattering-next, scattering-end}
-use Rattle.densest.proofs.scatter.Statement.{statement}
-use Rattle.densest.proofs.scatter.Tie as tie
+use Rattle.densest.proofs.Gathering.{bit-le, Inner-passed, passed-start, passed-next, Scattering, scattering-start, scattering-next, scattering-end}
+use Rattle.densest.proofs.gather.scatter.Statement.{statement}
+use Rattle.densest.proofs.gather.scatter.Tie as tie
 
 abbrev Inv-loop : tie.InvT-loop
-Inv-loop n m ends scope units hold₀ i₀ j₀ hold i j = Ends n m ends × Ranked m j i ends scope × Scattering j ends scope units hold₀ hold
+Inv-loop n m ends scope units hold₀ i₀ j₀ hold i j = Ends n m ends × Inner-passed m j i ends scope × Scattering j ends scope units hold₀ hold
 
 abbrev μ-loop : tie.MeasureT-loop
 μ-loop n m ends scope units hold₀ i₀ j₀ hold i j = m - j
@@ -18,7 +18,7 @@ abbrev begin : tie.At-loop Inv-loop μ-loop → tie.Start Inv-loop μ-loop
 begin c = c .before .before .before .before .before
 
 loop-holds : tie.Need-loop-holds Inv-loop μ-loop
-loop-holds c = (c .before .before .before .before .pre .0, ranked-start _ _ _, scattering-start _ _ _ _)
+loop-holds c = (c .before .before .before .before .pre .0, passed-start _ _ _, scattering-start _ _ _ _)
 
 inner-requires : tie.Need-inner-requires Inv-loop μ-loop
 inner-requires c κs = let l = c .before in (l .loop .inv .0, (omega arith, begin l .pre .1 .0))
@@ -90,7 +90,7 @@ loop-again c =
     let p = begin (c .before .before .before .before .before .before .before) .pre in
     let e = c .before .before .before .before .before .inner .ensures in (
       i .0,
-      ranked-next _ _ (i .1) (omega arith) e (c .step .ensures),
+      passed-next _ _ (i .1) (omega arith) e (c .step .ensures),
       scattering-next _ _ _ (i .1) (omega arith) (p .1 .1 .1) e (c .before .before .before .pick .ensures) (c .before .pick2 .ensures) (i .2),
     )
 

@@ -1,4 +1,4 @@
--- `densest::cut` meets its contract: the numbers passed are written. Assumes nothing.
+-- `densest::gather::keep_at_least` meets its contract: the numbers passed are pair-stored. Assumes nothing.
 use native.Mathlib.Omega.{arith}
 use mathlib.Core.Path.{_≡_, refl}
 use mathlib.Core.Bool.{cond}
@@ -6,15 +6,15 @@ use Prim.Native.Nat.{ℕ, _-_, _≤_, _<_}
 use lib.Dec.{leb}
 use lib.ListN.{length, getD, length-set}
 use Rattle.slots.proofs.Choice.{stored-more}
-use Rattle.densest.proofs.cut.Statement.{statement}
-use Rattle.densest.proofs.cut.Tie as tie
+use Rattle.densest.proofs.gather.keep_at_least.Statement.{statement}
+use Rattle.densest.proofs.gather.keep_at_least.Tie as tie
 
 abbrev Inv-loop : tie.InvT-loop
-Inv-loop n k cores high₀ v₀ high v =
-    (v ≤ n) × (length high ≡ length high₀) × ((i : ℕ) → i < v → getD high i 0 ≡ cond (leb k (getD cores i 0)) (getD cores i 0) 0)
+Inv-loop n k cores high₀ v₀ kept v =
+    (v ≤ n) × (length kept ≡ length high₀) × ((i : ℕ) → i < v → getD kept i 0 ≡ cond (leb k (getD cores i 0)) (getD cores i 0) 0)
 
 abbrev μ-loop : tie.MeasureT-loop
-μ-loop n k cores high₀ v₀ high v = n - v
+μ-loop n k cores high₀ v₀ kept v = n - v
 
 loop-holds : tie.Need-loop-holds Inv-loop μ-loop
 loop-holds c = (omega arith, refl, λ i h. absurd (omega arith))
@@ -28,11 +28,11 @@ shared-slice-read-number c = omega arith
 pick-requires : tie.Need-pick-requires Inv-loop μ-loop
 pick-requires c κs = tt
 
-mul-high : tie.Need-mul-high Inv-loop μ-loop
-mul-high c = omega arith
+mul-kept : tie.Need-mul-kept Inv-loop μ-loop
+mul-kept c = omega arith
 
-slice-write-high : tie.Need-slice-write-high Inv-loop μ-loop
-slice-write-high c = omega arith
+slice-write-kept : tie.Need-slice-write-kept Inv-loop μ-loop
+slice-write-kept c = omega arith
 
 add-v : tie.Need-add-v Inv-loop μ-loop
 add-v c = omega arith
@@ -46,7 +46,7 @@ loop-again c =
     let l = c .before .before .before .loop in (
       omega arith,
       simp length-set (l .inv .1),
-      stored-more (λ i x. x ≡ cond (leb (a .k) (getD (a .cores .now) i 0)) (getD (a .cores .now) i 0) 0) (l .high) (l .v) (c .pick .result)
+      stored-more (λ i x. x ≡ cond (leb (a .k) (getD (a .cores .now) i 0)) (getD (a .cores .now) i 0) 0) (l .kept) (l .v) (c .pick .result)
           (omega arith) (l .inv .2) (c .pick .ensures),
     )
 
@@ -56,8 +56,8 @@ same-length c = omega arith
 returns : tie.Need-returns Inv-loop μ-loop
 returns c = λ v h. c .before .loop .inv .2 v (omega arith)
 
-pub cut-spec : {M : Type 1} → statement M
-cut-spec =
+pub keep-at-least-spec : {M : Type 1} → statement M
+keep-at-least-spec =
     tie.close
     (tie.spec
     Inv-loop
@@ -66,8 +66,8 @@ cut-spec =
     mul-number
     shared-slice-read-number
     pick-requires
-    mul-high
-    slice-write-high
+    mul-kept
+    slice-write-kept
     add-v
     loop-less
     loop-again

@@ -1,14 +1,15 @@
--- `densest::find_best` meets its contract: so does either search. Assumes nothing.
+-- `densest::gather::find_best` meets its contract: so does either search. Assumes nothing.
 use borrow.Author.Needs.{needs}
-use Rattle.densest.proofs.find_best.Statement.{statement}
-use Rattle.densest.proofs.find_best.Tie as tie
+use Rattle.densest.proofs.gather.find_best.Statement.{statement}
+use Rattle.densest.proofs.gather.find_best.Tie as tie
 
 wide-requires : tie.Need-wide-requires
 wide-requires c κs = search needs
 
 find-in-core-requires : tie.Need-find-in-core-requires
 find-in-core-requires c κs =
-    let q = c .before .before .before .before .before .before .before .before .before .before .before .before .before .pre in (q .0, (q .1 .0, (q .1 .1 .0, (q .1 .1 .1 .0, q .1 .1 .1 .1 .long))))
+    let q = c .before .before .before .before .before .before .before .before .before .before .before .before .before .pre in
+    (q .0, (q .1 .0, (q .1 .1 .0, (q .1 .1 .1 .0, q .1 .1 .1 .1 .long))))
 
 same-length : tie.Need-same-length
 same-length c = search needs
@@ -27,7 +28,8 @@ returns c = search needs
 
 find-requires : tie.Need-find-requires
 find-requires c κs =
-    let q = c .before .before .before .before .before .before .before .before .before .before .before .before .pre in (q .0, (q .1 .0, (q .1 .1 .0, ((q .1 .1 .1 .0 .1, q .1 .1 .1 .0 .2), q .1 .1 .1 .1))))
+    let q = c .before .before .before .before .before .before .before .before .before .before .before .before .pre in
+    (q .0, (q .1 .0, (q .1 .1 .0, ((q .1 .1 .1 .0 .1, q .1 .1 .1 .0 .2), q .1 .1 .1 .1))))
 
 same-length-5 : tie.Need-same-length-5
 same-length-5 c = search needs
