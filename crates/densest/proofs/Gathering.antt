@@ -1,11 +1,11 @@
 -- Pairs gathered and their units put back.
---   inner-before-le, inner-before-less, inner-total    numbers among the pairs gathered, and sums over them
---   Inner-passed, passed-start, passed-next    a loop that counts the pairs inside the scope
+--   inner-before-le, inner-before-less, inner-total                  numbers among the pairs gathered, and sums over them
+--   Inner-passed, passed-start, passed-next                          a loop that counts the pairs inside the scope
 --   Gathering, gathering-start, gathering-next, gathering-end        a loop that gathers
 --   Scattering, scattering-start, scattering-next, scattering-end    a loop that puts back
---   gathered-few, gathered-held          no more pairs are gathered than there are; they are held as a list is
---   scattered-held                       each module holds what it held among the pairs gathered
---   scattered-split                      a split of the pairs gathered is one of all pairs
+--   gathered-few, gathered-held    no more pairs are gathered than there are; they are held as a list is
+--   scattered-held                 each module holds what it held among the pairs gathered
+--   scattered-split                a split of the pairs gathered is one of all pairs
 -- Assumes nothing.
 use mathlib.Core.Path.{_≡_, refl, sym, ap, _∙_}
 use mathlib.Core.Bool.{Bool, true, false, cond}
@@ -30,7 +30,7 @@ use Rattle.slots.proofs.Choice.{eq-or-ne}
 use Rattle.slots.proofs.Totals.{total-ext, total-next, total-first, total-const, total-upto, total-pairs}
 use Rattle.flow.specs.Flow.{Sub}
 use Rattle.densest.specs.Inner.{inner-pairs, inner-list}
-use Rattle.groups.specs.Inner.{inner-at}
+use Rattle.groups.specs.Pairs.{inner-at}
 use Rattle.densest.specs.Gather.{inner-before, Gathered, Put-back, Scattered}
 
 -- ---- ranks
@@ -144,7 +144,8 @@ gathering-start ends weights scope inner-ends inner-weights = record { ends-long
 
 -- pair j is pair-stored at place i
 pub gathering-next : {m j i : ℕ} {ends weights scope inner-ends₀ inner-weights₀ inner-ends inner-weights : List ℕ} →
-    Inner-passed m j i ends scope → j < m → 2 * m ≤ length inner-ends₀ → m ≤ length inner-weights₀ → Gathering j ends weights scope inner-ends₀ inner-weights₀ inner-ends inner-weights →
+    Inner-passed m j i ends scope → j < m → 2 * m ≤ length inner-ends₀ → m ≤ length inner-weights₀ →
+    Gathering j ends weights scope inner-ends₀ inner-weights₀ inner-ends inner-weights →
     Gathering (j + 1) ends weights scope inner-ends₀ inner-weights₀ (set (set inner-ends (2 * i) (getD ends (2 * j) 0)) (2 * i + 1) (getD ends (2 * j + 1) 0))
     (set inner-weights i (getD weights j 0))
 unfolding word-pair
@@ -166,8 +167,8 @@ gathering-next {m} {j} {i} {ends} {weights} {scope} {inner-ends₀} {inner-weigh
           (eq-or-ne k j);
     }
 
-pub gathering-end : {m j i : ℕ} {ends weights scope inner-ends₀ inner-weights₀ inner-ends inner-weights : List ℕ} (n : ℕ) → Inner-passed m j i ends scope → m ≤ j →
-    Gathering j ends weights scope inner-ends₀ inner-weights₀ inner-ends inner-weights → Gathered n m ends weights scope inner-ends inner-weights i
+pub gathering-end : {m j i : ℕ} {ends weights scope inner-ends₀ inner-weights₀ inner-ends inner-weights : List ℕ} (n : ℕ) →
+    Inner-passed m j i ends scope → m ≤ j → Gathering j ends weights scope inner-ends₀ inner-weights₀ inner-ends inner-weights → Gathered n m ends weights scope inner-ends inner-weights i
 unfolding list-in pairs-in inner-list inner-before holds-pair word-pair
 gathering-end {m} {j} {i} {ends} {weights} {scope} {inner-ends₀} {inner-weights₀} {inner-ends} {inner-weights} n c h g =
     let e : j ≡ m = omega (arith, c .low) in

@@ -1,6 +1,6 @@
 -- The search among the pairs inside a core, as a search among all pairs.
---   inner-held, inner-candidate, inner-cored    what it starts from: the pairs gathered, the ratio, core numbers cut at the core's order
---   found-among-all                                what it finds, with the units put back
+--   inner-held, inner-candidate, inner-cored    what it starts from: the pairs gathered, the ratio, the core numbers of the core's order or more
+--   found-among-all                             what it finds, with the units put back
 -- Assumes nothing.
 use mathlib.Core.Path.{_≡_, refl, sym, ap, _∙_}
 use mathlib.Core.Bool.{true, cond}

@@ -1,7 +1,7 @@
 -- Units in slots as shares: loads of a split.
---   load-table       a load as a sum over the pairs
---   shares-table     shares that are in range
---   Units-held, load-held  where a share is what the pair's first slot holds, a load is what the module's slots hold
+--   load-table               a load as a sum over the pairs
+--   shares-table             shares that are in range
+--   Units-held, load-held    where a share is what the pair's first slot holds, a load is what the module's slots hold
 -- Assumes nothing.
 use mathlib.Core.Path.{_≡_, refl, sym, ap, _∙_}
 use mathlib.Core.Bool.{Bool, true, false, cond}

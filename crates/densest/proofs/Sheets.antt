@@ -28,7 +28,7 @@ use Rattle.theory.proofs.Splits.{only, merge, split-with}
 use Rattle.slots.specs.Slots.{held-by}
 use Rattle.slots.specs.Split.{scope-units, Split}
 use Rattle.slots.proofs.Words.{good-pair}
-use Rattle.groups.specs.Inner.{inner-at}
+use Rattle.groups.specs.Pairs.{inner-at}
 use Rattle.densest.specs.Search.{left-first, sheet-share}
 use Rattle.densest.proofs.Loads.{load-held, shares-table}
 

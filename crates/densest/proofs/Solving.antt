@@ -1,10 +1,9 @@
 -- From the leaving order to the answer.
 --   peeled-cored, peeled-candidate, peeled-by-place    what `peel` gives the search
---   peelable-zeros, room-zeros    buffers of zeros are long enough
---   found-candidate, found-bounded    the found group's inside count and size
---   found-settled                 the search with a last round: that answers true
---   solved-of                     the answer
---   solves-of                     where it stands in the buffers
+--   peelable-zeros, room-zeros                         buffers of zeros are long enough
+--   found-candidate, found-bounded                     the found group's inside count and size
+--   found-settled                                      the search with a last round: that answers true
+--   solution-of, solves-of                             the answer, and where it stands in the buffers
 -- Assumes nothing.
 use mathlib.Core.Path.{_≡_, refl, sym, ap, _∙_}
 use mathlib.Core.Bool.{Bool, true, false}
@@ -113,11 +112,11 @@ module _ (n m : ℕ) (ends weights : List ℕ) (h : Held-words n m ends weights)
 
 module _ (n m : ℕ) (ends weights : List ℕ) (h : Held-words n m ends weights) (scope hold t : List ℕ) (p q : ℕ)
     (f : Group-found n m ends weights scope hold t p q true) where
-  pub solved-of : (place shares : List ℕ) (x : Solution) →
+  pub solution-of : (place shares : List ℕ) (x : Solution) →
       ((a b : ℕ) → a < n → b < n → before (leaving (list-in n m ends weights)) a b ≡ ltb (getD place a 0) (getD place b 0)) →
       length shares ≡ m → ((j : ℕ) → j < m → getD shares j 0 ≡ sheet-share q ends weights scope place hold j) →
       x .p ≡ p → x .q ≡ q → x .k ≡ rounded-up p q → x .core ≡ size scope → Is-solution (list-in n m ends weights) t shares x
-  solved-of place shares x by long written xp xq xk xc =
+  solution-of place shares x by long written xp xq xk xc =
       let g = list-in n m ends weights in
       let d : Round n m p q ends weights scope hold t true = f .last refl in
       let ep : p ≡ inside g t = f .inside-count in

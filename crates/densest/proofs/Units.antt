@@ -20,7 +20,7 @@ use Rattle.slots.specs.Split.{scope-units, Weights, Split}
 use Rattle.slots.proofs.Totals.{total-le, total-scale}
 use Rattle.slots.proofs.Mates.{mate-even, by-pair}
 use Rattle.slots.proofs.Words.{inside-total}
-use Rattle.groups.specs.Inner.{inner-at}
+use Rattle.groups.specs.Pairs.{inner-at}
 use Rattle.flow.specs.Flow.{Sub, Busy}
 
 -- b: both ends in the set, c: both in the scope
@@ -53,7 +53,8 @@ module _ (n m q : ℕ) (ends weights scope hold : List ℕ) (sp : Split m q ends
   inside-all t sub =
       rw (inside-total n m ends weights t, ← total-scale)
       (total-le m _ _ (λ j h. units-all
-      (inner-at ends t j) (inner-at ends scope j) _ (getD weights j 0) q (sp .whole j h) (λ b. let b′ = simp tests at b in simp tests (sub _ (b′ .0), sub _ (b′ .1)))))
+      (inner-at ends t j) (inner-at ends scope j) _ (getD weights j 0) q (sp .whole j h)
+      (λ b. let b′ = simp tests at b in simp tests (sub _ (b′ .0), sub _ (b′ .1)))))
 
   -- units that moved within their pairs make a split again
   pub split-kept : (hold' : List ℕ) → length hold' ≡ length hold → Same-units m hold hold' → Split m q ends weights scope hold'

@@ -10,7 +10,7 @@ use Prim.Native.Nat.{ℕ, _+_, _*_, _≤_, _<_}
 use lib.ListN.{length, getD}
 use Rattle.theory.specs.Words.{word-pair, list-in}
 use Rattle.slots.specs.Slots.{total}
-use Rattle.groups.specs.Inner.{inner-at}
+use Rattle.groups.specs.Pairs.{inner-at}
 use Rattle.densest.specs.Inner.{inner-list}
 
 -- how many of the first j pairs have both ends in the scope

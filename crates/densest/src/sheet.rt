@@ -1,7 +1,7 @@
 // The load sheet: what the slots hold inside the core, and all of a pair or nothing outside it.
 ghost use mathlib.Core.Path.{_≡_};
 ghost use mathlib.Core.Bool.{cond};
-ghost use Prim.Native.Nat.{ℕ, _+_, _*_, _≤_, _<_};
+ghost use Prim.Native.Nat.{ℕ, _*_, _≤_, _<_};
 ghost use lib.ListN.{length, getD};
 ghost use Rattle.slots.specs.Slots.{Ends};
 ghost use Rattle.theory.specs.Words.{Held-words};
@@ -16,8 +16,9 @@ fn first_left(n: usize, m: usize, j: usize, ends: &[u32], place: &[u32]) -> bool
     requires { ⌜ (j < m) × (n ≤ length (now place)) ⌝ }
     ensures { λ r. ⌜ r ≡ left-first (now (ends .entry)) (now (place .entry)) j ⌝ }
 {
-    let a = slots::wide(ends[2 * j]);
-    let b = slots::wide(ends[2 * j + 1]);
+    let pair = groups::two_ends(n, m, j, ends);
+    let a = pair.a;
+    let b = pair.b;
     place[a] < place[b]
 }
 

@@ -13,7 +13,7 @@ use Rattle.theory.specs.Groups.{size, holds-pair, inside}
 use Rattle.theory.specs.Words.{word-pair, list-in}
 use Rattle.slots.specs.Slots.{total}
 use Rattle.slots.proofs.Words.{inside-total}
-use Rattle.groups.specs.Inner.{inner-at}
+use Rattle.groups.specs.Pairs.{inner-at}
 
 size-next : (xs : List ℕ) (v : ℕ) → v < length xs → size (take (suc v) xs) ≡ size (take v xs) + getD xs v 0
 unfolding size

@@ -1,2 +1,2 @@
 -- What the contracts of groups in words cite.
-pub mod Inner
+pub mod Pairs

@@ -1,6 +1,6 @@
 // Groups in words: member bytes, one for each module, beside a held list (document 01, "Words used": group, inside count).
 //
-// The size of a group and its inside count, whether a pair lies inside it, and the group of the modules whose number is k or more. What asks for a
+// A pair's ends, the size of a group and its inside count, whether a pair lies inside it, and the group of the modules whose number is k or more. What asks for a
 // group asks for exactly n bytes: a caller lends `&members[..n]`. Each costs one pass over the modules or the pairs. Nothing is refused.
 ghost use mathlib.Core.Path.{_≡_};
 ghost use mathlib.Core.Bool.{_&&_};
@@ -11,7 +11,25 @@ ghost use Rattle.theory.specs.Basics.{mark};
 ghost use Rattle.theory.specs.Groups.{inside, size};
 ghost use Rattle.theory.specs.Words.{list-in, Held-words};
 ghost use Rattle.slots.specs.Slots.{Ends};
-ghost use Rattle.groups.specs.Inner.{inner-at};
+ghost use Rattle.groups.specs.Pairs.{Ends-at, inner-at};
+
+// The two ends of a pair, as indices.
+pub struct TwoEnds {
+    pub a: usize,
+    pub b: usize,
+}
+
+// The ends of pair j.
+pub fn two_ends(n: usize, m: usize, j: usize, ends: &[u32]) -> TwoEnds
+    requires { ⌜ Ends n m (now ends) ⌝ }
+    requires { ⌜ j < m ⌝ }
+    ensures { λ r. ⌜ Ends-at n (now (ends .entry)) j (r .a) (r .b) ⌝ }
+{
+    TwoEnds {
+        a: slots::wide(ends[2 * j]),
+        b: slots::wide(ends[2 * j + 1]),
+    }
+}
 
 // Whether two bytes are member bytes.
 pub fn both(a: u8, b: u8) -> bool
@@ -26,8 +44,9 @@ pub fn inner(n: usize, m: usize, j: usize, ends: &[u32], group: &[u8]) -> bool
     requires { ⌜ (j < m) × (length (now group) ≡ n) ⌝ }
     ensures { λ r. ⌜ r ≡ inner-at (now (ends .entry)) (now (group .entry)) j ⌝ }
 {
-    let a = slots::wide(ends[2 * j]);
-    let b = slots::wide(ends[2 * j + 1]);
+    let pair = two_ends(n, m, j, ends);
+    let a = pair.a;
+    let b = pair.b;
     both(group[a], group[b])
 }
 

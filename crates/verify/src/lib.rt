@@ -105,8 +105,9 @@ fn loads_of(
     let mut loads = [0u32; 512];
     let mut j: usize = 0;
     while j < m {
-        let a = slots::wide(ends[2 * j]);
-        let b = slots::wide(ends[2 * j + 1]);
+        let pair = groups::two_ends(n, m, j, ends);
+        let a = pair.a;
+        let b = pair.b;
         let x = share_at(shares, j);
         let rest = weights[j] * q - x;
         loads[a] += x;

@@ -8,7 +8,7 @@ use Rattle.theory.specs.Words.{list-in}
 use Rattle.slots.proofs.Words.{few-modules, few-pairs}
 use Rattle.densest.specs.Search.{Cored}
 use Rattle.densest.proofs.Rounds.{Bounded}
-use Rattle.densest.proofs.Solving.{peeled-cored, peeled-candidate, peeled-by-place, peelable-zeros, room-zeros, found-bounded, solved-of}
+use Rattle.densest.proofs.Solving.{peeled-cored, peeled-candidate, peeled-by-place, peelable-zeros, room-zeros, found-bounded, solution-of}
 use borrow.Author.Needs.{needs}
 use Rattle.densest.proofs.solve_in.Statement.{statement}
 use Rattle.densest.proofs.solve_in.Tie as tie
@@ -124,7 +124,7 @@ returns c =
     let p = peeled f in
     let s = begin p in (
       p .peel .ensures .cores-are,
-      solved-of (s .args .n) (s .args .m) (s .args .ends .now) (s .args .weights .now) (s .pre .0) _ _ _ _ _ (f .find-best .ensures)
+      solution-of (s .args .n) (s .args .m) (s .args .ends .now) (s .args .weights .now) (s .pre .0) _ _ _ _ _ (f .find-best .ensures)
           (p .peel .last .1 .1 .1 .1 .1 .1 .1 .0) (w .last .1 .1 .1 .1 .1 .1 .1 .1 .0) _
           (peeled-by-place (list-of s) (s .pre .0 .listed) _ _ _ _ _ _ _ (p .peel .ensures))
           (w .kept .1 .1 .1 .1 .1 .1 .1 .1 .0 ∙ s .pre .1 .1 .2) (w .ensures) refl refl (c .before .before .rounded-up .ensures) (c .group-size .ensures),

@@ -1,6 +1,7 @@
 -- `verify::loads_of` meets its contract. The loop keeps `Loading`. Assumes nothing.
 use Prim.Native.Nat.{_-_}
 use native.Mathlib.Omega.{arith}
+use Rattle.slots.proofs.Words.{list-ends}
 use Rattle.verify.proofs.Loading.{Loading, Turn, both-more, loading-starts, turn, loading-ends}
 use Rattle.verify.proofs.loads_of.Statement.{statement}
 use Rattle.verify.proofs.loads_of.Tie as tie
@@ -16,32 +17,9 @@ loop-holds c =
     let s = c .before .before .before in
     loading-starts _ _ _ _ _ _ (s .pre .0) (s .pre .1 .0) (s .pre .1 .1 .0) (s .pre .1 .1 .1)
 
-mul-wide : tie.Need-mul-wide Inv-loop μ-loop
-mul-wide c = omega arith
-
-mul-wide-2 : tie.Need-mul-wide-2 Inv-loop μ-loop
-mul-wide-2 c = omega arith
-
-shared-slice-read-wide : tie.Need-shared-slice-read-wide Inv-loop μ-loop
-shared-slice-read-wide c = omega arith
-
-wide-requires : tie.Need-wide-requires Inv-loop μ-loop
-wide-requires c κs = tt
-
-mul-wide-3 : tie.Need-mul-wide-3 Inv-loop μ-loop
-mul-wide-3 c = omega arith
-
-add-wide : tie.Need-add-wide Inv-loop μ-loop
-add-wide c = omega arith
-
-mul-wide-4 : tie.Need-mul-wide-4 Inv-loop μ-loop
-mul-wide-4 c = omega arith
-
-shared-slice-read-wide-2 : tie.Need-shared-slice-read-wide-2 Inv-loop μ-loop
-shared-slice-read-wide-2 c = omega arith
-
-wide-requires-2 : tie.Need-wide-requires-2 Inv-loop μ-loop
-wide-requires-2 c κs = tt
+two-ends-requires : tie.Need-two-ends-requires Inv-loop μ-loop
+two-ends-requires c κs =
+    let h = c .before .before .before .before .before .pre .0 in (list-ends _ _ _ _ (h .listed) (h .ends-long), omega arith)
 
 share-at-requires : tie.Need-share-at-requires Inv-loop μ-loop
 share-at-requires c κs = omega arith
@@ -53,16 +31,18 @@ shared-slice-read-rest : tie.Need-shared-slice-read-rest Inv-loop μ-loop
 shared-slice-read-rest c = omega arith
 
 -- what holds in the turn
-at-turn : (c : tie.After-shared-slice-known6 Inv-loop μ-loop) →
-    let at = c .before .before .before .before .before .before .before in
+at-turn : (c : tie.After-shared-slice-known4 Inv-loop μ-loop) →
+    let at = c .before .before .before .before in
     let s = at .before .before .before .before .args in
-    Turn (s .m) (s .q) (s .ends .now) (s .weights .now) (s .shares .now) (at .loop .loads) (at .loop .j)
-    (c .before .before .before .before .wide .result) (c .before .before .wide2 .result) (c .before .share-at .result)
+    let pair = c .before .before .two-ends .result in
+    Turn (s .m) (s .q) (s .ends .now) (s .weights .now) (s .shares .now) (at .loop .loads) (at .loop .j) (pair .a) (pair .b)
+    (c .before .share-at .result)
 at-turn c =
-    let at = c .before .before .before .before .before .before .before in
+    let at = c .before .before .before .before in
     let h = at .before .before .before .before .pre in
+    let e = c .before .before .two-ends .ensures in
     turn _ _ _ _ _ _ (h .0) (h .1 .0) (h .1 .1 .0) (h .1 .1 .1) (at .loop .loads) (at .loop .j) _ _ _ (at .loop .inv) (omega arith)
-    (c .before .before .before .before .wide .ensures) (c .before .before .wide2 .ensures) (c .before .share-at .ensures)
+    (e .first) (e .second) (c .before .share-at .ensures)
 
 mul-rest-2 : tie.Need-mul-rest-2 Inv-loop μ-loop
 mul-rest-2 c = omega (arith, at-turn c .units)
@@ -116,15 +96,7 @@ loads-of-spec =
     Inv-loop
     μ-loop
     loop-holds
-    mul-wide
-    mul-wide-2
-    shared-slice-read-wide
-    wide-requires
-    mul-wide-3
-    add-wide
-    mul-wide-4
-    shared-slice-read-wide-2
-    wide-requires-2
+    two-ends-requires
     share-at-requires
     mul-rest
     shared-slice-read-rest

@@ -9,11 +9,11 @@ use Rattle.densest.proofs.gather.gather.Statement.{statement}
 use Rattle.densest.proofs.gather.gather.Tie as tie
 
 abbrev Inv-loop : tie.InvT-loop
-Inv-loop n m ends weights scope inner-ends₀ heavy₀ i₀ j₀ inner-ends inner-weights i j =
-    Ends n m ends × (m ≤ length weights) × Inner-passed m j i ends scope × Gathering j ends weights scope inner-ends₀ heavy₀ inner-ends inner-weights
+Inv-loop n m ends weights scope gathered₀ counts₀ i₀ j₀ gathered counts i j =
+    Ends n m ends × (m ≤ length weights) × Inner-passed m j i ends scope × Gathering j ends weights scope gathered₀ counts₀ gathered counts
 
 abbrev μ-loop : tie.MeasureT-loop
-μ-loop n m ends weights scope inner-ends₀ heavy₀ i₀ j₀ inner-ends inner-weights i j = m - j
+μ-loop n m ends weights scope gathered₀ counts₀ i₀ j₀ gathered counts i j = m - j
 
 -- the function's entry
 abbrev begin : tie.At-loop Inv-loop μ-loop → tie.Start Inv-loop μ-loop

@@ -10,11 +10,11 @@ use Rattle.densest.proofs.gather.keep_at_least.Statement.{statement}
 use Rattle.densest.proofs.gather.keep_at_least.Tie as tie
 
 abbrev Inv-loop : tie.InvT-loop
-Inv-loop n k cores high₀ v₀ kept v =
-    (v ≤ n) × (length kept ≡ length high₀) × ((i : ℕ) → i < v → getD kept i 0 ≡ cond (leb k (getD cores i 0)) (getD cores i 0) 0)
+Inv-loop n k cores kept₀ v₀ kept v =
+    (v ≤ n) × (length kept ≡ length kept₀) × ((i : ℕ) → i < v → getD kept i 0 ≡ cond (leb k (getD cores i 0)) (getD cores i 0) 0)
 
 abbrev μ-loop : tie.MeasureT-loop
-μ-loop n k cores high₀ v₀ kept v = n - v
+μ-loop n k cores kept₀ v₀ kept v = n - v
 
 loop-holds : tie.Need-loop-holds Inv-loop μ-loop
 loop-holds c = (omega arith, refl, λ i h. absurd (omega arith))

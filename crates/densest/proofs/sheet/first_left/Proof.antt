@@ -1,78 +1,27 @@
 -- `densest::sheet::first_left` meets its contract. Assumes nothing.
 use native.Mathlib.Omega.{arith}
-use Prim.Native.Nat.{_+_, _*_, _<_}
-use borrow.Author.Needs.{needs}
 use Rattle.densest.proofs.sheet.first_left.Statement.{statement}
 use Rattle.densest.proofs.sheet.first_left.Tie as tie
 
--- the modules of the pair at hand
-first-low : (c : tie.After-wide) → c .wide .result < c .before .before .before .before .args .n
-first-low c =
-    let s = c .before .before .before .before in
-    omega (arith, s .pre .0 .below (2 * s .args .j) (omega arith), c .wide .ensures)
-
-second-low : (c : tie.After-wide2) → c .wide2 .result < c .before .before .before .before .before .before .args .n
-second-low c =
-    let s = c .before .before .before .before .before .before in
-    omega (arith, s .pre .0 .below (2 * s .args .j + 1) (omega arith), c .wide2 .ensures)
-
-mul-wide : tie.Need-mul-wide
-mul-wide c = search needs
-
-mul-wide-2 : tie.Need-mul-wide-2
-mul-wide-2 c = search needs
-
-shared-slice-read-wide : tie.Need-shared-slice-read-wide
-shared-slice-read-wide c = search needs
-
-wide-requires : tie.Need-wide-requires
-wide-requires c κs = search needs
-
-mul-wide-3 : tie.Need-mul-wide-3
-mul-wide-3 c = search needs
-
-add-wide : tie.Need-add-wide
-add-wide c = search needs
-
-mul-wide-4 : tie.Need-mul-wide-4
-mul-wide-4 c = search needs
-
-shared-slice-read-wide-2 : tie.Need-shared-slice-read-wide-2
-shared-slice-read-wide-2 c = search needs
-
-wide-requires-2 : tie.Need-wide-requires-2
-wide-requires-2 c κs = search needs
+two-ends-requires : tie.Need-two-ends-requires
+two-ends-requires c κs = let p = c .before .before .pre in (p .0, p .1 .0)
 
 mul-result : tie.Need-mul-result
-mul-result c = let l = first-low (c .before .before) in let k = c .before .before .before .before .before .before .pre in omega arith
+mul-result c = omega (arith, c .two-ends .ensures)
 
 shared-slice-read-result : tie.Need-shared-slice-read-result
-shared-slice-read-result c = let l = first-low (c .before .before .before) in omega arith
+shared-slice-read-result c = omega (arith, c .before .two-ends .ensures)
 
 mul-result-2 : tie.Need-mul-result-2
-mul-result-2 c = let l = second-low (c .before) in omega arith
+mul-result-2 c = omega (arith, c .before .two-ends .ensures)
 
 shared-slice-read-result-2 : tie.Need-shared-slice-read-result-2
-shared-slice-read-result-2 c = let l = second-low (c .before .before) in omega arith
+shared-slice-read-result-2 c = omega (arith, c .before .before .two-ends .ensures)
 
 returns : tie.Need-returns
-returns c = rw (← c .before .before .before .before .wide .ensures, ← c .before .before .wide2 .ensures)
+returns c = let e = c .before .before .two-ends .ensures in rw (← e .first, ← e .second)
 
 pub first-left-spec : {M : Type 1} → statement M
 first-left-spec =
     tie.close
-    (tie.spec
-    mul-wide
-    mul-wide-2
-    shared-slice-read-wide
-    wide-requires
-    mul-wide-3
-    add-wide
-    mul-wide-4
-    shared-slice-read-wide-2
-    wide-requires-2
-    mul-result
-    shared-slice-read-result
-    mul-result-2
-    shared-slice-read-result-2
-    returns)
+    (tie.spec two-ends-requires mul-result shared-slice-read-result mul-result-2 shared-slice-read-result-2 returns)
