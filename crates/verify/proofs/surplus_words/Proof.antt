@@ -63,9 +63,13 @@ cross-difference-requires c κs =
     let k = c .before .before .before .before .before .before in
     let small : (x : List ℕ) (q : ℕ) → q ≡ counted (take (s .args .n) x) → q ≤ 512 = λ x q e. omega (arith, counted-small _ _ _ _ h x) in
     let few : (x : List ℕ) (p : ℕ) → p ≡ inside (list-in (s .args .n) (s .args .m) (s .args .ends .now) (s .args .weights .now)) x → p ≤ 4096000 =
-    λ x p e. omega (arith, inside-small _ _ _ _ h x) in (
-      (small _ _ (k .counted2 .ensures), few _ _ (c .before .before .inside-count .ensures)),
-      (few _ _ (c .inside-count2 .ensures), small _ _ (k .before .counted .ensures)),
+    λ x p e. omega (arith, inside-small _ _ _ _ h x) in
+    omega (
+      arith,
+      small _ _ (k .before .counted .ensures),
+      small _ _ (k .counted2 .ensures),
+      few _ _ (c .before .before .inside-count .ensures),
+      few _ _ (c .inside-count2 .ensures),
     )
 
 returns-3 : tie.Need-returns-3
