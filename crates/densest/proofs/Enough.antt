@@ -2,7 +2,7 @@
 --   drained-found     no load above p inside the core of p over q: what does not drain is the found group
 --   ratio-rises       ratios of groups that rise, rise by a whole number at n · n
 -- Assumes nothing.
-use mathlib.Core.Path.{_≡_, ap, subst}
+use mathlib.Core.Path.{_≡_, subst}
 use mathlib.Core.Bool.{true}
 use mathlib.Core.List.{List}
 use Prim.Native.Nat.{ℕ, suc, _*_, _/_, _≤_, _<_}

@@ -1,11 +1,11 @@
 -- Pairs gathered and their units put back.
---   rank-le, rank-below, ranked-total    numbers among the pairs gathered, and sums over them
---   Ranked, ranked-start, ranked-next    a loop that counts the pairs inside the scope
+--   inner-before-le, inner-before-less, inner-total                  numbers among the pairs gathered, and sums over them
+--   Inner-passed, passed-start, passed-next                          a loop that counts the pairs inside the scope
 --   Gathering, gathering-start, gathering-next, gathering-end        a loop that gathers
 --   Scattering, scattering-start, scattering-next, scattering-end    a loop that puts back
---   gathered-few, gathered-held          no more pairs are gathered than there are; they are held as a list is
---   scattered-held                       each module holds what it held among the pairs gathered
---   scattered-split                      a split of the pairs gathered is one of all pairs
+--   gathered-few, gathered-held    no more pairs are gathered than there are; they are held as a list is
+--   scattered-held                 each module holds what it held among the pairs gathered
+--   scattered-split                a split of the pairs gathered is one of all pairs
 -- Assumes nothing.
 use mathlib.Core.Path.{_≡_, refl, sym, ap, _∙_}
 use mathlib.Core.Bool.{Bool, true, false, cond}
@@ -22,8 +22,7 @@ use Rattle.theory.specs.Basics.{table}
 use Rattle.theory.specs.Lists.{Pair, is-list}
 use Rattle.theory.specs.Groups.{holds-pair}
 use Rattle.theory.specs.Splits.{units as units-at}
-use Rattle.theory.specs.Words.{word-pair, pairs-in, list-in}
-use Rattle.theory.specs.Words.{Held-words as Held}
+use Rattle.theory.specs.Words.{word-pair, pairs-in, list-in, Held-words}
 use Rattle.theory.proofs.Tests.{tests, no}
 use Rattle.slots.specs.Slots.{total, held-upto, held-by}
 use Rattle.slots.specs.Split.{scope-units, Split}
@@ -31,7 +30,8 @@ use Rattle.slots.proofs.Choice.{eq-or-ne}
 use Rattle.slots.proofs.Totals.{total-ext, total-next, total-first, total-const, total-upto, total-pairs}
 use Rattle.flow.specs.Flow.{Sub}
 use Rattle.densest.specs.Inner.{inner-pairs, inner-list}
-use Rattle.densest.specs.Gather.{inner-at, rank, Gathered, Put-back, Scattered}
+use Rattle.groups.specs.Pairs.{inner-at}
+use Rattle.densest.specs.Gather.{inner-before, Gathered, Put-back, Scattered}
 
 -- ---- ranks
 
@@ -46,18 +46,18 @@ one-more true r t f e = rw (one-add r) (omega arith)
 one-more false r t f e = rw (zero-add r) (omega arith)
 
 module _ (ends scope : List ℕ) where
-  rank-next : (j : ℕ) → rank ends scope (j + 1) ≡ cond (inner-at ends scope j) 1 0 + rank ends scope j
-  unfolding rank
-  rank-next j = total-next j _
+  inner-before-next : (j : ℕ) → inner-before ends scope (j + 1) ≡ cond (inner-at ends scope j) 1 0 + inner-before ends scope j
+  unfolding inner-before
+  inner-before-next j = total-next j _
 
-  pub rank-le : (j : ℕ) → rank ends scope j ≤ j
-  unfolding rank
-  rank-le j = omega (arith, total-const j 1 (λ i. cond (inner-at ends scope i) 1 0) (λ i h. bit-le (inner-at ends scope i)))
+  pub inner-before-le : (j : ℕ) → inner-before ends scope j ≤ j
+  unfolding inner-before
+  inner-before-le j = omega (arith, total-const j 1 (λ i. cond (inner-at ends scope i) 1 0) (λ i h. bit-le (inner-at ends scope i)))
 
   -- a pair inside the scope comes before those that follow it
-  pub rank-below : (k j : ℕ) → k < j → inner-at ends scope k ≡ true → rank ends scope k < rank ends scope j
-  unfolding rank
-  rank-below k j h e =
+  pub inner-before-less : (k j : ℕ) → k < j → inner-at ends scope k ≡ true → inner-before ends scope k < inner-before ends scope j
+  unfolding inner-before
+  inner-before-less k j h e =
       omega (
         arith,
         total-upto (k + 1) j (λ i. cond (inner-at ends scope i) 1 0) (omega arith),
@@ -66,30 +66,30 @@ module _ (ends scope : List ℕ) where
       )
 
   -- a sum over the pairs inside the scope, by their ranks, is the sum over all ranks
-  pub ranked-total : (m : ℕ) (f : ℕ → ℕ) →
-      total m (λ j. cond (inner-at ends scope j) (f (rank ends scope j)) 0) ≡ total (rank ends scope m) f
-  unfolding rank total
-  ranked-total zero f = refl
-  ranked-total (suc m) f = one-more (inner-at ends scope m) (rank ends scope m) _ f (ranked-total m f)
+  pub inner-total : (m : ℕ) (f : ℕ → ℕ) →
+      total m (λ j. cond (inner-at ends scope j) (f (inner-before ends scope j)) 0) ≡ total (inner-before ends scope m) f
+  unfolding inner-before total
+  inner-total zero f = refl
+  inner-total (suc m) f = one-more (inner-at ends scope m) (inner-before ends scope m) _ f (inner-total m f)
 
 -- ---- a loop over pairs that counts those inside the scope
 
 -- at pair j: i pairs were inside the scope
-pub record Ranked (m j i : ℕ) (ends scope : List ℕ) : Type 0 where
+pub record Inner-passed (m j i : ℕ) (ends scope : List ℕ) : Type 0 where
   pub low : j ≤ m
-  pub place : i ≡ rank ends scope j
+  pub place : i ≡ inner-before ends scope j
   pub behind : i ≤ j
 
-pub ranked-start : (m : ℕ) (ends scope : List ℕ) → Ranked m 0 0 ends scope
-unfolding rank total
-ranked-start m ends scope = record { low = omega arith; place = refl; behind = omega arith }
+pub passed-start : (m : ℕ) (ends scope : List ℕ) → Inner-passed m 0 0 ends scope
+unfolding inner-before total
+passed-start m ends scope = record { low = omega arith; place = refl; behind = omega arith }
 
-pub ranked-next : {m j i : ℕ} {ends scope : List ℕ} (b : Bool) (d : ℕ) → Ranked m j i ends scope → j < m → b ≡ inner-at ends scope j → d ≡ cond b 1 0 →
-    Ranked m (j + 1) (i + d) ends scope
-ranked-next {j = j} {i = i} {ends = ends} {scope = scope} b d c l eb ed =
-    let p : i + d ≡ rank ends scope (j + 1) =
-    omega (arith, c .place, ed ∙ ap {B = ℕ} (λ (z : Bool). cond z 1 0) eb, rank-next ends scope j) in
-    record { low = omega arith; place = p; behind = omega (arith, p, rank-le ends scope (j + 1)) }
+pub passed-next : {m j i : ℕ} {ends scope : List ℕ} (b : Bool) (d : ℕ) → Inner-passed m j i ends scope → j < m → b ≡ inner-at ends scope j → d ≡ cond b 1 0 →
+    Inner-passed m (j + 1) (i + d) ends scope
+passed-next {j = j} {i = i} {ends = ends} {scope = scope} b d c l eb ed =
+    let p : i + d ≡ inner-before ends scope (j + 1) =
+    omega (arith, c .place, ed ∙ ap {B = ℕ} (λ (z : Bool). cond z 1 0) eb, inner-before-next ends scope j) in
+    record { low = omega arith; place = p; behind = omega (arith, p, inner-before-le ends scope (j + 1)) }
 
 -- ---- the pairs gathered are the inner list
 
@@ -110,16 +110,16 @@ inner-table (suc m) h f s e =
     (inner-table m (λ i. h (suc i)) (λ i. f (cond (holds-pair s (h 0)) 1 0 + i)) s
     (λ j l y. ap f (sym (total-first j (λ i. cond (holds-pair s (h i)) 1 0))) ∙ e (suc j) (omega arith) y)))
 
--- ---- two words written
+-- ---- two words pair-stored
 
-record Written (xs ys : List ℕ) (i a b : ℕ) : Type 0 where
+record Pair-stored (xs ys : List ℕ) (i a b : ℕ) : Type 0 where
   long : length ys ≡ length xs
   first : getD ys (2 * i) 0 ≡ a
   second : getD ys (2 * i + 1) 0 ≡ b
   others : (k : ℕ) → (k ≡ i → ⊥) → (getD ys (2 * k) 0 ≡ getD xs (2 * k) 0) × (getD ys (2 * k + 1) 0 ≡ getD xs (2 * k + 1) 0)
 
-written : (xs : List ℕ) (i a b : ℕ) → 2 * i + 1 < length xs → Written xs (set (set xs (2 * i) a) (2 * i + 1) b) i a b
-written xs i a b l =
+pair-stored : (xs : List ℕ) (i a b : ℕ) → 2 * i + 1 < length xs → Pair-stored xs (set (set xs (2 * i) a) (2 * i + 1) b) i a b
+pair-stored xs i a b l =
     let one = set xs (2 * i) a in
     let e : length one ≡ length xs = length-set xs (2 * i) a in
     let el : (s : ℕ) → (s ≡ 2 * i → ⊥) → (s ≡ 2 * i + 1 → ⊥) → getD (set one (2 * i + 1) b) s 0 ≡ getD xs s 0 =
@@ -134,66 +134,71 @@ written xs i a b l =
 -- ---- gathering
 
 -- the pairs below j are gathered
-pub record Gathering (j : ℕ) (ends weights scope few₀ heavy₀ few heavy : List ℕ) : Type 0 where
-  pub few-long : length few ≡ length few₀
-  pub heavy-long : length heavy ≡ length heavy₀
-  pub pairs : (k : ℕ) → k < j → inner-at ends scope k ≡ true → word-pair few heavy (rank ends scope k) ≡ word-pair ends weights k
+pub record Gathering (j : ℕ) (ends weights scope inner-ends₀ inner-weights₀ inner-ends inner-weights : List ℕ) : Type 0 where
+  pub ends-long : length inner-ends ≡ length inner-ends₀
+  pub weights-long : length inner-weights ≡ length inner-weights₀
+  pub pairs : (k : ℕ) → k < j → inner-at ends scope k ≡ true → word-pair inner-ends inner-weights (inner-before ends scope k) ≡ word-pair ends weights k
 
-pub gathering-start : (ends weights scope few heavy : List ℕ) → Gathering 0 ends weights scope few heavy few heavy
-gathering-start ends weights scope few heavy = record { few-long = refl; heavy-long = refl; pairs = λ k h. absurd (omega arith) }
+pub gathering-start : (ends weights scope inner-ends inner-weights : List ℕ) → Gathering 0 ends weights scope inner-ends inner-weights inner-ends inner-weights
+gathering-start ends weights scope inner-ends inner-weights = record { ends-long = refl; weights-long = refl; pairs = λ k h. absurd (omega arith) }
 
--- pair j is written at place i
-pub gathering-next : {m j i : ℕ} {ends weights scope few₀ heavy₀ few heavy : List ℕ} → Ranked m j i ends scope → j < m → 2 * m ≤ length few₀ →
-    m ≤ length heavy₀ → Gathering j ends weights scope few₀ heavy₀ few heavy →
-    Gathering (j + 1) ends weights scope few₀ heavy₀ (set (set few (2 * i) (getD ends (2 * j) 0)) (2 * i + 1) (getD ends (2 * j + 1) 0))
-    (set heavy i (getD weights j 0))
+-- pair j is pair-stored at place i
+pub gathering-next : {m j i : ℕ} {ends weights scope inner-ends₀ inner-weights₀ inner-ends inner-weights : List ℕ} →
+    Inner-passed m j i ends scope → j < m → 2 * m ≤ length inner-ends₀ → m ≤ length inner-weights₀ →
+    Gathering j ends weights scope inner-ends₀ inner-weights₀ inner-ends inner-weights →
+    Gathering (j + 1) ends weights scope inner-ends₀ inner-weights₀ (set (set inner-ends (2 * i) (getD ends (2 * j) 0)) (2 * i + 1) (getD ends (2 * j + 1) 0))
+    (set inner-weights i (getD weights j 0))
 unfolding word-pair
-gathering-next {m} {j} {i} {ends} {weights} {scope} {few₀} {heavy₀} {few} {heavy} c l lf lh g =
-    let fl = g .few-long in
-    let hl = g .heavy-long in
+gathering-next {m} {j} {i} {ends} {weights} {scope} {inner-ends₀} {inner-weights₀} {inner-ends} {inner-weights} c l lf lh g =
+    let fl = g .ends-long in
+    let hl = g .weights-long in
     let il = c .behind in
-    let f = written few i (getD ends (2 * j) 0) (getD ends (2 * j + 1) 0) (omega arith) in
+    let f = pair-stored inner-ends i (getD ends (2 * j) 0) (getD ends (2 * j + 1) 0) (omega arith) in
     record {
-      few-long = f .long ∙ fl;
-      heavy-long = length-set heavy i (getD weights j 0) ∙ hl;
+      ends-long = f .long ∙ fl;
+      weights-long = length-set inner-weights i (getD weights j 0) ∙ hl;
       pairs = λ k h y. ⊎-elim
-          (λ (z : k ≡ j). rw (z, ← c .place) (cc (f .first, f .second, getD-set-same heavy i (getD weights j 0) 0 (omega arith))))
+          (λ (z : k ≡ j). rw (z, ← c .place) (cc (f .first, f .second, getD-set-same inner-weights i (getD weights j 0) 0 (omega arith))))
           (λ ne.
-          let b : rank ends scope k < i = omega (arith, c .place, rank-below ends scope k j (omega arith) y) in
-          let o = f .others (rank ends scope k) (λ z. omega arith) in
-          let w = getD-set-other heavy i (rank ends scope k) (getD weights j 0) 0 (λ z. omega arith) in
+          let b : inner-before ends scope k < i = omega (arith, c .place, inner-before-less ends scope k j (omega arith) y) in
+          let o = f .others (inner-before ends scope k) (λ z. omega arith) in
+          let w = getD-set-other inner-weights i (inner-before ends scope k) (getD weights j 0) 0 (λ z. omega arith) in
           cc (o .0, o .1, w, g .pairs k (omega arith) y))
           (eq-or-ne k j);
     }
 
-pub gathering-end : {m j i : ℕ} {ends weights scope few₀ heavy₀ few heavy : List ℕ} (n : ℕ) → Ranked m j i ends scope → m ≤ j →
-    Gathering j ends weights scope few₀ heavy₀ few heavy → Gathered n m ends weights scope few heavy i
-unfolding list-in pairs-in inner-list rank holds-pair word-pair
-gathering-end {m} {j} {i} {ends} {weights} {scope} {few₀} {heavy₀} {few} {heavy} n c h g =
+pub gathering-end : {m j i : ℕ} {ends weights scope inner-ends₀ inner-weights₀ inner-ends inner-weights : List ℕ} (n : ℕ) →
+    Inner-passed m j i ends scope → m ≤ j → Gathering j ends weights scope inner-ends₀ inner-weights₀ inner-ends inner-weights → Gathered n m ends weights scope inner-ends inner-weights i
+unfolding list-in pairs-in inner-list inner-before holds-pair word-pair
+gathering-end {m} {j} {i} {ends} {weights} {scope} {inner-ends₀} {inner-weights₀} {inner-ends} {inner-weights} n c h g =
     let e : j ≡ m = omega (arith, c .low) in
-    let p : i ≡ rank ends scope m = c .place ∙ ap (rank ends scope) e in
-    let all : (k : ℕ) → k < m → inner-at ends scope k ≡ true → word-pair few heavy (rank ends scope k) ≡ word-pair ends weights k =
+    let p : i ≡ inner-before ends scope m = c .place ∙ ap (inner-before ends scope) e in
+    let all : (k : ℕ) → k < m → inner-at ends scope k ≡ true → word-pair inner-ends inner-weights (inner-before ends scope k) ≡ word-pair ends weights k =
     λ k l. g .pairs k (omega arith) in
     record {
       count = p;
-      list = rw p (ap (λ (ps : List Pair). record { n = n; pairs = ps }) (inner-table m (word-pair ends weights) (word-pair few heavy) scope all));
+      list =
+          rw p
+          (ap (λ (ps : List Pair). record { n = n; pairs = ps })
+          (inner-table m (word-pair ends weights) (word-pair inner-ends inner-weights) scope all));
       pairs = all;
     }
 
 -- no more pairs than there are
-pub gathered-few : {n m r : ℕ} {ends weights scope few heavy : List ℕ} → Gathered n m ends weights scope few heavy r → r ≤ m
-gathered-few {m = m} {ends = ends} {scope = scope} g = omega (arith, g .count, rank-le ends scope m)
+pub gathered-few : {n m r : ℕ} {ends weights scope inner-ends inner-weights : List ℕ} → Gathered n m ends weights scope inner-ends inner-weights r → r ≤ m
+gathered-few {m = m} {ends = ends} {scope = scope} g = omega (arith, g .count, inner-before-le ends scope m)
 
 -- where they are a list, they are held as one
-pub gathered-held : {n m r : ℕ} {ends weights scope few heavy : List ℕ} → Gathered n m ends weights scope few heavy r →
-    is-list (inner-list (list-in n m ends weights) scope) ≡ true → 2 * m ≤ length few → m ≤ length heavy → Held n r few heavy
+pub gathered-held : {n m r : ℕ} {ends weights scope inner-ends inner-weights : List ℕ} → Gathered n m ends weights scope inner-ends inner-weights r →
+    is-list (inner-list (list-in n m ends weights) scope) ≡ true → 2 * m ≤ length inner-ends → m ≤ length inner-weights →
+    Held-words n r inner-ends inner-weights
 gathered-held g l lf lh =
     let k = gathered-few g in
     record { listed = rw (g .list) l; ends-long = omega arith; weights-long = omega arith }
 
 -- ---- putting back
 
--- the slots of the pairs below j are written
+-- the slots of the pairs below j are pair-stored
 pub record Scattering (j : ℕ) (ends scope units hold₀ hold : List ℕ) : Type 0 where
   pub long : length hold ≡ length hold₀
   pub slots : (k : ℕ) → k < j → Put-back ends scope units hold k
@@ -202,12 +207,12 @@ pub scattering-start : (ends scope units hold : List ℕ) → Scattering 0 ends 
 scattering-start ends scope units hold = record { long = refl; slots = λ k h. absurd (omega arith) }
 
 -- pair j gets x and y
-pub scattering-next : {m j i : ℕ} {ends scope units hold₀ hold : List ℕ} (b : Bool) (x y : ℕ) → Ranked m j i ends scope → j < m → 2 * m ≤ length hold₀ →
+pub scattering-next : {m j i : ℕ} {ends scope units hold₀ hold : List ℕ} (b : Bool) (x y : ℕ) → Inner-passed m j i ends scope → j < m → 2 * m ≤ length hold₀ →
     b ≡ inner-at ends scope j → x ≡ cond b (getD units (2 * i) 0) 0 → y ≡ cond b (getD units (2 * i + 1) 0) 0 →
     Scattering j ends scope units hold₀ hold → Scattering (j + 1) ends scope units hold₀ (set (set hold (2 * j) x) (2 * j + 1) y)
 scattering-next {j = j} {hold = hold} b x y c l lh eb ex ey g =
     let hl = g .long in
-    let f = written hold j x y (omega arith) in
+    let f = pair-stored hold j x y (omega arith) in
     record {
       long = f .long ∙ hl;
       slots = λ k h. ⊎-elim
@@ -216,7 +221,7 @@ scattering-next {j = j} {hold = hold} b x y c l lh eb ex ey g =
           (eq-or-ne k j);
     }
 
-pub scattering-end : {m j i : ℕ} {ends scope units hold₀ hold : List ℕ} → Ranked m j i ends scope → m ≤ j → 2 * m ≤ length hold₀ →
+pub scattering-end : {m j i : ℕ} {ends scope units hold₀ hold : List ℕ} → Inner-passed m j i ends scope → m ≤ j → 2 * m ≤ length hold₀ →
     Scattering j ends scope units hold₀ hold → Scattered m ends scope units hold
 scattering-end c h l g = record { long = omega (arith, g .long); slots = λ k b. g .slots k (omega arith) }
 
@@ -241,56 +246,58 @@ part-only true c x u f h = f refl
 part-only false true x u f h = no (h refl)
 part-only false false x u f h = refl
 
-module _ (n m r : ℕ) (ends weights scope few heavy units hold : List ℕ) (g : Gathered n m ends weights scope few heavy r)
+module _ (n m r : ℕ) (ends weights scope inner-ends inner-weights units hold : List ℕ) (g : Gathered n m ends weights scope inner-ends inner-weights r)
     (s : Scattered m ends scope units hold) where
   -- what a module holds in the slots of pair j, and in those of the pair gathered from it
   slots-of : (es hs : List ℕ) → (v j : ℕ) → ℕ
   slots-of es hs v j = cond (eqb (getD es (2 * j) 0) v) (getD hs (2 * j) 0) 0 + cond (eqb (getD es (2 * j + 1) 0) v) (getD hs (2 * j + 1) 0) 0
 
-  held-pair : (v j : ℕ) → j < m → slots-of ends hold v j ≡ cond (inner-at ends scope j) (slots-of few units v (rank ends scope j)) 0
+  held-pair : (v j : ℕ) → j < m → slots-of ends hold v j ≡ cond (inner-at ends scope j) (slots-of inner-ends units v (inner-before ends scope j)) 0
   unfolding slots-of word-pair
   held-pair v j h =
-      let k = rank ends scope j in
+      let k = inner-before ends scope j in
       let b = inner-at ends scope j in
       omega (
         arith,
-        held-end b (getD few (2 * k) 0) (getD ends (2 * j) 0) v (getD units (2 * k) 0) _ (λ y. ap (λ (p : Pair). p .a) (g .pairs j h y)) (s .slots j h .0),
-        held-end b (getD few (2 * k + 1) 0) (getD ends (2 * j + 1) 0) v (getD units (2 * k + 1) 0) _ (λ y. ap (λ (p : Pair). p .b) (g .pairs j h y))
-            (s .slots j h .1),
-        cond-add b (cond (eqb (getD few (2 * k) 0) v) (getD units (2 * k) 0) 0) (cond (eqb (getD few (2 * k + 1) 0) v) (getD units (2 * k + 1) 0) 0),
+        held-end b (getD inner-ends (2 * k) 0) (getD ends (2 * j) 0) v (getD units (2 * k) 0) _
+            (λ y. ap (λ (p : Pair). p .a) (g .pairs j h y)) (s .slots j h .0),
+        held-end b (getD inner-ends (2 * k + 1) 0) (getD ends (2 * j + 1) 0) v (getD units (2 * k + 1) 0) _
+            (λ y. ap (λ (p : Pair). p .b) (g .pairs j h y)) (s .slots j h .1),
+        cond-add b (cond (eqb (getD inner-ends (2 * k) 0) v) (getD units (2 * k) 0) 0)
+            (cond (eqb (getD inner-ends (2 * k + 1) 0) v) (getD units (2 * k + 1) 0) 0),
       )
 
   -- each module holds what it held among the pairs gathered
-  pub scattered-held : (v : ℕ) → held-by m ends hold v ≡ held-by r few units v
+  pub scattered-held : (v : ℕ) → held-by m ends hold v ≡ held-by r inner-ends units v
   unfolding held-upto slots-of
   scattered-held v =
       total-pairs m (λ k. cond (eqb (getD ends k 0) v) (getD hold k 0) 0)
-      ∙ total-ext m (slots-of ends hold v) (λ j. cond (inner-at ends scope j) (slots-of few units v (rank ends scope j)) 0) (held-pair v)
-      ∙ ranked-total ends scope m (slots-of few units v)
-      ∙ ap {B = ℕ} (λ (k : ℕ). total k (slots-of few units v)) (sym (g .count))
-      ∙ sym (total-pairs r (λ k. cond (eqb (getD few k 0) v) (getD units k 0) 0))
+      ∙ total-ext m (slots-of ends hold v) (λ j. cond (inner-at ends scope j) (slots-of inner-ends units v (inner-before ends scope j)) 0) (held-pair v)
+      ∙ inner-total ends scope m (slots-of inner-ends units v)
+      ∙ ap {B = ℕ} (λ (k : ℕ). total k (slots-of inner-ends units v)) (sym (g .count))
+      ∙ sym (total-pairs r (λ k. cond (eqb (getD inner-ends k 0) v) (getD units k 0) 0))
 
   -- the units of pair j
   whole : (j : ℕ) → j < m → getD hold (2 * j) 0 + getD hold (2 * j + 1) 0
-      ≡ cond (inner-at ends scope j) (getD units (2 * rank ends scope j) 0 + getD units (2 * rank ends scope j + 1) 0) 0
+      ≡ cond (inner-at ends scope j) (getD units (2 * inner-before ends scope j) 0 + getD units (2 * inner-before ends scope j + 1) 0) 0
   whole j h =
       omega (
         arith,
         s .slots j h,
-        cond-add (inner-at ends scope j) (getD units (2 * rank ends scope j) 0) (getD units (2 * rank ends scope j + 1) 0),
+        cond-add (inner-at ends scope j) (getD units (2 * inner-before ends scope j) 0) (getD units (2 * inner-before ends scope j + 1) 0),
       )
 
   -- a pair inside the scope is among those gathered
-  kept-low : (j : ℕ) → j < m → inner-at ends scope j ≡ true → rank ends scope j < r
-  kept-low j h y = omega (arith, g .count, rank-below ends scope j m h y)
+  kept-low : (j : ℕ) → j < m → inner-at ends scope j ≡ true → inner-before ends scope j < r
+  kept-low j h y = omega (arith, g .count, inner-before-less ends scope j m h y)
 
   -- a split of the pairs gathered, inside a part of the scope, is a split of all pairs
-  pub scattered-split : (q : ℕ) (part : List ℕ) → Sub part scope → Split r q few heavy part units → Split m q ends weights part hold
+  pub scattered-split : (q : ℕ) (part : List ℕ) → Sub part scope → Split r q inner-ends inner-weights part units → Split m q ends weights part hold
   unfolding scope-units holds-pair word-pair
   scattered-split q part sub sp = record {
     long = s .long;
     whole = λ j h. whole j h
         ∙ part-only (inner-at ends scope j) (holds-pair part (word-pair ends weights j)) _ (units-at q (word-pair ends weights j))
-        (λ y. sp .whole (rank ends scope j) (kept-low j h y) ∙ ap {B = ℕ} (λ (p : Pair). cond (holds-pair part p) (units-at q p) 0) (g .pairs j h y))
+        (λ y. sp .whole (inner-before ends scope j) (kept-low j h y) ∙ ap {B = ℕ} (λ (p : Pair). cond (holds-pair part p) (units-at q p) 0) (g .pairs j h y))
         (λ y. let y′ = simp tests at y in simp tests (sub _ (y′ .0), sub _ (y′ .1)));
   }

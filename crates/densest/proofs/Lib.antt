@@ -5,9 +5,8 @@ pub mod Units
 pub mod Loads
 pub mod Answers
 pub mod Enough
-pub mod Counts
 pub mod Rounds
 pub mod Sheets
 pub mod Solving
 pub mod Gathering
-pub mod Narrowing
+pub mod InnerSearch

@@ -1,7 +1,7 @@
 -- Units in slots as shares: loads of a split.
---   load-table       a load as a sum over the pairs
---   shares-table     shares that are in range
---   Held, load-held  where a share is what the pair's first slot holds, a load is what the module's slots hold
+--   load-table               a load as a sum over the pairs
+--   shares-table             shares that are in range
+--   Units-held, load-held    where a share is what the pair's first slot holds, a load is what the module's slots hold
 -- Assumes nothing.
 use mathlib.Core.Path.{_≡_, refl, sym, ap, _∙_}
 use mathlib.Core.Bool.{Bool, true, false, cond}
@@ -42,13 +42,13 @@ received-slots a b v u x y ne e = go (eqb a v) (eqb b v) refl refl
     go false false i k = refl
 
 -- pair j of h lies in slots 2j and 2j + 1, which hold its units
-pub record Held (q m : ℕ) (h : ℕ → Pair) (ends hold : List ℕ) : Type 0 where
+pub record Units-held (q m : ℕ) (h : ℕ → Pair) (ends hold : List ℕ) : Type 0 where
   pub first : (j : ℕ) → j < m → h j .a ≡ getD ends (2 * j) 0
   pub second : (j : ℕ) → j < m → h j .b ≡ getD ends (2 * j + 1) 0
   pub apart : (j : ℕ) → j < m → h j .a ≡ h j .b → ⊥
   pub whole : (j : ℕ) → j < m → getD hold (2 * j) 0 + getD hold (2 * j + 1) 0 ≡ units q (h j)
 
-pub load-held : (q v m : ℕ) (h : ℕ → Pair) (ends hold : List ℕ) → Held q m h ends hold →
+pub load-held : (q v m : ℕ) (h : ℕ → Pair) (ends hold : List ℕ) → Units-held q m h ends hold →
     load-of q v (table m h) (table m (λ j. getD hold (2 * j) 0)) ≡ held-by m ends hold v
 unfolding held-upto received
 load-held q v m h ends hold w =

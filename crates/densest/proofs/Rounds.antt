@@ -1,5 +1,6 @@
 -- What a round learns, and what all rounds do.
 --   Bounded, candidate-bounded    p and q of a candidate are small
+--   core-marked                   a scope by core numbers is the core of p over q rounded up
 --   group-candidate               a group's own ratio is one
 --   round-of                      a round, from what `flow` answers
 --   Going, going-on               what holds from round to round
@@ -8,27 +9,31 @@
 use mathlib.Core.Path.{_≡_, refl, sym, ap, _∙_}
 use mathlib.Core.Bool.{Bool, true, false, cond, _&&_}
 use mathlib.Core.List.{List}
-use Prim.Native.Nat.{ℕ, suc, _*_, _-_, _/_, _≤_, _<_}
+use Prim.Native.Nat.{ℕ, zero, suc, _*_, _-_, _/_, _≤_, _<_}
 use native.Mathlib.Omega.{arith}
 use native.Mathlib.Nat.{mul-le-mul-right, div-le-self}
-use lib.ListN.{length, replicate}
-use lib.Dec.{eqb}
+use lib.Dec.{leb, eqb}
+use lib.ListN.{length, getD, replicate}
+use lib.Seq.{ext-getD}
+use Rattle.theory.specs.Basics.{mark}
 use Rattle.theory.specs.Lists.{Pairs, is-list}
-use Rattle.theory.specs.Groups.{size, is-group, inside}
+use Rattle.theory.specs.Groups.{is-in, size, is-group, inside}
 use Rattle.theory.specs.Cores.{core}
 use Rattle.theory.specs.Splits.{rounded-up}
-use Rattle.theory.specs.Words.{list-in}
+use Rattle.theory.specs.Promise.{Core-members}
+use Rattle.theory.specs.Words.{list-in, Held-words}
 use Rattle.theory.proofs.Tests.{tests}
 use Rattle.theory.proofs.Lists.{listed}
 use Rattle.theory.proofs.Groups.{size-pos, group-bits}
+use Rattle.theory.proofs.Sums.{byte-le}
+use Rattle.theory.proofs.Cores.{core-bits, core-members}
 use Rattle.theory.proofs.Bounds.{inside-bound, size-le-length}
 use Rattle.slots.specs.Slots.{Room}
 use Rattle.slots.specs.Split.{Split}
 use Rattle.slots.proofs.Held.{zero-at}
 use Rattle.slots.proofs.Words.{list-weights}
 use Rattle.flow.specs.Flow.{Flowed, Largest}
-use Rattle.theory.specs.Words.{Held-words as Held}
-use Rattle.densest.specs.Search.{Candidate, Cored, Link-room, Round, Searched}
+use Rattle.densest.specs.Search.{Candidate, Cored, Link-room, Round, Group-found}
 use Rattle.densest.proofs.Units.{split-kept, split-room, own-none}
 use Rattle.densest.proofs.Answers.{denser-group}
 use Rattle.densest.proofs.Enough.{drained-found, ratio-rises}
@@ -40,6 +45,33 @@ pub record Bounded (p q : ℕ) : Type 0 where
 
 pub candidate-bounded : (g : Pairs) (p q : ℕ) → is-list g ≡ true → Candidate g p q → Bounded p q
 candidate-bounded g p q l c = record { few = c .few; some = c .some; small = omega (arith, c .small, listed g l .few) }
+
+-- ---- the scope
+
+-- a byte of at most 1 is the test that it is 1
+byte-mark : (x : ℕ) → x ≤ 1 → x ≡ mark (eqb x 1)
+unfolding mark
+byte-mark zero h = refl
+byte-mark (suc zero) h = refl
+byte-mark (suc (suc x)) h = absurd (omega arith)
+
+-- bytes by core numbers are a core
+pub core-marked : (n m k p q : ℕ) (ends weights cores scope : List ℕ) → Held-words n m ends weights → Cored (list-in n m ends weights) cores →
+    length scope ≡ n → k ≡ rounded-up p q → ((v : ℕ) → v < n → getD scope v 0 ≡ mark (leb k (getD cores v 0))) →
+    scope ≡ core (list-in n m ends weights) (rounded-up p q)
+unfolding list-in is-in Core-members
+core-marked n m k p q ends weights cores scope held cored long order marked =
+    let g = list-in n m ends weights in
+    let members = core g k in
+    let same : scope ≡ members = ext-getD 0 scope members (long ∙ sym (core-bits g k .0)) (λ v b.
+    let low : v < n = omega arith in
+    marked v low
+    ∙ ap (λ (x : ℕ). mark (leb k x)) (cored .numbers v low)
+    ∙ ap mark (sym (core-members g k v (held .listed) low))
+    ∙ sym (byte-mark (getD members v 0) (byte-le members v (core-bits g k .1)))) in
+    same ∙ ap (core g) order
+
+-- ---- a round
 
 -- a group's own ratio
 pub group-candidate : (g : Pairs) (s : List ℕ) (p q : ℕ) → is-list g ≡ true → is-group g s ≡ true → p ≡ inside g s → q ≡ size s → Candidate g p q
@@ -53,7 +85,7 @@ group-candidate g s p q l h ep eq =
       small = omega (arith, b .0, size-le-length s (b .1));
     }
 
-module _ (n m p q : ℕ) (ends weights : List ℕ) (h : Held n m ends weights) (c : Candidate (list-in n m ends weights) p q) where
+module _ (n m p q : ℕ) (ends weights : List ℕ) (h : Held-words n m ends weights) (c : Candidate (list-in n m ends weights) p q) where
   pub round-of : (k : ℕ) (scope hold hold' t : List ℕ) (r : Bool) → scope ≡ core (list-in n m ends weights) (rounded-up p q) →
       Split m q ends weights scope hold → Flowed n m p (replicate {A = ℕ} k 0) scope ends hold hold' t r → Round n m p q ends weights scope hold' t r
   unfolding list-in
@@ -67,7 +99,9 @@ module _ (n m p q : ℕ) (ends weights : List ℕ) (h : Held n m ends weights) (
       record {
         scope-is = e;
         split = sp';
-        room = split-room n m q ends weights scope hold' sp' (candidate-bounded g p q (h .listed) c .small) (list-weights n m ends weights (h .listed) (h .weights-long));
+        room =
+            split-room n m q ends weights scope hold' sp' (candidate-bounded g p q (h .listed) c .small)
+            (list-weights n m ends weights (h .listed) (h .weights-long));
         good = λ z v b. omega (arith, f .good z v b);
         found = λ z.
             let lar : Largest n m p own (core g (rounded-up p q)) ends hold' t = rw e at (f .largest z) in
@@ -81,14 +115,14 @@ module _ (n m p q : ℕ) (ends weights : List ℕ) (h : Held n m ends weights) (
 
 -- p over q is a group's ratio; once a round has found a split, the found group's
 pub record Going (n m : ℕ) (ends weights cores first next scope hold group : List ℕ) (p q : ℕ) (done settled : Bool) : Type 0 where
-  pub held : Held n m ends weights
+  pub held : Held-words n m ends weights
   pub cored : Cored (list-in n m ends weights) cores
   pub linked : Link-room n m first next
   pub scope-long : length scope ≡ n
   pub group-long : length group ≡ n
   pub room : Room m hold
   pub at-hand : Candidate (list-in n m ends weights) p q
-  pub ended : done ≡ true → Searched n m ends weights scope hold group p q settled
+  pub ended : done ≡ true → Group-found n m ends weights scope hold group p q settled
 
 -- rounds left at most, by the ratio at n · n
 unfoldable pub steps : (n p q : ℕ) → (done : Bool) → ℕ
@@ -107,7 +141,8 @@ size-most n m ends weights s h =
     let b = group-bits (list-in n m ends weights) s h in omega (arith, b .0, size-le-length s (b .1))
 
 module _ (n m : ℕ) (ends weights cores first next scope hold group scope' hold' group' : List ℕ) (p q p' q' : ℕ)
-    (done settled r t : Bool) (s : Going n m ends weights cores first next scope hold group p q done settled) (d : Round n m p q ends weights scope' hold' group' r)
+    (done settled r t : Bool) (s : Going n m ends weights cores first next scope hold group p q done settled)
+    (d : Round n m p q ends weights scope' hold' group' r)
     (hp : p' ≡ inside (list-in n m ends weights) group') (hq : q' ≡ size group') where
   -- a round at the ratio that it leaves
   round-again : t ≡ (eqb p' p && eqb q' q) → r ≡ true → t ≡ true → Round n m p' q' ends weights scope' hold' group' true

@@ -1,5 +1,6 @@
 -- The load sheet: units inside the core, the other pairs wholly with the end that left first.
 --   only-table, merge-table           shares inside the core and all shares, as tables
+--   sheet-share-is                    a pair's share, by its parts
 --   Sheet                             what the last round and the leaving places give
 --   sheet-optimal, sheet-outside      such a sheet is the split that solve hands out
 -- Assumes nothing.
@@ -17,7 +18,7 @@ use Rattle.theory.specs.Groups.{is-in, size, holds-pair, inside, Found}
 use Rattle.theory.specs.Leaving.{leaving, before}
 use Rattle.theory.specs.Cores.{core, core-number}
 use Rattle.theory.specs.Splits.{units, shares-good, is-split, load-of, greatest-load, core-order, pair-in-core, wholly-first, outside-good}
-use Rattle.theory.specs.Words.{word-pair, pairs-in, list-in}
+use Rattle.theory.specs.Words.{word-pair, pairs-in, list-in, Held-words}
 use Rattle.theory.specs.Promise.{Optimal, Core-members}
 use Rattle.theory.proofs.Tables.{length-table, table-at, table-ext}
 use Rattle.theory.proofs.Groups.{found-densest}
@@ -27,8 +28,8 @@ use Rattle.theory.proofs.Splits.{only, merge, split-with}
 use Rattle.slots.specs.Slots.{held-by}
 use Rattle.slots.specs.Split.{scope-units, Split}
 use Rattle.slots.proofs.Words.{good-pair}
-use Rattle.theory.specs.Words.{Held-words as Held}
-use Rattle.densest.specs.Search.{sheet-share}
+use Rattle.groups.specs.Pairs.{inner-at}
+use Rattle.densest.specs.Search.{left-first, sheet-share}
 use Rattle.densest.proofs.Loads.{load-held, shares-table}
 
 -- ---- shares as tables
@@ -54,9 +55,16 @@ cond-times false w q = omega arith
 
 -- ---- the sheet
 
+-- a pair's share, by its parts
+pub sheet-share-is : (q : ℕ) (ends weights scope place hold : List ℕ) (j x y : ℕ) (b d : Bool) →
+    b ≡ left-first ends place j → x ≡ cond b (getD weights j 0 * q) 0 →
+    d ≡ inner-at ends scope j → y ≡ cond d (getD hold (2 * j) 0) x → y ≡ sheet-share q ends weights scope place hold j
+unfolding sheet-share holds-pair word-pair units
+sheet-share-is q ends weights scope place hold j x y b d e f h k = rw (← h, ← e, ← f) k
+
 -- t is the found group; the scope is its core, hold a split inside it with no load above t's inside count, and shares the sheet of these
 pub record Sheet (n m : ℕ) (ends weights scope place hold t shares : List ℕ) : Type 0 where
-  pub held : Held n m ends weights
+  pub held : Held-words n m ends weights
   pub found : Found (list-in n m ends weights) t
   pub scope-is : scope ≡ core (list-in n m ends weights) (core-order (list-in n m ends weights) t)
   pub split : Split m (size t) ends weights scope hold
@@ -114,8 +122,7 @@ module _ (n m : ℕ) (ends weights scope place hold t shares : List ℕ) (d : Sh
   unfolding sheet-share outer wholly-first list at word-pair
   share-is j h =
       let w = good-pair n m ends weights (d .held .listed) j h in
-      let first : Bool = ltb (getD place (getD ends (2 * j) 0) 0) (getD place (getD ends (2 * j + 1) 0) 0) in
-      ap (λ (c : Bool). cond c (getD hold (2 * j) 0) (cond first (units (size t) (at j)) 0)) (scope-inner j h)
+      ap (λ (c : Bool). cond c (getD hold (2 * j) 0) (cond (left-first ends place j) (units (size t) (at j)) 0)) (scope-inner j h)
       ∙ ap (λ (c : Bool). cond (inner (at j)) (getD hold (2 * j) 0) (cond c (units (size t) (at j)) 0))
       (sym (d .by-place (getD ends (2 * j) 0) (getD ends (2 * j + 1) 0) (omega arith) (w .below)))
 

@@ -1,10 +1,9 @@
 -- From the leaving order to the answer.
 --   peeled-cored, peeled-candidate, peeled-by-place    what `peel` gives the search
---   peelable-zeros, room-zeros    buffers of zeros are long enough
---   searched-candidate, searched-bounded    the found group's inside count and size
---   searched-last                 the search with a last round: that answers true
---   solved-of                     the answer
---   solves-of                     where it stands in the buffers
+--   peelable-zeros, room-zeros                         buffers of zeros are long enough
+--   found-candidate, found-bounded                     the found group's inside count and size
+--   found-settled                                      the search with a last round: that answers true
+--   solution-of, solves-of                             the answer, and where it stands in the buffers
 -- Assumes nothing.
 use mathlib.Core.Path.{_≡_, refl, sym, ap, _∙_}
 use mathlib.Core.Bool.{Bool, true, false}
@@ -20,7 +19,7 @@ use Rattle.theory.specs.Groups.{size, inside, at-most}
 use Rattle.theory.specs.Leaving.{leaving, remainder, before}
 use Rattle.theory.specs.Cores.{core, core-number, core-numbers}
 use Rattle.theory.specs.Splits.{rounded-up}
-use Rattle.theory.specs.Words.{word-pair, pairs-in, list-in}
+use Rattle.theory.specs.Words.{word-pair, pairs-in, list-in, Held-words}
 use Rattle.theory.specs.Promise.{Found-alone}
 use Rattle.theory.proofs.Tests.{tests}
 use Rattle.theory.proofs.Tables.{length-table, table-at}
@@ -28,15 +27,14 @@ use Rattle.theory.proofs.Lists.{listed}
 use Rattle.theory.proofs.Groups.{found-alone}
 use Rattle.slots.specs.Slots.{mate, Room}
 use Rattle.slots.proofs.Held.{zero-at}
-use Rattle.theory.specs.Words.{Held-words as Held}
 use Rattle.peel.specs.Peel.{Peelable, Peels}
 use Rattle.peel.specs.Promise.{Peel-promised}
 use Rattle.peel.specs.declared.Remainder.{Remainder}
 use Rattle.peel.proofs.Leavers.{remainder-group}
 use Rattle.peel.proofs.Promises.{peel-promised}
 use Rattle.densest.specs.declared.Solution.{Solution}
-use Rattle.densest.specs.Search.{Candidate, Cored, Round, Searched, sheet-share}
-use Rattle.densest.specs.Solve.{Solved, Solves}
+use Rattle.densest.specs.Search.{Candidate, Cored, Round, Group-found, sheet-share}
+use Rattle.densest.specs.Solve.{Is-solution, Solves}
 use Rattle.densest.proofs.Rounds.{Bounded, candidate-bounded, group-candidate}
 use Rattle.densest.proofs.Sheets.{Sheet, sheet-optimal, sheet-outside}
 
@@ -64,7 +62,7 @@ module _ (g : Pairs) (l : is-list g ≡ true) (order cores place order' cores' p
   unfolding Peel-promised
   peeled-by-place = peel-promised g 1 order cores place order' cores' place' r l (omega arith) (listed g l .some) h .by-place
 
-pub peelable-zeros : (n m : ℕ) (ends weights cores : List ℕ) → Held n m ends weights → n ≤ length cores →
+pub peelable-zeros : (n m : ℕ) (ends weights cores : List ℕ) → Held-words n m ends weights → n ≤ length cores →
     Peelable n 1 (replicate {A = ℕ} 512 0) cores (replicate {A = ℕ} 512 0)
 unfolding list-in
 peelable-zeros n m ends weights cores h c =
@@ -76,13 +74,13 @@ room-zeros m k h = record { long = omega (arith, length-replicate {A = ℕ} k 0)
 
 -- ---- the answer
 
-module _ (n m : ℕ) (ends weights : List ℕ) (h : Held n m ends weights) (scope₀ hold₀ s : List ℕ) (p q : ℕ) (settled : Bool)
-    (f : Searched n m ends weights scope₀ hold₀ s p q settled) where
-  pub searched-candidate : Candidate (list-in n m ends weights) p q
-  searched-candidate = group-candidate (list-in n m ends weights) s p q (h .listed) (f .found .group) (f .inside-count) (f .modules)
+module _ (n m : ℕ) (ends weights : List ℕ) (h : Held-words n m ends weights) (scope₀ hold₀ s : List ℕ) (p q : ℕ) (settled : Bool)
+    (f : Group-found n m ends weights scope₀ hold₀ s p q settled) where
+  pub found-candidate : Candidate (list-in n m ends weights) p q
+  found-candidate = group-candidate (list-in n m ends weights) s p q (h .listed) (f .found .group) (f .inside-count) (f .modules)
 
-  pub searched-bounded : Bounded p q
-  searched-bounded = candidate-bounded (list-in n m ends weights) p q (h .listed) searched-candidate
+  pub found-bounded : Bounded p q
+  found-bounded = candidate-bounded (list-in n m ends weights) p q (h .listed) found-candidate
 
   -- no group is denser, so the last round finds a split
   last-true : (scope hold t : List ℕ) (r : Bool) → Round n m p q ends weights scope hold t r → r ≡ true
@@ -99,9 +97,9 @@ module _ (n m : ℕ) (ends weights : List ℕ) (h : Held n m ends weights) (scop
       ))
 
   -- with that round the search is settled
-  pub searched-last : (scope hold t : List ℕ) (r : Bool) → Round n m p q ends weights scope hold t r → Searched n m ends weights scope hold t p q true
+  pub found-settled : (scope hold t : List ℕ) (r : Bool) → Round n m p q ends weights scope hold t r → Group-found n m ends weights scope hold t p q true
   unfolding Found-alone
-  searched-last scope hold t r d =
+  found-settled scope hold t r d =
       let g = list-in n m ends weights in
       let yes = last-true scope hold t r d in
       let same : s ≡ t = found-alone g s t (h .listed) (f .found) (d .found yes) in record {
@@ -112,13 +110,13 @@ module _ (n m : ℕ) (ends weights : List ℕ) (h : Held n m ends weights) (scop
         last = λ _. rw yes at d;
       }
 
-module _ (n m : ℕ) (ends weights : List ℕ) (h : Held n m ends weights) (scope hold t : List ℕ) (p q : ℕ)
-    (f : Searched n m ends weights scope hold t p q true) where
-  pub solved-of : (place shares : List ℕ) (x : Solution) →
+module _ (n m : ℕ) (ends weights : List ℕ) (h : Held-words n m ends weights) (scope hold t : List ℕ) (p q : ℕ)
+    (f : Group-found n m ends weights scope hold t p q true) where
+  pub solution-of : (place shares : List ℕ) (x : Solution) →
       ((a b : ℕ) → a < n → b < n → before (leaving (list-in n m ends weights)) a b ≡ ltb (getD place a 0) (getD place b 0)) →
       length shares ≡ m → ((j : ℕ) → j < m → getD shares j 0 ≡ sheet-share q ends weights scope place hold j) →
-      x .p ≡ p → x .q ≡ q → x .k ≡ rounded-up p q → x .core ≡ size scope → Solved (list-in n m ends weights) t shares x
-  solved-of place shares x by long written xp xq xk xc =
+      x .p ≡ p → x .q ≡ q → x .k ≡ rounded-up p q → x .core ≡ size scope → Is-solution (list-in n m ends weights) t shares x
+  solution-of place shares x by long written xp xq xk xc =
       let g = list-in n m ends weights in
       let d : Round n m p q ends weights scope hold t true = f .last refl in
       let ep : p ≡ inside g t = f .inside-count in
@@ -144,7 +142,7 @@ module _ (n m : ℕ) (ends weights : List ℕ) (h : Held n m ends weights) (scop
 
 -- the answer, in buffers that may be longer
 pub solves-of : (n m : ℕ) (ends weights members cores shares s cores′ xs : List ℕ) (x : Solution) → n ≤ length members → m ≤ length shares →
-    length s ≡ n → length xs ≡ m → cores′ ≡ core-numbers (list-in n m ends weights) ++ drop n cores → Solved (list-in n m ends weights) s xs x →
+    length s ≡ n → length xs ≡ m → cores′ ≡ core-numbers (list-in n m ends weights) ++ drop n cores → Is-solution (list-in n m ends weights) s xs x →
     Solves (list-in n m ends weights) members cores shares (s ++ drop n members) cores′ (xs ++ drop m shares) x
 unfolding list-in pairs-in
 solves-of n m ends weights members cores shares s cores′ xs x ln lm ls lx ec d =

@@ -5,7 +5,7 @@
 --   own-none                 no own loads
 -- Assumes nothing.
 use mathlib.Core.Path.{_≡_, refl, sym, ap, _∙_}
-use mathlib.Core.Bool.{Bool, true, false, _&&_, cond}
+use mathlib.Core.Bool.{Bool, true, false, cond}
 use mathlib.Core.List.{List, [], _∷_}
 use Prim.Native.Nat.{ℕ, suc, _+_, _*_, _≤_, _<_}
 use native.Mathlib.Omega.{arith}
@@ -20,6 +20,7 @@ use Rattle.slots.specs.Split.{scope-units, Weights, Split}
 use Rattle.slots.proofs.Totals.{total-le, total-scale}
 use Rattle.slots.proofs.Mates.{mate-even, by-pair}
 use Rattle.slots.proofs.Words.{inside-total}
+use Rattle.groups.specs.Pairs.{inner-at}
 use Rattle.flow.specs.Flow.{Sub, Busy}
 
 -- b: both ends in the set, c: both in the scope
@@ -44,8 +45,7 @@ module _ (n m q : ℕ) (ends weights scope hold : List ℕ) (sp : Split m q ends
   inside-most t =
       rw (inside-total n m ends weights t, ← total-scale)
       (total-le m _ _ (λ j h. units-most
-      (is-in t (getD ends (2 * j) 0) && is-in t (getD ends (2 * j + 1) 0)) (is-in scope (getD ends (2 * j) 0) && is-in scope (getD ends (2 * j + 1) 0))
-      _ (getD weights j 0) q (sp .whole j h)))
+      (inner-at ends t j) (inner-at ends scope j) _ (getD weights j 0) q (sp .whole j h)))
 
   -- and no less, for a set inside the scope
   pub inside-all : (t : List ℕ) → Sub t scope → inside (list-in n m ends weights) t * q ≤ held-inside m ends hold t
@@ -53,8 +53,8 @@ module _ (n m q : ℕ) (ends weights scope hold : List ℕ) (sp : Split m q ends
   inside-all t sub =
       rw (inside-total n m ends weights t, ← total-scale)
       (total-le m _ _ (λ j h. units-all
-      (is-in t (getD ends (2 * j) 0) && is-in t (getD ends (2 * j + 1) 0)) (is-in scope (getD ends (2 * j) 0) && is-in scope (getD ends (2 * j + 1) 0))
-      _ (getD weights j 0) q (sp .whole j h) (λ b. let b′ = simp tests at b in simp tests (sub _ (b′ .0), sub _ (b′ .1)))))
+      (inner-at ends t j) (inner-at ends scope j) _ (getD weights j 0) q (sp .whole j h)
+      (λ b. let b′ = simp tests at b in simp tests (sub _ (b′ .0), sub _ (b′ .1)))))
 
   -- units that moved within their pairs make a split again
   pub split-kept : (hold' : List ℕ) → length hold' ≡ length hold → Same-units m hold hold' → Split m q ends weights scope hold'
@@ -73,7 +73,7 @@ module _ (n m q : ℕ) (ends weights scope hold : List ℕ) (sp : Split m q ends
   split-room hq hw = record {
     long = sp .long;
     small = by-pair m (λ s o. getD hold s 0 + getD hold o 0 ≤ 512000) (λ j h.
-        let b = whole-most (is-in scope (getD ends (2 * j) 0) && is-in scope (getD ends (2 * j + 1) 0)) (getD weights j 0) _ (hw .small j h) hq (sp .whole j h) in
+        let b = whole-most (inner-at ends scope j) (getD weights j 0) _ (hw .small j h) hq (sp .whole j h) in
         (b, omega arith));
   }
 
@@ -84,8 +84,9 @@ module _ (n m q : ℕ) (ends weights scope hold : List ℕ) (sp : Split m q ends
       ap (λ (x : ℕ). is-in scope x) (sym (b .end))
       ∙ by-pair m (λ s o. 0 < getD hold s 0 + getD hold o 0 → is-in scope (getD ends s 0) ≡ true)
       (λ j h.
-      let both : 0 < getD hold (2 * j) 0 + getD hold (2 * j + 1) 0 → (is-in scope (getD ends (2 * j) 0) ≡ true) × (is-in scope (getD ends (2 * j + 1) 0) ≡ true) =
-      λ p. simp tests at (units-some (is-in scope (getD ends (2 * j) 0) && is-in scope (getD ends (2 * j + 1) 0)) (getD weights j 0 * q) _ (sp .whole j h) p) in
+      let both : 0 < getD hold (2 * j) 0 + getD hold (2 * j + 1) 0 →
+      (is-in scope (getD ends (2 * j) 0) ≡ true) × (is-in scope (getD ends (2 * j + 1) 0) ≡ true) =
+      λ p. simp tests at (units-some (inner-at ends scope j) (getD weights j 0 * q) _ (sp .whole j h) p) in
       ((λ p. both p .0), λ p. both (omega arith) .1))
       (b .slot) (b .low) (b .units)
 

@@ -1,9 +1,9 @@
 -- What the functions under `solve` take and leave; only this crate cites it.
---   Candidate      a ratio that some group reaches
---   Cored, Link-room    buffers that have the core numbers; buffers for the links
---   Round          what one round learns
---   Searched       what all rounds learn
---   sheet-share    a pair's share, from its slots and the leaving places
+--   Candidate                  a ratio that some group reaches
+--   Cored, Link-room           buffers that have the core numbers; buffers for the links
+--   Round                      what one round learns
+--   Group-found                what all rounds learn
+--   left-first, sheet-share    who of a pair left first; a pair's share, from its slots and the leaving places
 -- Assumes nothing: these are definitions.
 use mathlib.Core.Path.{_≡_}
 use mathlib.Core.Bool.{Bool, true, false, cond}
@@ -50,15 +50,18 @@ pub record Round (n m p q : ℕ) (ends weights scope hold group : List ℕ) (r :
   pub denser : r ≡ false → p * size group < inside (list-in n m ends weights) group * q
 
 -- the found group, its inside count and its size; where units lie is free, unless the last round was one at that inside count and size
-pub record Searched (n m : ℕ) (ends weights scope hold group : List ℕ) (p q : ℕ) (settled : Bool) : Type 0 where
+pub record Group-found (n m : ℕ) (ends weights scope hold group : List ℕ) (p q : ℕ) (settled : Bool) : Type 0 where
   pub found : Found (list-in n m ends weights) group
   pub inside-count : p ≡ inside (list-in n m ends weights) group
   pub modules : q ≡ size group
   pub room : Room m hold
   pub last : settled ≡ true → Round n m p q ends weights scope hold group true
 
+-- whether the first end of pair j left before the second
+abbrev pub left-first : (ends place : List ℕ) → (j : ℕ) → Bool
+left-first ends place j = ltb (getD place (getD ends (2 * j) 0) 0) (getD place (getD ends (2 * j + 1) 0) 0)
+
 -- the share of pair j: what its first slot holds where both its ends are in the scope, else all of it or nothing, by who left first
 unfoldable pub sheet-share : (q : ℕ) → (ends weights scope place hold : List ℕ) → (j : ℕ) → ℕ
 sheet-share q ends weights scope place hold j =
-    cond (holds-pair scope (word-pair ends weights j)) (getD hold (2 * j) 0)
-    (cond (ltb (getD place (getD ends (2 * j) 0) 0) (getD place (getD ends (2 * j + 1) 0) 0)) (units q (word-pair ends weights j)) 0)
+    cond (holds-pair scope (word-pair ends weights j)) (getD hold (2 * j) 0) (cond (left-first ends place j) (units q (word-pair ends weights j)) 0)

@@ -1,6 +1,6 @@
 -- The contract of `solve`: document 01, "Solve", on a list that lies in words.
---   Solved    what is said of the group, the load sheet and the numbers returned; free are only the shares of pairs inside the core of order K
---   Solves    where they stand in the buffers
+--   Is-solution    what is said of the group, the load sheet and the numbers returned; free are only the shares of pairs inside the core of order K
+--   Solves         where they stand in the buffers
 -- Assumes nothing: these are definitions.
 use mathlib.Core.Path.{_≡_}
 use mathlib.Core.Bool.{true}
@@ -15,7 +15,7 @@ use Rattle.theory.specs.Promise.{Optimal}
 use Rattle.densest.specs.declared.Solution.{Solution}
 
 -- of a list g: member bytes s, shares xs, and what is returned
-pub record Solved (g : Pairs) (s xs : List ℕ) (r : Solution) : Type 0 where
+pub record Is-solution (g : Pairs) (s xs : List ℕ) (r : Solution) : Type 0 where
   -- s is the found group
   pub found : Found g s
   -- P and Q are its inside count and size; xs is a split at share size Q, its greatest load is exactly P, and both are best
@@ -33,4 +33,4 @@ pub record Solves (g : Pairs) (members cores shares members′ cores′ shares�
   pub members-rest : drop (g .n) members′ ≡ drop (g .n) members
   pub shares-rest : drop (length (g .pairs)) shares′ ≡ drop (length (g .pairs)) shares
   pub cores-are : cores′ ≡ core-numbers g ++ drop (g .n) cores
-  pub solved : Solved g (take (g .n) members′) (take (length (g .pairs)) shares′) r
+  pub solved : Is-solution g (take (g .n) members′) (take (length (g .pairs)) shares′) r

@@ -8,10 +8,10 @@
 // scope loaded below p drain, and so does whoever could pass units on to them: what stays is the largest set loaded p throughout.
 // Cost: a search takes a step for each slot of the modules that it reaches. Links say where to look first; that nothing leads out of a set is
 // found by one scan over all slots. There are at most as many searches as units lie above p. Nothing is refused.
+use numbers::lesser;
 use push::phases;
 use slots::capped;
 use slots::clear;
-use slots::least;
 use slots::loads;
 use slots::other;
 use slots::shift;
@@ -176,7 +176,7 @@ fn pull(
     loop {
         let k = wide(from[c]);
         let u = wide(ends[k]);
-        let d = least(p - load[c], hold[k]);
+        let d = lesser(p - load[c], hold[k]);
         shift(n, m, k, d, ends, hold, load);
         if p <= load[u] {
             return;

@@ -5,7 +5,7 @@
 // module is stand side by side, its row; those whose second end it is are chained. One pass over the pairs finds rows, chains and degrees. The
 // core number of a leaver is the greatest degree at leaving so far. Refuses nothing: its callers have tested the list and the buffers.
 ghost use mathlib.Core.Path.{_≡_};
-ghost use Prim.Native.Nat.{_+_, _*_, _-_, _≤_, _<_, max};
+ghost use Prim.Native.Nat.{_+_, _*_, _-_, _≤_, _<_};
 ghost use lib.ListN.{length, getD, set};
 ghost use Rattle.theory.specs.Groups.{everyone};
 ghost use Rattle.theory.specs.Words.{list-in, Held-words};
@@ -21,12 +21,6 @@ pub struct Remainder {
     pub p: u32,
     pub q: u32,
     pub at: u32,
-}
-
-fn higher_of(a: u32, b: u32) -> u32
-    ensures { λ r. ⌜ r ≡ max a b ⌝ }
-{
-    if a < b { b } else { a }
 }
 
 // Adds d to entry i.
@@ -184,7 +178,7 @@ fn number(n: usize, order: &[u32], falls: &[u32], cores: &mut [u32], place: &mut
     let mut top = 0;
     for i in 0..n {
         let v = slots::wide(order[i]);
-        top = higher_of(top, falls[i]);
+        top = numbers::greater(top, falls[i]);
         cores[v] = top;
         place[v] = i as u32;
     }

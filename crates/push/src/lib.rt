@@ -6,9 +6,9 @@
 // places are used up, the phase ends.
 // Whatever the labels say, units move within pairs only (`slots::shift`): the promise is that a split stays a split. How well it is balanced is free.
 // Cost: a phase takes a step for each slot of the modules that it labels and of those that come up in line. Nothing is refused.
+use numbers::lesser;
 use slots::capped;
 use slots::copy;
-use slots::least;
 use slots::other;
 use slots::shift;
 use slots::short;
@@ -113,7 +113,7 @@ fn reach_from(
 
 // The label one higher, at most that of the far ones.
 fn above(x: u32) -> u32 {
-    least(x, FAR - 1) + 1
+    lesser(x, FAR - 1) + 1
 }
 
 // Labels all modules from which units can come to one loaded below p; they stand in line as they were reached.
@@ -186,7 +186,7 @@ fn amount(p: u32, h: u32, x: u32, d: u32, e: u32) -> u32
 {
     if e < d {
         if p < x {
-            return least(h, x - p);
+            return lesser(h, x - p);
         }
     }
     0
@@ -282,7 +282,7 @@ fn relabel(
         let k = s - 1;
         s = capped(next[k], k);
         if hold[k] > 0 {
-            low = least(low, label[wide(ends[other(k)])]);
+            low = lesser(low, label[wide(ends[other(k)])]);
         }
     }
     above(low)

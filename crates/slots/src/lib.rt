@@ -6,7 +6,7 @@
 // step for each slot or pair. Peeling uses `link` too, for chains of pairs. Nothing is refused: what is asked is in the contracts.
 ghost use mathlib.Core.Path.{_≡_};
 ghost use mathlib.Core.Bool.{_&&_, cond};
-ghost use Prim.Native.Nat.{ℕ, _+_, _*_, _≤_, _<_, min};
+ghost use Prim.Native.Nat.{ℕ, _+_, _*_, _≤_, _<_};
 ghost use lib.Dec.{eqb, ltb};
 ghost use lib.ListN.{length, getD, set};
 ghost use Rattle.slots.specs.Slots.{mate, moved, Ends, Room, Own, Loads, Covers};
@@ -18,13 +18,6 @@ pub fn wide(x: u32) -> usize
     ensures { λ r. ⌜ r ≡ x ⌝ }
 {
     x as usize
-}
-
-// The smaller of two.
-pub fn least(a: u32, b: u32) -> u32
-    ensures { λ r. ⌜ r ≡ min a b ⌝ }
-{
-    if a < b { a } else { b }
 }
 
 // x where that is at most `top`, else free: links only say where to look first.
@@ -175,7 +168,7 @@ fn first_part(u: u32, q: u32, old: u32, x: u32) -> u32
     if old == 0 {
         return u / 2;
     }
-    least(x * q / old, u)
+    numbers::lesser(x * q / old, u)
 }
 
 // A split at share size q inside the scope: near the one that hold has at share size `old`, or in halves where `old` is 0.

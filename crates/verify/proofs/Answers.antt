@@ -11,6 +11,7 @@ use Prim.Native.Nat.{ℕ, suc, _*_, _≤_, _<_}
 use native.Mathlib.Omega.{arith}
 use lib.Dec.{leb, eqb, eqb·suc-zero}
 use lib.ListN.{length, getD, take}
+use lib.Seq.{length-take-le}
 use lib.IntN.{ℤ, pos, _-ℤ_}
 use borrow.Author.Tests.{le-leb, lt-leb}
 use Rattle.theory.specs.Basics.{greatest}
@@ -29,7 +30,6 @@ use Rattle.theory.proofs.Surplus.{surplus-signed}
 use Rattle.verify.specs.declared.Verdict.{Verdict}
 use Rattle.verify.specs.Counts.{counted}
 use Rattle.verify.specs.Answers.{refused-by, Check-says, Surplus-says}
-use Rattle.verify.proofs.Words.{length-first}
 
 -- ---- the count of members
 
@@ -56,7 +56,7 @@ module _ (g : Pairs) (s : List ℕ) (long : length s ≡ g .n) where
 -- the first n bytes are one for each module
 long-in : (n m : ℕ) (es ws s : List ℕ) → n ≤ length s → length (take n s) ≡ list-in n m es ws .n
 unfolding list-in
-long-in n m es ws s h = length-first n s h
+long-in n m es ws s h = length-take-le n s h
 
 -- ---- check
 

@@ -1,6 +1,6 @@
 -- How large the sums over a held list can be: at most 512 modules and 4,096 pairs, each of weight 1 to 1,000.
 --   load-le                        no load is above 1,000 times the share size for each pair
---   lent-few, lent-light           n is at most 512, and no weight is above 1,000
+--   lent-light                     no weight is above 1,000
 --   counted-small, inside-small, units-small, load-small    so every sum fits 32 bits
 -- Assumes nothing.
 use mathlib.Core.Path.{_≡_, refl}
@@ -19,8 +19,8 @@ use Rattle.theory.specs.Words.{pairs-in, list-in, Held-words, Light}
 use Rattle.theory.proofs.Tests.{tests, no}
 use Rattle.theory.proofs.Lists.{listed}
 use Rattle.theory.proofs.Bounds.{inside-bound, size-le-length}
+use Rattle.slots.proofs.Words.{few-modules, good-pair}
 use Rattle.verify.specs.Counts.{counted}
-use Rattle.verify.proofs.Words.{pair-in-range}
 
 -- nobody receives more of a pair than its units
 received-le : (q v : ℕ) (p : Pair) (x : ℕ) → x ≤ units q p → received q v p x ≤ units q p
@@ -50,13 +50,9 @@ units-small w q h k = omega (arith, mul-le-mul-right q h)
 -- ---- of a lent list
 
 module _ (n m : ℕ) (es ws : List ℕ) (lent : Held-words n m es ws) where
-  pub lent-few : n ≤ 512
-  unfolding list-in
-  lent-few = listed (list-in n m es ws) (lent .listed) .few
-
   pub lent-light : Light m ws
   unfolding Light
-  lent-light j l = pair-in-range n m es ws j (lent .listed) l .light
+  lent-light j l = good-pair n m es ws (lent .listed) j l .light
 
   -- a count of members is at most n
   pub counted-small : (s : List ℕ) → counted (take n s) ≤ 512
@@ -64,7 +60,7 @@ module _ (n m : ℕ) (es ws : List ℕ) (lent : Held-words n m es ws) where
   counted-small s = go (bytes-good (take n s)) refl
     where
       go : (b : Bool) → bytes-good (take n s) ≡ b → cond b (size (take n s)) 0 ≤ 512
-      go true e = omega (arith, size-le-length (take n s) e, length-take n s, lent-few)
+      go true e = omega (arith, size-le-length (take n s) e, length-take n s, few-modules n m es ws (lent .listed))
       go false e = omega arith
 
   pub inside-small : (s : List ℕ) → inside (list-in n m es ws) s ≤ 4096000

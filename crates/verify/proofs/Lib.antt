@@ -1,7 +1,7 @@
 -- The theorems; each file opens with what it gives.
 pub mod Words
 pub mod Bounds
-pub mod Counting
+pub mod Members
 pub mod Loading
 pub mod Products
 pub mod Answers

@@ -12,16 +12,18 @@ use native.Mathlib.Numerals.{add-one}
 use native.Mathlib.Omega.{arith}
 use lib.Dec.{leb, eqb}
 use lib.ListN.{length, getD, set, take, drop, replicate, length-set, length-replicate}
-use lib.Seq.{getD-set-same}
+use lib.Seq.{length-take-le, getD-set-same}
 use borrow.Author.Tests.{le-leb, lt-leb, eq-eqb}
 use Rattle.theory.specs.Basics.{greatest}
 use Rattle.theory.specs.Splits.{units, received, shares-good, load-of, load}
 use Rattle.theory.specs.Words.{word-pair, pairs-in, list-in, Held-words}
 use Rattle.theory.proofs.Tests.{tests}
 use Rattle.theory.proofs.Tables.{greatest-suc}
+use Rattle.theory.proofs.Words.{length-pairs-in}
 use Rattle.theory.proofs.Duality.{received-ends}
-use Rattle.verify.proofs.Words.{left-none, length-first, first-left, length-pairs, pairs-left, pair-in-range, set-adds, zeros-at}
-use Rattle.verify.proofs.Bounds.{lent-few, units-small, load-small}
+use Rattle.slots.proofs.Words.{few-modules, good-pair}
+use Rattle.verify.proofs.Words.{left-none, first-left, pairs-left, set-adds, zeros-at}
+use Rattle.verify.proofs.Bounds.{units-small, load-small}
 
 -- ---- shares
 
@@ -52,7 +54,7 @@ module _ (m q : ℕ) (ws xs : List ℕ) (long : m ≤ length xs) where
   pub sharing-ends : (j : ℕ) → Sharing m q ws xs j → m ≤ j → (es : List ℕ) → true ≡ shares-good q (pairs-in m es ws) (take m xs)
   unfolding shares-good
   sharing-ends j k l es =
-      rw (left-none (pairs-in m es ws) j (omega (arith, length-pairs m es ws)), left-none (take m xs) j (omega (arith, length-first m xs long)))
+      rw (left-none (pairs-in m es ws) j (omega (arith, length-pairs-in m es ws)), left-none (take m xs) j (omega (arith, length-take-le m xs long)))
       at (k .good es)
 
   -- where all shares are good, the one at j is within its pair's units
@@ -113,8 +115,8 @@ module _ (n m q : ℕ) (es ws xs : List ℕ) (lent : Held-words n m es ws) (long
       Loading m q es ws xs (both-more ls a b x (getD ws j 0 * q - x)) (j + 1)
   unfolding load-of received units word-pair list-in
   loading-goes-on ls j a b x k l ea eb ex =
-      let r = pair-in-range n m es ws j (lent .listed) l in
-      let below : b < length ls = omega (arith, lent-few n m es ws lent) in
+      let r = good-pair n m es ws (lent .listed) j l in
+      let below : b < length ls = omega (arith, few-modules n m es ws (lent .listed)) in
       record {
         shares = sharing-goes-on m q ws xs long j (k .shares) l (share-within m q ws xs long es j (k .shares) good l);
         long = length-both ls a b x (getD ws j 0 * q - x) ∙ k .long;
@@ -130,11 +132,11 @@ module _ (n m q : ℕ) (es ws xs : List ℕ) (lent : Held-words n m es ws) (long
       a ≡ getD es (2 * j) 0 → b ≡ getD es (2 * j + 1) 0 → x ≡ getD xs j 0 → Turn m q es ws xs ls j a b x
   unfolding both-more list-in
   turn ls j a b x k l ea eb ex =
-      let r = pair-in-range n m es ws j (lent .listed) l in
+      let r = good-pair n m es ws (lent .listed) j l in
       let y = getD ws j 0 * q - x in
       let ks = set ls a (getD ls a 0 + x) in
       let k′ = loading-goes-on ls j a b x k l ea eb ex in
-      let below : b < length ls = omega (arith, lent-few n m es ws lent) in
+      let below : b < length ls = omega (arith, few-modules n m es ws (lent .listed)) in
       record {
         order = omega arith;
         below = omega arith;
@@ -148,7 +150,7 @@ module _ (n m q : ℕ) (es ws xs : List ℕ) (lent : Held-words n m es ws) (long
   pub loading-ends : (ls : List ℕ) (j : ℕ) → Loading m q es ws xs ls j → m ≤ j →
       (v : ℕ) → getD ls v 0 ≡ load (list-in n m es ws) q (take m xs) v
   unfolding load load-of list-in
-  loading-ends ls j k l v = omega (arith, rw (left-none (pairs-in m es ws) j (omega (arith, length-pairs m es ws))) at (k .sum v))
+  loading-ends ls j k l v = omega (arith, rw (left-none (pairs-in m es ws) j (omega (arith, length-pairs-in m es ws))) at (k .sum v))
 
 -- ---- the greatest load
 

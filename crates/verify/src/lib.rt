@@ -1,5 +1,5 @@
 // Check and surplus, on a list that lies in words (document 01, "Check" and "Surplus").
-// Check counts P and Q of the group itself, tests each share against its pair's units at share size Q, adds up the load of each
+// Check counts P and Q of the group itself (crate `groups`), tests each share against its pair's units at share size Q, adds up the load of each
 // module, and accepts where no load is above P: then group and split are both best (demand 3, `Optimal`). Surplus is the
 // difference of two products, as i64. Both cost one pass over the modules and a few over the pairs, and write nothing.
 // Pair j has its ends at slots 2j and 2j + 1 of `ends` and its weight at place j of `weights`. The list has been found good and every
@@ -11,10 +11,10 @@ ghost use Prim.Native.Nat.{ℕ, _*_, _≤_, _<_};
 ghost use lib.ListN.{length, getD, take};
 ghost use lib.IntN.{pos, _-ℤ_};
 ghost use Rattle.theory.specs.Basics.{greatest};
-ghost use Rattle.theory.specs.Groups.{inside};
+ghost use Rattle.theory.specs.Groups.{bytes-good};
 ghost use Rattle.theory.specs.Splits.{shares-good, load};
 ghost use Rattle.theory.specs.Words.{list-in, pairs-in, Held-words, Light};
-ghost use Rattle.verify.specs.Counts.{counted, inside-weight};
+ghost use Rattle.verify.specs.Counts.{counted};
 ghost use Rattle.verify.specs.Answers.{refused-by, Check-says, Surplus-says};
 
 // Check's answer: 0 and the group's inside count p and size q, or a refusal number and zeros.
@@ -43,62 +43,31 @@ fn share_at(shares: &[Share], j: usize) -> u32
     shares[j] as u32
 }
 
-// The module at a slot: pair j has slots 2j and 2j + 1.
-fn end_at(ends: &[u32], slot: usize) -> usize
-    requires { ⌜ slot < length (now ends) ⌝ }
-    ensures { λ r. ⌜ r ≡ getD (now (ends .entry)) slot 0 ⌝ }
+// Whether the first n bytes are member bytes, 0 or 1.
+fn bytes_good(n: usize, members: &[u8]) -> bool
+    requires { ⌜ n ≤ length (now members) ⌝ }
+    ensures { λ r. ⌜ r ≡ bytes-good (take n (now (members .entry))) ⌝ }
 {
-    ends[slot] as usize
+    let mut i: usize = 0;
+    while i < n {
+        if 1 < members[i] {
+            return false;
+        }
+        i += 1;
+    }
+    true
 }
 
 // The size of a group, or 0 where the first n bytes make none.
-fn group_size(n: usize, members: &[u8]) -> u32
+fn counted(n: usize, members: &[u8]) -> u32
     requires { ⌜ n ≤ 512 ⌝ }
     requires { ⌜ n ≤ length (now members) ⌝ }
     ensures { λ r. ⌜ r ≡ counted (take n (now (members .entry))) ⌝ }
 {
-    let mut count: u32 = 0;
-    let mut i: usize = 0;
-    while i < n {
-        let byte = members[i];
-        if 1 < byte {
-            return 0;
-        }
-        count += byte as u32;
-        i += 1;
-    }
-    count
-}
-
-// The weight of a pair with both ends in the group, else 0.
-fn inside_weight(members: &[u8], a: usize, b: usize, weight: u32) -> u32
-    requires { ⌜ a < length (now members) ⌝ }
-    requires { ⌜ b < length (now members) ⌝ }
-    ensures { λ r. ⌜ r ≡ inside-weight (now (members .entry)) a b weight ⌝ }
-{
-    if members[a] == 1 {
-        if members[b] == 1 {
-            return weight;
-        }
+    if bytes_good(n, members) {
+        return groups::group_size(n, &members[..n]);
     }
     0
-}
-
-// The inside count of the group of the first n bytes.
-fn inside_count(n: usize, m: usize, ends: &[u32], weights: &[u32], members: &[u8]) -> u32
-    requires { ⌜ Held-words n m (now ends) (now weights) ⌝ }
-    requires { ⌜ n ≤ length (now members) ⌝ }
-    ensures { λ r. ⌜ r ≡ inside (list-in n m (now (ends .entry)) (now (weights .entry))) (take n (now (members .entry))) ⌝ }
-{
-    let mut count: u32 = 0;
-    let mut j: usize = 0;
-    while j < m {
-        let a = end_at(ends, 2 * j);
-        let b = end_at(ends, 2 * j + 1);
-        count += inside_weight(members, a, b, weights[j]);
-        j += 1;
-    }
-    count
 }
 
 // Whether no share is above its pair's units at share size q. The ends do not matter.
@@ -136,8 +105,9 @@ fn loads_of(
     let mut loads = [0u32; 512];
     let mut j: usize = 0;
     while j < m {
-        let a = end_at(ends, 2 * j);
-        let b = end_at(ends, 2 * j + 1);
+        let pair = groups::two_ends(n, m, j, ends);
+        let a = pair.a;
+        let b = pair.b;
         let x = share_at(shares, j);
         let rest = weights[j] * q - x;
         loads[a] += x;
@@ -155,10 +125,7 @@ fn greatest_of(n: usize, loads: &[u32]) -> u32
     let mut top: u32 = 0;
     let mut v: usize = 0;
     while v < n {
-        let load = loads[v];
-        if top < load {
-            top = load;
-        }
+        top = numbers::greater(top, loads[v]);
         v += 1;
     }
     top
@@ -194,14 +161,14 @@ pub fn check_words(
     requires { ⌜ m ≤ length (now shares) ⌝ }
     ensures { λ r. ⌜ Check-says (list-in n m (now (ends .entry)) (now (weights .entry))) (take n (now (members .entry))) (take m (now (shares .entry))) r ⌝ }
 {
-    let q = group_size(n, members);
+    let q = counted(n, members);
     if q == 0 {
         return refused(7);
     }
     if !shares_fit(m, weights, shares, q) {
         return refused(8);
     }
-    let p = inside_count(n, m, ends, weights, members);
+    let p = groups::inside_count(n, m, ends, weights, &members[..n]);
     let loads = loads_of(n, m, ends, weights, shares, q);
     if p < greatest_of(n, &loads) {
         return refused(9);
@@ -223,8 +190,8 @@ pub fn surplus_words(
     requires { ⌜ n ≤ length (now second) ⌝ }
     ensures { λ r. ⌜ Surplus-says (list-in n m (now (ends .entry)) (now (weights .entry))) (take n (now (first .entry))) (take n (now (second .entry))) r ⌝ }
 {
-    let first_size = group_size(n, first);
-    let second_size = group_size(n, second);
+    let first_size = counted(n, first);
+    let second_size = counted(n, second);
     if first_size == 0 {
         return Difference {
             number: 7,
@@ -237,8 +204,8 @@ pub fn surplus_words(
             value: 0,
         };
     }
-    let first_inside = inside_count(n, m, ends, weights, first);
-    let second_inside = inside_count(n, m, ends, weights, second);
+    let first_inside = groups::inside_count(n, m, ends, weights, &first[..n]);
+    let second_inside = groups::inside_count(n, m, ends, weights, &second[..n]);
     Difference {
         number: 0,
         value: cross_difference(second_size, first_inside, second_inside, first_size),

@@ -3,16 +3,14 @@ use mathlib.Core.Path.{_≡_, sym, _∙_}
 use Prim.Native.Nat.{ℕ, _≤_}
 use lib.ListN.{length, take, replicate}
 use lib.Seq.{length-take-le}
-use Rattle.theory.specs.Words.{list-in}
-use Rattle.theory.proofs.Lists.{listed}
+use Rattle.slots.proofs.Words.{few-modules}
 use Rattle.densest.proofs.Solving.{solves-of}
 use borrow.Author.Needs.{needs}
 use Rattle.densest.proofs.solve.Statement.{statement}
 use Rattle.densest.proofs.solve.Tie as tie
 
 few : (s : tie.Start) → s .args .n ≤ 512
-unfolding list-in
-few s = listed (list-in (s .args .n) (s .args .m) (s .args .ends .now) (s .args .weights .now)) (s .pre .0 .listed) .few
+few s = few-modules _ _ _ _ (s .pre .0 .listed)
 
 -- the front of a buffer of 512 bytes
 front-long : (s : tie.Start) → length (take (s .args .n) (replicate {A = ℕ} 512 0)) ≡ s .args .n

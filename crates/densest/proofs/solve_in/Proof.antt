@@ -1,15 +1,14 @@
 -- `densest::solve_in` meets its contract. Assumes nothing.
 use native.Mathlib.Omega.{arith}
 use mathlib.Core.Path.{_≡_, refl, sym, _∙_}
-use Prim.Native.Nat.{_*_, _≤_}
+use Prim.Native.Nat.{_≤_}
 use lib.ListN.{length}
 use Rattle.theory.specs.Lists.{Pairs}
 use Rattle.theory.specs.Words.{list-in}
-use Rattle.theory.proofs.Lists.{listed}
-use Rattle.slots.proofs.Words.{few-pairs}
+use Rattle.slots.proofs.Words.{few-modules, few-pairs}
 use Rattle.densest.specs.Search.{Cored}
 use Rattle.densest.proofs.Rounds.{Bounded}
-use Rattle.densest.proofs.Solving.{peeled-cored, peeled-candidate, peeled-by-place, peelable-zeros, room-zeros, searched-bounded, solved-of}
+use Rattle.densest.proofs.Solving.{peeled-cored, peeled-candidate, peeled-by-place, peelable-zeros, room-zeros, found-bounded, solution-of}
 use borrow.Author.Needs.{needs}
 use Rattle.densest.proofs.solve_in.Statement.{statement}
 use Rattle.densest.proofs.solve_in.Tie as tie
@@ -32,8 +31,7 @@ list-of s = list-in (s .args .n) (s .args .m) (s .args .ends .now) (s .args .wei
 
 -- what is known from then on
 few : (s : tie.Start) → s .args .n ≤ 512
-unfolding list-in
-few s = listed (list-of s) (s .pre .0 .listed) .few
+few s = few-modules _ _ _ _ (s .pre .0 .listed)
 
 cored : (c : tie.After-peel) → Cored (list-of (begin c)) (c .peel .last .1 .1 .1 .1 .1 .1 .0)
 unfolding list-in
@@ -42,7 +40,9 @@ cored c =
     (omega (arith, c .peel .kept .1 .1 .1 .1 .1 .1 .0, begin c .pre .1 .1 .1))
 
 bounded : (c : tie.After-find-best) → Bounded (c .find-best .result .p) (c .find-best .result .q)
-bounded c = let s = start c in searched-bounded (s .args .n) (s .args .m) (s .args .ends .now) (s .args .weights .now) (s .pre .0) _ _ _ _ _ _ (c .find-best .ensures)
+bounded c =
+    let s = start c in
+    found-bounded (s .args .n) (s .args .m) (s .args .ends .now) (s .args .weights .now) (s .pre .0) _ _ _ _ _ _ (c .find-best .ensures)
 
 scope-long : (c : tie.After-find-best) → length (c .find-best .last .1 .1 .1 .1 .1 .1 .1 .1 .0) ≡ start c .args .n
 scope-long c = c .find-best .kept .1 .1 .1 .1 .1 .1 .1 .1 .0 ∙ start c .pre .1 .0 .1
@@ -70,7 +70,7 @@ find-best-requires c κs =
         peeled-candidate (list-of s) (q .0 .listed) _ _ _ _ _ _ _ (p .peel .ensures),
         (
           cored p,
-          ((q .1 .0 .0, q .1 .0 .1, q .1 .1 .0), room-zeros (s .args .m) 8192 (omega (arith, few-pairs (s .args .n) (s .args .m) (s .args .ends .now) (s .args .weights .now) (q .0 .listed)))),
+          ((q .1 .0 .0, q .1 .0 .1, q .1 .1 .0), room-zeros (s .args .m) 8192 (omega (arith, few-pairs _ _ _ _ (q .0 .listed)))),
         ),
       ),
     )
@@ -96,7 +96,7 @@ write-shares-requires c κs =
     )
 
 rounded-up-requires : tie.Need-rounded-up-requires
-rounded-up-requires c κs = let b = bounded (found (c .before .before)) in (b .few, b .some, b .small)
+rounded-up-requires c κs = bounded (found (c .before .before)) .some
 
 group-size-requires : tie.Need-group-size-requires
 group-size-requires c κs = let f = found (c .before .before .before .before) in (few (start f), scope-long f)
@@ -124,8 +124,9 @@ returns c =
     let p = peeled f in
     let s = begin p in (
       p .peel .ensures .cores-are,
-      solved-of (s .args .n) (s .args .m) (s .args .ends .now) (s .args .weights .now) (s .pre .0) _ _ _ _ _ (f .find-best .ensures)
-          (p .peel .last .1 .1 .1 .1 .1 .1 .1 .0) (w .last .1 .1 .1 .1 .1 .1 .1 .1 .0) _ (peeled-by-place (list-of s) (s .pre .0 .listed) _ _ _ _ _ _ _ (p .peel .ensures))
+      solution-of (s .args .n) (s .args .m) (s .args .ends .now) (s .args .weights .now) (s .pre .0) _ _ _ _ _ (f .find-best .ensures)
+          (p .peel .last .1 .1 .1 .1 .1 .1 .1 .0) (w .last .1 .1 .1 .1 .1 .1 .1 .1 .0) _
+          (peeled-by-place (list-of s) (s .pre .0 .listed) _ _ _ _ _ _ _ (p .peel .ensures))
           (w .kept .1 .1 .1 .1 .1 .1 .1 .1 .0 ∙ s .pre .1 .1 .2) (w .ensures) refl refl (c .before .before .rounded-up .ensures) (c .group-size .ensures),
     )
 

@@ -1,5 +1,4 @@
 -- `verify::greatest_of` meets its contract. The loop keeps `Climbing`. Assumes nothing.
-use mathlib.Core.Logic.{⊎-elim}
 use Prim.Native.Nat.{_-_}
 use native.Mathlib.Omega.{arith}
 use Rattle.verify.proofs.Loading.{Climbing, climbing-starts, climbing-goes-on, climbing-ends}
@@ -15,11 +14,11 @@ abbrev μ-loop : tie.MeasureT-loop
 loop-holds : tie.Need-loop-holds Inv-loop μ-loop
 loop-holds c = climbing-starts _ _
 
-mul-load : tie.Need-mul-load Inv-loop μ-loop
-mul-load c = omega arith
+mul-greater : tie.Need-mul-greater Inv-loop μ-loop
+mul-greater c = omega arith
 
-shared-slice-read-load : tie.Need-shared-slice-read-load Inv-loop μ-loop
-shared-slice-read-load c = omega arith
+shared-slice-read-greater : tie.Need-shared-slice-read-greater Inv-loop μ-loop
+shared-slice-read-greater c = omega arith
 
 add-v : tie.Need-add-v Inv-loop μ-loop
 add-v c = omega arith
@@ -27,15 +26,17 @@ add-v c = omega arith
 loop-less : tie.Need-loop-less Inv-loop μ-loop
 loop-less c = omega arith
 
+greater-requires : tie.Need-greater-requires Inv-loop μ-loop
+greater-requires c κs = tt
+
 loop-again : tie.Need-loop-again Inv-loop μ-loop
 loop-again c =
     let at = c .before .before .before in
-    climbing-goes-on _ _ (at .loop .v) (at .loop .top) (c .if1 .top) (at .loop .inv) (omega arith)
-    (⊎-elim (λ w. omega arith) (λ w. omega arith) (c .if1 .came))
+    climbing-goes-on _ _ (at .loop .v) (at .loop .top) (c .greater .result) (at .loop .inv) (omega arith) (c .greater .ensures)
 
 returns : tie.Need-returns Inv-loop μ-loop
 returns c = climbing-ends _ _ (c .before .loop .v) (c .before .loop .top) (c .before .loop .inv) (omega arith)
 
 pub greatest-of-spec : {M : Type 1} → statement M
 greatest-of-spec =
-    tie.close (tie.spec Inv-loop μ-loop loop-holds mul-load shared-slice-read-load add-v loop-less loop-again returns)
+    tie.close (tie.spec Inv-loop μ-loop loop-holds mul-greater shared-slice-read-greater greater-requires add-v loop-less loop-again returns)

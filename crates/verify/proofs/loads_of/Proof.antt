@@ -1,6 +1,7 @@
 -- `verify::loads_of` meets its contract. The loop keeps `Loading`. Assumes nothing.
 use Prim.Native.Nat.{_-_}
 use native.Mathlib.Omega.{arith}
+use Rattle.slots.proofs.Words.{list-ends}
 use Rattle.verify.proofs.Loading.{Loading, Turn, both-more, loading-starts, turn, loading-ends}
 use Rattle.verify.proofs.loads_of.Statement.{statement}
 use Rattle.verify.proofs.loads_of.Tie as tie
@@ -16,20 +17,9 @@ loop-holds c =
     let s = c .before .before .before in
     loading-starts _ _ _ _ _ _ (s .pre .0) (s .pre .1 .0) (s .pre .1 .1 .0) (s .pre .1 .1 .1)
 
-mul-end-at : tie.Need-mul-end-at Inv-loop μ-loop
-mul-end-at c = omega arith
-
-end-at-requires : tie.Need-end-at-requires Inv-loop μ-loop
-end-at-requires c κs = omega arith
-
-mul-end-at-2 : tie.Need-mul-end-at-2 Inv-loop μ-loop
-mul-end-at-2 c = omega arith
-
-add-end-at : tie.Need-add-end-at Inv-loop μ-loop
-add-end-at c = omega arith
-
-end-at-requires-2 : tie.Need-end-at-requires-2 Inv-loop μ-loop
-end-at-requires-2 c κs = omega arith
+two-ends-requires : tie.Need-two-ends-requires Inv-loop μ-loop
+two-ends-requires c κs =
+    let h = c .before .before .before .before .before .pre .0 in (list-ends _ _ _ _ (h .listed) (h .ends-long), omega arith)
 
 share-at-requires : tie.Need-share-at-requires Inv-loop μ-loop
 share-at-requires c κs = omega arith
@@ -42,15 +32,17 @@ shared-slice-read-rest c = omega arith
 
 -- what holds in the turn
 at-turn : (c : tie.After-shared-slice-known4 Inv-loop μ-loop) →
-    let at = c .before .before .before .before .before in
+    let at = c .before .before .before .before in
     let s = at .before .before .before .before .args in
-    Turn (s .m) (s .q) (s .ends .now) (s .weights .now) (s .shares .now) (at .loop .loads) (at .loop .j)
-    (c .before .before .before .end-at .result) (c .before .before .end-at2 .result) (c .before .share-at .result)
+    let pair = c .before .before .two-ends .result in
+    Turn (s .m) (s .q) (s .ends .now) (s .weights .now) (s .shares .now) (at .loop .loads) (at .loop .j) (pair .a) (pair .b)
+    (c .before .share-at .result)
 at-turn c =
-    let at = c .before .before .before .before .before in
+    let at = c .before .before .before .before in
     let h = at .before .before .before .before .pre in
+    let e = c .before .before .two-ends .ensures in
     turn _ _ _ _ _ _ (h .0) (h .1 .0) (h .1 .1 .0) (h .1 .1 .1) (at .loop .loads) (at .loop .j) _ _ _ (at .loop .inv) (omega arith)
-    (c .before .before .before .end-at .ensures) (c .before .before .end-at2 .ensures) (c .before .share-at .ensures)
+    (e .first) (e .second) (c .before .share-at .ensures)
 
 mul-rest-2 : tie.Need-mul-rest-2 Inv-loop μ-loop
 mul-rest-2 c = omega (arith, at-turn c .units)
@@ -104,11 +96,7 @@ loads-of-spec =
     Inv-loop
     μ-loop
     loop-holds
-    mul-end-at
-    end-at-requires
-    mul-end-at-2
-    add-end-at
-    end-at-requires-2
+    two-ends-requires
     share-at-requires
     mul-rest
     shared-slice-read-rest

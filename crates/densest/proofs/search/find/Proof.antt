@@ -1,0 +1,115 @@
+-- `densest::search::find` meets its contract. Assumes nothing.
+use native.Mathlib.Omega.{arith}
+use mathlib.Core.Path.{_∙_}
+use Prim.Native.Nat.{_*_, _≤_}
+use Rattle.slots.proofs.Words.{few-modules, few-pairs, list-ends}
+use Rattle.densest.specs.Search.{Link-room}
+use Rattle.densest.proofs.Solving.{found-candidate, found-settled}
+use borrow.Author.Needs.{needs}
+use Rattle.densest.proofs.search.find.Statement.{statement}
+use Rattle.densest.proofs.search.find.Tie as tie
+
+-- the places of the calls, each from the next
+abbrev begin : tie.After-links → tie.Start
+begin c = c .before .before .before .before .before .before .before .before .before
+
+abbrev linked : tie.After-search → tie.After-links
+linked c = c .before .before .before .before .before .before .before .before
+
+-- what is known from then on
+short : (s : tie.Start) → 2 * s .args .m ≤ 8192
+short s = omega (arith, few-pairs (s .args .n) (s .args .m) (s .args .ends .now) (s .args .weights .now) (s .pre .0 .listed))
+
+links-long : (c : tie.After-links) → Link-room (begin c .args .n) (begin c .args .m) (c .links .last .1 .1 .1 .0) (c .links .last .1 .1 .1 .1 .0)
+links-long c = record {
+  first-long = omega (arith, few-modules _ _ _ _ (begin c .pre .0 .listed), c .links .kept .1 .1 .1 .0);
+  next-long = omega (arith, short (begin c), c .links .kept .1 .1 .1 .1 .0);
+}
+
+slice-aggregate-links : tie.Need-slice-aggregate-links
+slice-aggregate-links c = search needs
+
+slice-aggregate-links-2 : tie.Need-slice-aggregate-links-2
+slice-aggregate-links-2 c = search needs
+
+links-requires : tie.Need-links-requires
+links-requires c κs =
+    let s = c .before .before .before .before .before .before .before .before in
+    (list-ends _ _ _ _ (s .pre .0 .listed) (s .pre .0 .ends-long), (few-modules _ _ _ _ (s .pre .0 .listed), short s))
+
+slice-aggregate-search : tie.Need-slice-aggregate-search
+slice-aggregate-search c = search needs
+
+slice-aggregate-search-2 : tie.Need-slice-aggregate-search-2
+slice-aggregate-search-2 c = search needs
+
+search-requires : tie.Need-search-requires
+search-requires c κs =
+    let l = c .before .before .before .before .before .before .before in
+    let q = begin l .pre in
+    (q .0, (q .1 .0, (q .1 .1 .0, (links-long l, (q .1 .1 .1 .0, q .1 .1 .1 .1)))))
+
+slice-aggregate-last-round : tie.Need-slice-aggregate-last-round
+slice-aggregate-last-round c = search needs
+
+slice-aggregate-last-round-2 : tie.Need-slice-aggregate-last-round-2
+slice-aggregate-last-round-2 c = search needs
+
+last-round-requires : tie.Need-last-round-requires
+last-round-requires c κs =
+    let f = c .before .before .before .before .before .before .before .before .before .before .before in
+    let l = linked f in
+    let s = begin l in
+    let q = s .pre in
+    let e = f .search in
+    let k = e .kept .1 .1 .1 .1 .1 .1 .1 .1 .1 in (
+      q .0,
+      (
+        found-candidate (s .args .n) (s .args .m) (s .args .ends .now) (s .args .weights .now) (q .0) _ _ _ _ _ _ (e .ensures),
+        (
+          q .1 .1 .0,
+          (
+            links-long l,
+            (
+              (k .0 ∙ q .1 .1 .1 .0 .0, k .1 .1 .0 ∙ q .1 .1 .1 .0 .1),
+              (e .ensures .room, e .ensures .last),
+            ),
+          ),
+        ),
+      ),
+    )
+
+same-length : tie.Need-same-length
+same-length c = search needs
+
+same-length-2 : tie.Need-same-length-2
+same-length-2 c = search needs
+
+same-length-3 : tie.Need-same-length-3
+same-length-3 c = search needs
+
+returns : tie.Need-returns
+returns c =
+    let l = c .before .before .before .before .before .before in
+    let f = l .before .before .before .before .before .before .before .before .before .before .before .before in
+    let s = begin (linked f) in
+    found-settled (s .args .n) (s .args .m) (s .args .ends .now) (s .args .weights .now) (s .pre .0) _ _ _ _ _ _ (f .search .ensures) _ _ _ _
+    (l .last-round .ensures)
+
+pub find-spec : {M : Type 1} → statement M
+find-spec =
+    tie.close
+    (tie.spec
+    slice-aggregate-links
+    slice-aggregate-links-2
+    links-requires
+    slice-aggregate-search
+    slice-aggregate-search-2
+    search-requires
+    slice-aggregate-last-round
+    slice-aggregate-last-round-2
+    last-round-requires
+    same-length
+    same-length-2
+    same-length-3
+    returns)

@@ -1,0 +1,207 @@
+// Rounds: the found group among the pairs of a list, and a split at its size.
+//
+// A round asks for a split at a group's size with no load above its inside count, inside the core of the group's ratio rounded up. Where there is
+// none, `flow` hands over a denser group, and the next round starts from that; where there is one, what does not drain is the found group. A round
+// at the found group's size makes the split that the load sheet is written from; mostly it is the last one. (The Dinkelbach iteration.)
+ghost use mathlib.Core.Path.{_≡_};
+ghost use mathlib.Core.Bool.{true};
+ghost use lib.ListN.{length};
+ghost use Rattle.theory.specs.Groups.{inside, size};
+ghost use Rattle.theory.specs.Words.{list-in, Held-words};
+ghost use Rattle.slots.specs.Slots.{Room};
+ghost use Rattle.densest.specs.Search.{Candidate, Cored, Link-room, Round, Group-found};
+
+// A group's inside count and size, and whether the last round made a split at that size.
+pub(crate) struct Ratio {
+    pub(crate) p: u32,
+    pub(crate) q: u32,
+    pub(crate) settled: bool,
+}
+
+// One round: a split at share size q inside the core of p over q rounded up, near the one that hold has at share size `old`, and what `flow`
+// makes of it.
+fn round(
+    n: usize,
+    m: usize,
+    p: u32,
+    q: u32,
+    old: u32,
+    ends: &[u32],
+    weights: &[u32],
+    cores: &[u32],
+    first: &[u32],
+    next: &[u32],
+    scope: &mut [u8],
+    hold: &mut [u32],
+    group: &mut [u8],
+) -> bool
+    requires { ⌜ Held-words n m (now ends) (now weights) ⌝ }
+    requires { ⌜ Candidate (list-in n m (now ends) (now weights)) p q ⌝ }
+    requires { ⌜ Cored (list-in n m (now ends) (now weights)) (now cores) ⌝ }
+    requires { ⌜ Link-room n m (now first) (now next) ⌝ }
+    requires { ⌜ (length (now scope) ≡ n) × (length (now group) ≡ n) ⌝ }
+    requires { ⌜ Room m (now hold) ⌝ }
+    ensures { λ r. ⌜ Round n m p q (now (ends .entry)) (now (weights .entry)) (now (scope .exit)) (now (hold .exit)) (now (group .exit)) r ⌝ }
+{
+    let own = [0u32; 512];
+    let k = numbers::rounded_up(p, q);
+    groups::mark_at_least(n, k, cores, scope);
+    slots::spread(n, m, q, old, ends, weights, scope, hold);
+    flow::flow(n, m, p, 64, &own, scope, ends, first, next, hold, group)
+}
+
+// Rounds from a group of inside count p0 and size q0 on, until one finds a split; the found group's inside count and size.
+fn search(
+    n: usize,
+    m: usize,
+    p0: u32,
+    q0: u32,
+    ends: &[u32],
+    weights: &[u32],
+    cores: &[u32],
+    first: &[u32],
+    next: &[u32],
+    scope: &mut [u8],
+    hold: &mut [u32],
+    group: &mut [u8],
+) -> Ratio
+    requires { ⌜ Held-words n m (now ends) (now weights) ⌝ }
+    requires { ⌜ Candidate (list-in n m (now ends) (now weights)) p0 q0 ⌝ }
+    requires { ⌜ Cored (list-in n m (now ends) (now weights)) (now cores) ⌝ }
+    requires { ⌜ Link-room n m (now first) (now next) ⌝ }
+    requires { ⌜ (length (now scope) ≡ n) × (length (now group) ≡ n) ⌝ }
+    requires { ⌜ Room m (now hold) ⌝ }
+    ensures { λ r. ⌜ Group-found n m (now (ends .entry)) (now (weights .entry)) (now (scope .exit)) (now (hold .exit)) (now (group .exit)) (r .p) (r .q)
+        (r .settled) ⌝ }
+{
+    let mut p = p0;
+    let mut q = q0;
+    let mut old = 0;
+    let mut done = false;
+    let mut settled = false;
+    while !done {
+        done = round(
+            n,
+            m,
+            p,
+            q,
+            old,
+            ends,
+            weights,
+            cores,
+            first,
+            next,
+            scope,
+            hold,
+            group,
+        );
+        let inside = groups::inside_count(n, m, ends, weights, group);
+        let size = groups::group_size(n, group);
+        settled = numbers::same(inside, size, p, q);
+        old = q;
+        p = inside;
+        q = size;
+    }
+    Ratio { p, q, settled }
+}
+
+// A round at the found group's ratio, unless the last one was that round.
+fn last_round(
+    n: usize,
+    m: usize,
+    p: u32,
+    q: u32,
+    settled: bool,
+    ends: &[u32],
+    weights: &[u32],
+    cores: &[u32],
+    first: &[u32],
+    next: &[u32],
+    scope: &mut [u8],
+    hold: &mut [u32],
+    group: &mut [u8],
+) -> bool
+    requires { ⌜ Held-words n m (now ends) (now weights) ⌝ }
+    requires { ⌜ Candidate (list-in n m (now ends) (now weights)) p q ⌝ }
+    requires { ⌜ Cored (list-in n m (now ends) (now weights)) (now cores) ⌝ }
+    requires { ⌜ Link-room n m (now first) (now next) ⌝ }
+    requires { ⌜ (length (now scope) ≡ n) × (length (now group) ≡ n) ⌝ }
+    requires { ⌜ Room m (now hold) ⌝ }
+    requires { ⌜ (settled ≡ true → Round n m p q (now ends) (now weights) (now scope) (now hold) (now group) true) ⌝ }
+    ensures { λ r. ⌜ Round n m p q (now (ends .entry)) (now (weights .entry)) (now (scope .exit)) (now (hold .exit)) (now (group .exit)) r ⌝ }
+{
+    if settled {
+        return true;
+    }
+    round(
+        n,
+        m,
+        p,
+        q,
+        q,
+        ends,
+        weights,
+        cores,
+        first,
+        next,
+        scope,
+        hold,
+        group,
+    )
+}
+
+// Rounds from p over q on, and a split at the found group's size.
+pub(crate) fn find(
+    n: usize,
+    m: usize,
+    p: u32,
+    q: u32,
+    ends: &[u32],
+    weights: &[u32],
+    cores: &[u32],
+    scope: &mut [u8],
+    hold: &mut [u32],
+    group: &mut [u8],
+) -> Ratio
+    requires { ⌜ Held-words n m (now ends) (now weights) ⌝ }
+    requires { ⌜ Candidate (list-in n m (now ends) (now weights)) p q ⌝ }
+    requires { ⌜ Cored (list-in n m (now ends) (now weights)) (now cores) ⌝ }
+    requires { ⌜ (length (now scope) ≡ n) × (length (now group) ≡ n) ⌝ }
+    requires { ⌜ Room m (now hold) ⌝ }
+    ensures { λ r. ⌜ Group-found n m (now (ends .entry)) (now (weights .entry)) (now (scope .exit)) (now (hold .exit)) (now (group .exit))
+        (r .p) (r .q) true ⌝ }
+{
+    let mut first = [0u32; 512];
+    let mut next = [0u32; 8192];
+    slots::links(n, m, ends, &mut first, &mut next);
+    let best = search(
+        n,
+        m,
+        p,
+        q,
+        ends,
+        weights,
+        cores,
+        &first,
+        &next,
+        scope,
+        hold,
+        group,
+    );
+    last_round(
+        n,
+        m,
+        best.p,
+        best.q,
+        best.settled,
+        ends,
+        weights,
+        cores,
+        &first,
+        &next,
+        scope,
+        hold,
+        group,
+    );
+    best
+}

@@ -1,0 +1,93 @@
+-- `groups::inside_count` meets its contract: the pairs passed are added up. Assumes nothing.
+use native.Mathlib.Omega.{arith}
+use mathlib.Core.Path.{_≡_, _∙_, ap}
+use Prim.Native.Nat.{ℕ, _*_, _-_, _≤_}
+use lib.ListN.{length, getD}
+use Rattle.theory.specs.Words.{Held-words}
+use Rattle.slots.proofs.Words.{few-pairs, good-pair, list-ends}
+use Rattle.slots.proofs.Held.{cond-most}
+use Rattle.groups.proofs.Counts.{inside-upto, upto-none, upto-next, upto-all}
+use Rattle.groups.proofs.inside_count.Statement.{statement}
+use Rattle.groups.proofs.inside_count.Tie as tie
+
+abbrev Inv-loop : tie.InvT-loop
+Inv-loop n m ends weights group count₀ j₀ count j =
+    Held-words n m ends weights × (length group ≡ n) × (j ≤ m) × (count ≤ 1000 * j) × (count ≡ inside-upto j ends weights group)
+
+abbrev μ-loop : tie.MeasureT-loop
+μ-loop n m ends weights group count₀ j₀ count j = m - j
+
+loop-holds : tie.Need-loop-holds Inv-loop μ-loop
+loop-holds c = (c .before .before .before .pre .0, c .before .before .before .pre .1, omega arith, omega arith, upto-none _ _ _)
+
+inner-requires : tie.Need-inner-requires Inv-loop μ-loop
+inner-requires c κs = let i = c .before .loop .inv in (list-ends _ _ _ _ (i .0 .listed) (i .0 .ends-long), (omega arith, i .1))
+
+mul-pick : tie.Need-mul-pick Inv-loop μ-loop
+mul-pick c = let l = c .before .before .loop .inv .0 .weights-long in omega arith
+
+shared-slice-read-pick : tie.Need-shared-slice-read-pick Inv-loop μ-loop
+shared-slice-read-pick c = let l = c .before .before .before .loop .inv .0 .weights-long in omega arith
+
+pick-requires : tie.Need-pick-requires Inv-loop μ-loop
+pick-requires c κs = tt
+
+-- what pair j adds is at most its weight, 1,000
+adds-few : (c : tie.After-pick Inv-loop μ-loop) → c .pick .result ≤ 1000
+adds-few c =
+    let l = c .before .before .before .before .loop in
+    let a = c .before .before .before .before .before .before .before .before .args in
+    omega (
+      arith,
+      c .pick .ensures,
+      cond-most (c .before .before .inner .result) (getD (a .weights .now) (l .j) 0),
+      good-pair (a .n) (a .m) (a .ends .now) (a .weights .now) (l .inv .0 .listed) (l .j) (omega arith) .light,
+    )
+
+add-count : tie.Need-add-count Inv-loop μ-loop
+add-count c =
+    let i = c .before .before .before .before .loop .inv in
+    omega (arith, few-pairs _ _ _ _ (i .0 .listed), adds-few c)
+
+add-j : tie.Need-add-j Inv-loop μ-loop
+add-j c = omega arith
+
+loop-less : tie.Need-loop-less Inv-loop μ-loop
+loop-less c = omega arith
+
+loop-again : tie.Need-loop-again Inv-loop μ-loop
+loop-again c =
+    let l = c .before .before .before .before .loop in
+    let a = c .before .before .before .before .before .before .before .before .args in
+    let few = adds-few c in (
+      l .inv .0,
+      l .inv .1,
+      omega arith,
+      omega arith,
+      upto-next (a .ends .now) (a .weights .now) (a .group .now) (l .j) _ _ _ (l .inv .4) (c .before .before .inner .ensures) (c .pick .ensures),
+    )
+
+returns : tie.Need-returns Inv-loop μ-loop
+returns c = let i = c .before .loop .inv in
+    let a = c .before .before .before .before .before .args in
+    let e : c .before .loop .j ≡ a .m = omega arith in
+    i .4
+    ∙ ap (λ (x : ℕ). inside-upto x (a .ends .now) (a .weights .now) (a .group .now)) e
+    ∙ upto-all (a .n) (a .m) (a .ends .now) (a .weights .now) (a .group .now)
+
+pub inside-count-spec : {M : Type 1} → statement M
+inside-count-spec =
+    tie.close
+    (tie.spec
+    Inv-loop
+    μ-loop
+    loop-holds
+    inner-requires
+    mul-pick
+    shared-slice-read-pick
+    pick-requires
+    add-count
+    add-j
+    loop-less
+    loop-again
+    returns)

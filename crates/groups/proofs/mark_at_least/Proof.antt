@@ -1,0 +1,71 @@
+-- `groups::mark_at_least` meets its contract: the bytes passed are written. Assumes nothing.
+use native.Mathlib.Omega.{arith}
+use mathlib.Core.Path.{_≡_, refl}
+use Prim.Native.Nat.{ℕ, _-_, _≤_, _<_}
+use lib.Dec.{leb}
+use lib.ListN.{length, getD, length-set}
+use Rattle.theory.specs.Basics.{mark}
+use Rattle.slots.proofs.Choice.{stored-more}
+use Rattle.groups.proofs.mark_at_least.Statement.{statement}
+use Rattle.groups.proofs.mark_at_least.Tie as tie
+
+abbrev Inv-loop : tie.InvT-loop
+Inv-loop n k numbers group₀ v₀ group v = (v ≤ n) × (length group ≡ length group₀) × ((i : ℕ) → i < v → getD group i 0 ≡ mark (leb k (getD numbers i 0)))
+
+abbrev μ-loop : tie.MeasureT-loop
+μ-loop n k numbers group₀ v₀ group v = n - v
+
+loop-holds : tie.Need-loop-holds Inv-loop μ-loop
+loop-holds c = (omega arith, refl, λ i h. absurd (omega arith))
+
+mul-byte : tie.Need-mul-byte Inv-loop μ-loop
+mul-byte c = omega arith
+
+shared-slice-read-byte : tie.Need-shared-slice-read-byte Inv-loop μ-loop
+shared-slice-read-byte c = omega arith
+
+byte-requires : tie.Need-byte-requires Inv-loop μ-loop
+byte-requires c κs = tt
+
+slice-write-group : tie.Need-slice-write-group Inv-loop μ-loop
+slice-write-group c = omega arith
+
+add-v : tie.Need-add-v Inv-loop μ-loop
+add-v c = omega arith
+
+loop-less : tie.Need-loop-less Inv-loop μ-loop
+loop-less c = omega arith
+
+loop-again : tie.Need-loop-again Inv-loop μ-loop
+unfolding mark
+loop-again c =
+    let a = c .before .before .before .before .before .before .args in
+    let l = c .before .before .before .loop in (
+      omega arith,
+      simp length-set (l .inv .1),
+      stored-more (λ i x. x ≡ mark (leb (a .k) (getD (a .numbers .now) i 0))) (l .group) (l .v) (c .byte .result) (omega arith) (l .inv .2)
+          (c .byte .ensures),
+    )
+
+same-length : tie.Need-same-length Inv-loop μ-loop
+same-length c = omega arith
+
+returns : tie.Need-returns Inv-loop μ-loop
+returns c = λ v h. c .before .loop .inv .2 v (omega arith)
+
+pub mark-at-least-spec : {M : Type 1} → statement M
+mark-at-least-spec =
+    tie.close
+    (tie.spec
+    Inv-loop
+    μ-loop
+    loop-holds
+    mul-byte
+    shared-slice-read-byte
+    byte-requires
+    slice-write-group
+    add-v
+    loop-less
+    loop-again
+    same-length
+    returns)

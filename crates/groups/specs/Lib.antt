@@ -1,0 +1,2 @@
+-- What the contracts of groups in words cite.
+pub mod Pairs

@@ -1,0 +1,13 @@
+-- `numbers::between` meets its contract. Assumes nothing.
+use borrow.Author.Tests.{le-leb, lt-leb}
+use Rattle.numbers.proofs.between.Statement.{statement}
+use Rattle.numbers.proofs.between.Tie as tie
+
+returns : tie.Need-returns
+returns c = rw (le-leb _ _ (c .if1 .taken))
+
+returns-2 : tie.Need-returns-2
+returns-2 c = rw (lt-leb _ _ (c .if1 .left))
+
+pub between-spec : {M : Type 1} → statement M
+between-spec = tie.close (tie.spec returns returns-2)

@@ -1,0 +1,67 @@
+// Small functions on numbers, each once for the whole house: the lesser and the greater of two, a quotient rounded up, tests of numbers and of bytes,
+// and tests as numbers. Nothing here branches by more than one test, and nothing is refused.
+ghost use mathlib.Core.Path.{_≡_};
+ghost use mathlib.Core.Bool.{_&&_, cond};
+ghost use Prim.Native.Nat.{_≤_, min, max};
+ghost use lib.Dec.{leb, eqb};
+ghost use Rattle.theory.specs.Splits.{rounded-up};
+
+// The lesser of two.
+pub fn lesser(a: u32, b: u32) -> u32
+    ensures { λ r. ⌜ r ≡ min a b ⌝ }
+{
+    if a < b { a } else { b }
+}
+
+// The greater of two.
+pub fn greater(a: u32, b: u32) -> u32
+    ensures { λ r. ⌜ r ≡ max a b ⌝ }
+{
+    if a < b { b } else { a }
+}
+
+// p over q, rounded up.
+pub fn rounded_up(p: u32, q: u32) -> u32
+    requires { ⌜ 1 ≤ q ⌝ }
+    ensures { λ r. ⌜ r ≡ rounded-up p q ⌝ }
+{
+    if p == 0 {
+        return 0;
+    }
+    (p - 1) / q + 1
+}
+
+// Whether two numbers are two others.
+pub fn same(a: u32, b: u32, c: u32, d: u32) -> bool
+    ensures { λ r. ⌜ r ≡ (eqb a c && eqb b d) ⌝ }
+{
+    if a == c { b == d } else { false }
+}
+
+// Whether a byte is one of the range from `low` to `high`.
+pub fn between(c: u8, low: u8, high: u8) -> bool
+    ensures { λ r. ⌜ r ≡ (leb low c && leb c high) ⌝ }
+{
+    low <= c && c <= high
+}
+
+// x where a test holds, else 0.
+pub fn pick(test: bool, x: u32) -> u32
+    ensures { λ r. ⌜ r ≡ cond test x 0 ⌝ }
+{
+    if test { x } else { 0 }
+}
+
+// 1 where a test holds, else 0: how far a place moves on.
+pub fn step(test: bool) -> usize
+    ensures { λ r. ⌜ r ≡ cond test 1 0 ⌝ }
+{
+    if test { 1 } else { 0 }
+}
+
+// A test as a byte.
+pub fn byte(test: bool) -> u8
+    ensures { λ r. ⌜ r ≡ cond test 1 0 ⌝ }
+{
+    if test { 1 } else { 0 }
+}
