@@ -11,11 +11,11 @@
 use push::phases;
 use slots::capped;
 use slots::clear;
-use slots::least;
+use slots::has_room;
+use slots::lesser;
 use slots::loads;
 use slots::other;
 use slots::shift;
-use slots::short;
 use slots::wide;
 ghost use mathlib.Core.Path.{_≡_};
 ghost use mathlib.Core.Bool.{true, _&&_, cond};
@@ -176,7 +176,7 @@ fn pull(
     loop {
         let k = wide(from[c]);
         let u = wide(ends[k]);
-        let d = least(p - load[c], hold[k]);
+        let d = lesser(p - load[c], hold[k]);
         shift(n, m, k, d, ends, hold, load);
         if p <= load[u] {
             return;
@@ -261,7 +261,7 @@ fn level(n: usize, p: u32, scope: &[u8], load: &[u32], rank: &mut [u32], queue: 
         let x = load[v];
         rank[v] = stays(p, s, x);
         queue[tail] = v as u32;
-        tail = tail + short(p, s, x);
+        tail = tail + has_room(p, s, x);
     }
     tail
 }

@@ -23,8 +23,9 @@ use Rattle.peel.specs.declared.Remainder.{Remainder}
 use Rattle.peel.specs.Places.{place-in, places}
 use Rattle.peel.specs.Remainders.{densest-upto, densest-remainder}
 use Rattle.peel.specs.Peel.{Peels}
-use Rattle.peel.specs.Steps.{entry, remaining, picks, Written, Turned, Numberable, Numbered, Pickable, Remainder-at}
-use Rattle.peel.proofs.Updates.{written-all}
+use Rattle.slots.specs.Buffers.{entry, Written-front}
+use Rattle.peel.specs.Steps.{remaining, picks, Turned, Numberable, Numbered, Pickable, Remainder-at}
+use Rattle.slots.proofs.Buffers.{written-all}
 use Rattle.peel.proofs.Leavers.{leaver-below, leavers-apart, leaving-entries, place-of-leaver, remainder-size}
 use Rattle.peel.proofs.Remainders.{falls-all, remaining-inside, picks-densest, densest-le}
 
@@ -76,10 +77,10 @@ module _ (g : Pairs) (h : is-list g ≡ true) (order falls order′ falls′ : L
     unfolding Leaving-everyone
     of-all xs f all v l = let e = leaving-everyone g v l in rw (e .2) at (all (e .0) (e .1))
 
-    pub answer-cores : Written (g .n) (core-number g) cores cores′
+    pub answer-cores : Written-front (g .n) (core-number g) cores cores′
     answer-cores = record { long = d .cores-long; front = of-all cores′ (core-number g) number-at; rest = d .cores-rest }
 
-    pub answer-places : Written (g .n) (place-in (leaving g)) place place′
+    pub answer-places : Written-front (g .n) (place-in (leaving g)) place place′
     answer-places = record { long = d .place-long; front = of-all place′ (place-in (leaving g)) place-at; rest = d .places-rest }
 
     pub answer : (least : ℕ) (r : Remainder) → g .n ≤ length order → g .n ≤ length cores → g .n ≤ length place →

@@ -29,7 +29,7 @@ use Rattle.theory.proofs.Groups.{Sub, everyone-bits, bits-group, size-everyone,
 use Rattle.theory.proofs.Leaving.{leaver-fewest, leaving-steps, leaving-everyone}
 use Rattle.theory.proofs.Peeling.{peeled}
 use Rattle.peel.specs.Places.{place-in}
-use Rattle.peel.specs.Steps.{entry}
+use Rattle.slots.specs.Buffers.{entry}
 
 module _ (g : Pairs) where
   pub leaver-at : (i : ℕ) → i < g .n → leaver g (remainder g i) ≡ some (getD (leaving g) i 0)

@@ -11,7 +11,8 @@ use lib.ListN.{length, getD, set, length-set}
 use lib.Seq.{getD-set-same, getD-set-other}
 use borrow.Author.Tests.{eqb-true, eqb-false}
 use Rattle.theory.specs.Basics.{greatest}
-use Rattle.peel.specs.Steps.{entry, Numberable, Numbered}
+use Rattle.slots.specs.Buffers.{entry}
+use Rattle.peel.specs.Steps.{Numberable, Numbered}
 
 pub numbered-none : (n : ℕ) (order falls cores place : List ℕ) → Numbered 0 n order falls cores place cores place
 numbered-none n order falls cores place =

@@ -15,10 +15,11 @@ use Rattle.theory.specs.Leaving.{leaver, leaving, remainder, leaving-degree}
 use Rattle.theory.specs.Words.{list-in, Held-words}
 use Rattle.ranking.specs.declared.Leaver.{Leaver}
 use Rattle.ranking.specs.Ranking.{Someone, Taken}
-use Rattle.peel.specs.Steps.{entry, both-ways, Ranked, Loosable, Loosened, Turned}
+use Rattle.slots.specs.Buffers.{entry}
+use Rattle.peel.specs.Steps.{both-ways, Ranked, Loosable, Loosened, Turned}
 use Rattle.peel.proofs.Leavers.{leaver-at, remainder-full}
 use Rattle.peel.proofs.Ranks.{ranked-someone, ranked-first, ranked-degree, ranked-loosable, ranked-next}
-use Rattle.peel.proofs.Updates.{written-none, written-next}
+use Rattle.slots.proofs.Buffers.{written-none, written-next}
 
 -- i modules have left
 pub record Turning (g : Pairs) (i : ℕ) (order falls work order′ falls′ : List ℕ) : Type 0 where

@@ -32,7 +32,8 @@ use Rattle.slots.proofs.Held.{cond-most}
 use Rattle.slots.proofs.Words.{few-pairs, good-pair, inside-total}
 use Rattle.peel.specs.declared.Remainder.{Remainder}
 use Rattle.peel.specs.Remainders.{denser-of, densest-upto}
-use Rattle.peel.specs.Steps.{entry, remaining, pick, picks, Remainder-at, denser}
+use Rattle.slots.specs.Buffers.{entry}
+use Rattle.peel.specs.Steps.{remaining, pick, picks, Remainder-at, denser}
 use Rattle.peel.proofs.Leavers.{leaver-in, remainder-size, remainder-group}
 
 pub cross-fits : (p q : ℕ) → p ≤ 4096000 → q ≤ 512 → p * q ≤ 2097152000

@@ -1,11 +1,5 @@
 -- What the functions under `peel` take and leave; only this crate cites it.
---   entry, Written           a buffer as a function; its first entries are written, the others as they were
---   first-end, second-end    the ends of a pair
---   weight-at                what modules carry at first, by pairs
---   Rows, Chains             the ways to a module's pairs: those whose first end it is, and those whose second end it is
---   Blank, Laid              before and after these and the degrees are laid out
---   Row-at                   a place in a module's row
---   by-row, by-chain, both-ways    what joins two modules, by these ways
+--   by-row, by-chain, both-ways    what joins two modules, along a module's row and its chain
 --   Degrees, Ranked          degrees at first; the ranking holds the modules present, each with its degree
 --   Loosable, Loosened       before and after the pairs of a leaver are taken from the others
 --   Turned                   the leaving order and the degrees at leaving
@@ -25,67 +19,12 @@ use Rattle.theory.specs.Groups.{is-in, everyone}
 use Rattle.theory.specs.Leaving.{degree, leaving, leaving-degree}
 use Rattle.theory.specs.Words.{Held-words}
 use Rattle.slots.specs.Slots.{total}
-use Rattle.slots.specs.Links.{Lasts, Linked}
+use Rattle.slots.specs.Rows.{first-end, second-end}
+use Rattle.slots.specs.Buffers.{entry, Written-front}
 use Rattle.ranking.specs.Ranking.{Ranking, has, carries}
 use Rattle.peel.specs.declared.Remainder.{Remainder}
 
--- entry i of a buffer, as a function
-unfoldable pub entry : List ℕ → (i : ℕ) → ℕ
-entry xs i = getD xs i 0
-
--- the first k entries are f 0, .., f (k − 1), and the others as they were
-pub record Written (k : ℕ) (f : ℕ → ℕ) (old new : List ℕ) : Type 0 where
-  pub long : length new ≡ length old
-  pub front : (i : ℕ) → i < k → getD new i 0 ≡ f i
-  pub rest : (i : ℕ) → k ≤ i → getD new i 0 ≡ getD old i 0
-
--- ---- pairs, by their ends
-
--- the first and the second end of pair j
-unfoldable pub first-end : (ends : List ℕ) → (j : ℕ) → ℕ
-first-end es j = getD es (2 * j) 0
-
-unfoldable pub second-end : (ends : List ℕ) → (j : ℕ) → ℕ
-second-end es j = getD es (2 * j + 1) 0
-
--- what the first k pairs weigh at v
-unfoldable pub weight-at : (ends weights : List ℕ) → (k v : ℕ) → ℕ
-weight-at es ws k v =
-    total k (λ j. cond (eqb (first-end es j) v) (getD ws j 0) 0 + cond (eqb (second-end es j) v) (getD ws j 0) 0)
-
--- where the row of each module ends: the pairs whose first end it is stand side by side, as the list rises
-pub record Rows (n k : ℕ) (ends rows : List ℕ) : Type 0 where
-  pub lasts : Lasts n k (first-end ends) rows
-  pub long : n ≤ length rows
-
--- the chain of each module: the pairs whose second end it is, from the last one back
-pub record Chains (n k : ℕ) (ends first next : List ℕ) : Type 0 where
-  pub linked : Linked n k (second-end ends) first next
-  pub first-long : n ≤ length first
-  pub next-long : k ≤ length next
-
--- buffers that are long enough; rows, first and degrees are 0, and what `next` holds is free
-pub record Blank (n m : ℕ) (rows first next degrees : List ℕ) : Type 0 where
-  pub rows-long : n ≤ length rows
-  pub first-long : n ≤ length first
-  pub next-long : m ≤ length next
-  pub degrees-long : n ≤ length degrees
-  pub rows-none : (v : ℕ) → v < n → getD rows v 0 ≡ 0
-  pub first-none : (v : ℕ) → v < n → getD first v 0 ≡ 0
-  pub degrees-none : (v : ℕ) → v < n → getD degrees v 0 ≡ 0
-
--- the first k pairs are in them
-pub record Laid (n k : ℕ) (ends weights rows first next degrees : List ℕ) : Type 0 where
-  pub rows-are : Rows n k ends rows
-  pub chains-are : Chains n k ends first next
-  pub degrees-are : (v : ℕ) → v < n → getD degrees v 0 ≡ weight-at ends weights k v
-
--- pair k is in the row of v, and up to there first ends do not fall
-pub record Row-at (k v : ℕ) (ends : List ℕ) : Type 0 where
-  pub few : k < 4096
-  pub long : 2 * k < length ends
-  pub here : first-end ends k ≡ v
-  pub rises : (i j : ℕ) → i ≤ j → j ≤ k → first-end ends i ≤ first-end ends j
+-- ---- pairs, along rows and chains
 
 -- what pair j counts, where its end `from` is v and its end `to` is u
 unfoldable pub pair-to : (from to : ℕ → ℕ) → (weights : List ℕ) → (v u j : ℕ) → ℕ
@@ -132,8 +71,8 @@ pub record Loosened (f : ℕ → ℕ) (old new : List ℕ) : Type 0 where
 
 -- the first i places of the order, and the degrees at leaving
 pub record Turned (g : Pairs) (i : ℕ) (order falls order′ falls′ : List ℕ) : Type 0 where
-  pub order-is : Written i (entry (leaving g)) order order′
-  pub falls-are : Written i (leaving-degree g) falls falls′
+  pub order-is : Written-front i (entry (leaving g)) order order′
+  pub falls-are : Written-front i (leaving-degree g) falls falls′
 
 -- ---- core numbers and places
 

@@ -5,16 +5,17 @@
 // module is stand side by side, its row; those whose second end it is are chained. One pass over the pairs finds rows, chains and degrees. The
 // core number of a leaver is the greatest degree at leaving so far. Refuses nothing: its callers have tested the list and the buffers.
 ghost use mathlib.Core.Path.{_≡_};
-ghost use Prim.Native.Nat.{_+_, _*_, _-_, _≤_, _<_, max};
-ghost use lib.ListN.{length, getD, set};
+ghost use Prim.Native.Nat.{_-_, _≤_, max};
+ghost use lib.ListN.{length};
 ghost use Rattle.theory.specs.Groups.{everyone};
 ghost use Rattle.theory.specs.Words.{list-in, Held-words};
 ghost use Rattle.slots.specs.Slots.{total};
-ghost use Rattle.slots.specs.Links.{last-at};
+ghost use Rattle.slots.specs.Rows.{Rows, Chains};
+ghost use Rattle.slots.specs.Buffers.{entry};
 ghost use Rattle.peel.specs.Peel.{Peelable, Peels};
-ghost use Rattle.peel.specs.Steps.{first-end, Blank, Laid, Rows, Row-at, Chains, by-row, by-chain, both-ways, Loosable, Loosened};
+ghost use Rattle.peel.specs.Steps.{by-row, by-chain, both-ways, Loosable, Loosened};
 ghost use Rattle.peel.specs.Steps.{Ranked, Turned, Numberable, Numbered};
-ghost use Rattle.peel.specs.Steps.{entry, remaining, picks, denser, Pickable, Remainder-at};
+ghost use Rattle.peel.specs.Steps.{remaining, picks, denser, Pickable, Remainder-at};
 
 // What is left when `at` modules have left: its inside count p and its size q.
 pub struct Remainder {
@@ -27,53 +28,6 @@ fn higher_of(a: u32, b: u32) -> u32
     ensures { λ r. ⌜ r ≡ max a b ⌝ }
 {
     if a < b { b } else { a }
-}
-
-// Adds d to entry i.
-fn add(i: usize, d: u32, xs: &mut [u32])
-    requires { ⌜ i < length (now xs) ⌝ }
-    requires { ⌜ getD (now xs) i 0 + d < 4294967296 ⌝ }
-    ensures { λ r. ⌜ now (xs .exit) ≡ set (now (xs .entry)) i (getD (now (xs .entry)) i 0 + d) ⌝ }
-{
-    xs[i] = xs[i] + d;
-}
-
-// One pass over the pairs: where each module's row ends, the chains of second ends, and the degrees among all modules.
-fn lay_out(
-    n: usize,
-    m: usize,
-    ends: &[u32],
-    weights: &[u32],
-    rows: &mut [u32],
-    first: &mut [u32],
-    next: &mut [u32],
-    degrees: &mut [u32],
-)
-    requires { ⌜ Held-words n m (now ends) (now weights) ⌝ }
-    requires { ⌜ Blank n m (now rows) (now first) (now next) (now degrees) ⌝ }
-    ensures { λ r. ⌜ Laid n m (now (ends .entry)) (now (weights .entry))
-        (now (rows .exit)) (now (first .exit)) (now (next .exit)) (now (degrees .exit)) ⌝ }
-{
-    for j in 0..m {
-        let a = slots::wide(ends[2 * j]);
-        let b = slots::wide(ends[2 * j + 1]);
-        rows[a] = (j + 1) as u32;
-        slots::link(j, b, first, next);
-        add(a, weights[j], degrees);
-        add(b, weights[j], degrees);
-    }
-}
-
-// The place before k in the row of v, and 1 more; 0 where the row begins at k.
-fn earlier(k: usize, v: usize, ends: &[u32]) -> usize
-    requires { ⌜ Row-at k v (now ends) ⌝ }
-    ensures { λ r. ⌜ r ≡ last-at k (first-end (now (ends .entry))) v ⌝ }
-{
-    if k == 0 {
-        return 0;
-    }
-    let a = slots::wide(ends[2 * (k - 1)]);
-    if a == v { k } else { 0 }
 }
 
 // Module v has left: the second ends of the pairs in its row fall in the ranking.
@@ -95,7 +49,7 @@ fn loosen_row(
         let k = s - 1;
         let b = slots::wide(ends[2 * k + 1]);
         ranking::lower(b, weights[k], work);
-        s = earlier(k, v, ends);
+        s = slots::earlier_in_row(k, v, ends);
     }
 }
 
@@ -261,7 +215,7 @@ pub fn peel(
     let mut degrees = [0u32; 512];
     let mut work = [0u32; 1024];
     let mut falls = [0u32; 512];
-    lay_out(
+    slots::adjacency(
         n,
         m,
         ends,

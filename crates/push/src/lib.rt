@@ -8,10 +8,10 @@
 // Cost: a phase takes a step for each slot of the modules that it labels and of those that come up in line. Nothing is refused.
 use slots::capped;
 use slots::copy;
-use slots::least;
+use slots::has_room;
+use slots::lesser;
 use slots::other;
 use slots::shift;
-use slots::short;
 use slots::wide;
 ghost use Prim.Native.Nat.{_*_, _≤_, _<_};
 ghost use lib.ListN.{length};
@@ -44,7 +44,7 @@ fn start(n: usize, p: u32, scope: &[u8], load: &[u32], label: &mut [u32], line: 
     while v > 0 {
         v = v - 1;
         label[v] = FAR;
-        if short(p, scope[v], load[v]) == 1 {
+        if has_room(p, scope[v], load[v]) == 1 {
             label[v] = 0;
             tail = join(v as u32, tail, line);
         }
@@ -113,7 +113,7 @@ fn reach_from(
 
 // The label one higher, at most that of the far ones.
 fn above(x: u32) -> u32 {
-    least(x, FAR - 1) + 1
+    lesser(x, FAR - 1) + 1
 }
 
 // Labels all modules from which units can come to one loaded below p; they stand in line as they were reached.
@@ -186,7 +186,7 @@ fn amount(p: u32, h: u32, x: u32, d: u32, e: u32) -> u32
 {
     if e < d {
         if p < x {
-            return least(h, x - p);
+            return lesser(h, x - p);
         }
     }
     0
@@ -282,7 +282,7 @@ fn relabel(
         let k = s - 1;
         s = capped(next[k], k);
         if hold[k] > 0 {
-            low = least(low, label[wide(ends[other(k)])]);
+            low = lesser(low, label[wide(ends[other(k)])]);
         }
     }
     above(low)

@@ -1,16 +1,20 @@
-// Units in slots: what the split search moves (document 01, "Words used", split), and how it lies in words.
+// Units in slots: what the split search moves (document 01, "Words used", split), and how it lies in words. And the pairs of each module.
 //
 // Pair j has two slots, 2j and 2j + 1: ends[s] is a slot's module, hold[s] the units of the pair that it holds. Both ends are alike, so nothing goes
 // by sides. A module's load is its own, which does not move, and the units that it holds. Three arguments are the list: n modules, m pairs, `ends`.
-// `spread` lays out a split, `loads` adds up, `links` chains each module's slots, `shift` moves units (no other function does). The first three cost a
-// step for each slot or pair. Peeling uses `link` too, for chains of pairs. Nothing is refused: what is asked is in the contracts.
+// `spread` makes a split, `loads` adds up, `links` chains each module's slots, `shift` moves units (no other function does). The first three cost a
+// step for each slot or pair. `adjacency` finds each module's pairs and its degree in one pass over a list that rises: the pairs whose first end it is
+// stand side by side, its row (`earlier_in_row` goes back along it), and those whose second end it is are chained. Nothing is refused: what is asked is
+// in the contracts.
 ghost use mathlib.Core.Path.{_≡_};
 ghost use mathlib.Core.Bool.{_&&_, cond};
 ghost use Prim.Native.Nat.{ℕ, _+_, _*_, _≤_, _<_, min};
 ghost use lib.Dec.{eqb, ltb};
 ghost use lib.ListN.{length, getD, set};
 ghost use Rattle.slots.specs.Slots.{mate, moved, Ends, Room, Own, Loads, Covers};
-ghost use Rattle.slots.specs.Links.{Linked};
+ghost use Rattle.theory.specs.Words.{Held-words};
+ghost use Rattle.slots.specs.Links.{last-at, Linked};
+ghost use Rattle.slots.specs.Rows.{first-end, Row-at, Adjacency-blank, Adjacency};
 ghost use Rattle.slots.specs.Split.{Weights, Split};
 
 // A word as an index.
@@ -21,7 +25,7 @@ pub fn wide(x: u32) -> usize
 }
 
 // The smaller of two.
-pub fn least(a: u32, b: u32) -> u32
+pub fn lesser(a: u32, b: u32) -> u32
     ensures { λ r. ⌜ r ≡ min a b ⌝ }
 {
     if a < b { a } else { b }
@@ -36,7 +40,7 @@ pub fn capped(x: u32, top: usize) -> usize
 }
 
 // 1 where a module of scope byte s and load x is in the scope and loaded below p, else 0.
-pub fn short(p: u32, s: u8, x: u32) -> usize
+pub fn has_room(p: u32, s: u8, x: u32) -> usize
     ensures { λ r. ⌜ r ≡ cond (eqb s 1 && ltb x p) 1 0 ⌝ }
 {
     if s == 1 {
@@ -122,6 +126,53 @@ pub fn links(n: usize, m: usize, ends: &[u32], first: &mut [u32], next: &mut [u3
     }
 }
 
+// Adds d to entry i.
+fn add(i: usize, d: u32, xs: &mut [u32])
+    requires { ⌜ i < length (now xs) ⌝ }
+    requires { ⌜ getD (now xs) i 0 + d < 4294967296 ⌝ }
+    ensures { λ r. ⌜ now (xs .exit) ≡ set (now (xs .entry)) i (getD (now (xs .entry)) i 0 + d) ⌝ }
+{
+    xs[i] = xs[i] + d;
+}
+
+// One pass over the pairs: where each module's row ends, the chains of second ends, and the degrees among all modules.
+pub fn adjacency(
+    n: usize,
+    m: usize,
+    ends: &[u32],
+    weights: &[u32],
+    rows: &mut [u32],
+    first: &mut [u32],
+    next: &mut [u32],
+    degrees: &mut [u32],
+)
+    requires { ⌜ Held-words n m (now ends) (now weights) ⌝ }
+    requires { ⌜ Adjacency-blank n m (now rows) (now first) (now next) (now degrees) ⌝ }
+    ensures { λ r. ⌜ Adjacency n m (now (ends .entry)) (now (weights .entry))
+        (now (rows .exit)) (now (first .exit)) (now (next .exit)) (now (degrees .exit)) ⌝ }
+{
+    for j in 0..m {
+        let a = wide(ends[2 * j]);
+        let b = wide(ends[2 * j + 1]);
+        rows[a] = (j + 1) as u32;
+        link(j, b, first, next);
+        add(a, weights[j], degrees);
+        add(b, weights[j], degrees);
+    }
+}
+
+// The place before k in the row of v, and 1 more; 0 where the row begins at k.
+pub fn earlier_in_row(k: usize, v: usize, ends: &[u32]) -> usize
+    requires { ⌜ Row-at k v (now ends) ⌝ }
+    ensures { λ r. ⌜ r ≡ last-at k (first-end (now (ends .entry))) v ⌝ }
+{
+    if k == 0 {
+        return 0;
+    }
+    let a = wide(ends[2 * (k - 1)]);
+    if a == v { k } else { 0 }
+}
+
 // Moves d from place i to place j.
 fn carry(i: usize, j: usize, d: u32, xs: &mut [u32])
     requires { ⌜ i < length (now xs) ⌝ }
@@ -175,7 +226,7 @@ fn first_part(u: u32, q: u32, old: u32, x: u32) -> u32
     if old == 0 {
         return u / 2;
     }
-    least(x * q / old, u)
+    lesser(x * q / old, u)
 }
 
 // A split at share size q inside the scope: near the one that hold has at share size `old`, or in halves where `old` is 0.

@@ -18,13 +18,13 @@ abbrev μ-loop : tie.MeasureT-loop
 abbrev begin : tie.At-loop Inv-loop μ-loop → tie.Start Inv-loop μ-loop
 begin c = c .before .before .before .before .before
 
-next-level : (c : tie.After-short Inv-loop μ-loop) →
+next-level : (c : tie.After-has-room Inv-loop μ-loop) →
     let a = begin (c .before .before .before .before .before) .args in let l = c .before .before .before .before .before .loop in
     Levelling (a .n) (a .p) (l .v + 1) (a .scope .now) (a .load .now) (set (l .rank) (l .v) (c .before .stays .result))
-    (set (l .queue) (l .tail) (l .v)) (l .tail + c .short .result)
+    (set (l .queue) (l .tail) (l .v)) (l .tail + c .has-room .result)
 next-level c =
     level-next (c .before .before .before .before .before .loop .inv .0) (omega arith) (omega arith) (omega arith) _ _ (c .before .stays .ensures)
-    (c .short .ensures)
+    (c .has-room .ensures)
 
 loop-holds : tie.Need-loop-holds Inv-loop μ-loop
 loop-holds c = (level-start, c .before .before .before .before .pre .1 .1 .0, refl, c .before .before .before .before .pre .1 .1 .1)
@@ -56,8 +56,8 @@ mul-queue c = omega arith
 slice-write-queue : tie.Need-slice-write-queue Inv-loop μ-loop
 slice-write-queue c = omega arith
 
-short-requires : tie.Need-short-requires Inv-loop μ-loop
-short-requires c κs = omega arith
+has-room-requires : tie.Need-has-room-requires Inv-loop μ-loop
+has-room-requires c κs = omega arith
 
 add-tail : tie.Need-add-tail Inv-loop μ-loop
 add-tail c = omega (arith, next-level c .few)
@@ -98,7 +98,7 @@ level-spec =
     cast-queue
     mul-queue
     slice-write-queue
-    short-requires
+    has-room-requires
     add-tail
     add-v
     loop-less

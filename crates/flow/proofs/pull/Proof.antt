@@ -42,7 +42,7 @@ chain-ends : (c : tie.After-shift Inv-loop μ-loop) → let a = begin (loop-of c
     (a .p ≤ getD load (wide-of c .wide2 .result) 0) ⊎ (wide-of c .wide2 .result ≡ a .root) →
     Pulled (a .n) (a .m) (a .p) (a .ends .now) (a .hold .now) (a .load .now) (c .shift .last .1 .1 .1 .1 .1 .0) load
 chain-ends c =
-    chain-end (loop-of c .loop .inv) (at-parent (wide-of c)) (c .before .before .before .least .ensures) (c .shift .ensures .0) (c .shift .ensures .1)
+    chain-end (loop-of c .loop .inv) (at-parent (wide-of c)) (c .before .before .before .lesser .ensures) (c .shift .ensures .0) (c .shift .ensures .1)
 
 loop-holds : tie.Need-loop-holds Inv-loop μ-loop
 loop-holds c =
@@ -68,29 +68,29 @@ shared-slice-read-wide-2 c = let s = at-slot (c .before) in omega arith
 wide-requires-2 : tie.Need-wide-requires-2 Inv-loop μ-loop
 wide-requires-2 c κs = tt
 
-mul-least : tie.Need-mul-least Inv-loop μ-loop
-mul-least c = omega arith
+mul-lesser : tie.Need-mul-lesser Inv-loop μ-loop
+mul-lesser c = omega arith
 
-slice-read-least : tie.Need-slice-read-least Inv-loop μ-loop
-slice-read-least c = omega arith
+slice-read-lesser : tie.Need-slice-read-lesser Inv-loop μ-loop
+slice-read-lesser c = omega arith
 
-sub-least : tie.Need-sub-least Inv-loop μ-loop
-sub-least c = omega arith
+sub-lesser : tie.Need-sub-lesser Inv-loop μ-loop
+sub-lesser c = omega arith
 
-mul-least-2 : tie.Need-mul-least-2 Inv-loop μ-loop
-mul-least-2 c = let s = at-parent (c .before) in omega arith
+mul-lesser-2 : tie.Need-mul-lesser-2 Inv-loop μ-loop
+mul-lesser-2 c = let s = at-parent (c .before) in omega arith
 
-slice-read-least-2 : tie.Need-slice-read-least-2 Inv-loop μ-loop
-slice-read-least-2 c = let s = at-parent (c .before .before) in omega arith
+slice-read-lesser-2 : tie.Need-slice-read-lesser-2 Inv-loop μ-loop
+slice-read-lesser-2 c = let s = at-parent (c .before .before) in omega arith
 
-least-requires : tie.Need-least-requires Inv-loop μ-loop
-least-requires c κs = tt
+lesser-requires : tie.Need-lesser-requires Inv-loop μ-loop
+lesser-requires c κs = tt
 
 shift-requires : tie.Need-shift-requires Inv-loop μ-loop
 shift-requires c κs =
     let s = at-parent (c .before .before .before .before .before) in
     let w = c .before .before .before .before .before .before .before .before .before .loop .inv in
-    let d = c .before .before .least .ensures in
+    let d = c .before .before .lesser .ensures in
     (w .pairs, (w .room, (w .covers, (s .slot, omega arith))))
 
 mul-if1 : tie.Need-mul-if1 Inv-loop μ-loop
@@ -127,7 +127,7 @@ loop-less c = at-parent (wide-of (c .before .before .before .before .before .bef
 loop-again : tie.Need-loop-again Inv-loop μ-loop
 loop-again c =
     let s = c .before .before .before .before .before .before .before in
-    let d = s .before .before .before .least .ensures in
+    let d = s .before .before .before .lesser .ensures in
     chain-next (loop-of s .loop .inv) (at-parent (wide-of s)) d (s .shift .ensures .0) (s .shift .ensures .1) (c .before .if1 .left) (c .if2 .left)
 
 pub pull-spec : {M : Type 1} → statement M
@@ -143,12 +143,12 @@ pull-spec =
     mul-wide-2
     shared-slice-read-wide-2
     wide-requires-2
-    mul-least
-    slice-read-least
-    sub-least
-    mul-least-2
-    slice-read-least-2
-    least-requires
+    mul-lesser
+    slice-read-lesser
+    sub-lesser
+    mul-lesser-2
+    slice-read-lesser-2
+    lesser-requires
     shift-requires
     mul-if1
     slice-read-if1

@@ -5,8 +5,8 @@ use native.Mathlib.Omega.{arith}
 use lib.ListN.{length}
 use Rattle.slots.specs.Links.{last-at}
 use Rattle.slots.proofs.Words.{few-modules}
-use Rattle.peel.specs.Steps.{first-end, second-end}
-use Rattle.peel.proofs.Laying.{Pair-at, pair-at}
+use Rattle.slots.specs.Rows.{first-end, second-end}
+use Rattle.slots.proofs.Rows.{Pair-at, pair-at}
 use Rattle.peel.proofs.Walks.{Loosening, loosening-start, loosening-low, loosening-own, loosening-fits, loosening-next, loosening-end}
 use Rattle.peel.proofs.loosen_chain.Statement.{statement}
 use Rattle.peel.proofs.loosen_chain.Tie as tie

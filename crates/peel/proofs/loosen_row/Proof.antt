@@ -4,9 +4,8 @@ use Prim.Native.Nat.{_-_, _<_}
 use native.Mathlib.Omega.{arith}
 use lib.ListN.{length}
 use Rattle.slots.proofs.Words.{few-modules}
-use Rattle.peel.specs.Steps.{first-end, second-end}
-use Rattle.peel.proofs.Laying.{Pair-at, pair-at}
-use Rattle.peel.proofs.Rows.{row-at}
+use Rattle.slots.specs.Rows.{first-end, second-end}
+use Rattle.slots.proofs.Rows.{Pair-at, pair-at, row-at}
 use Rattle.peel.proofs.Walks.{Loosening, loosening-start, loosening-low, loosening-own, loosening-fits, loosening-next, loosening-end}
 use Rattle.peel.proofs.loosen_row.Statement.{statement}
 use Rattle.peel.proofs.loosen_row.Tie as tie
@@ -41,16 +40,16 @@ unfolding second-end
 other-is c = c .wide2 .ensures
 
 -- the next place is lower, and the pair is done
-after : (c : tie.After-earlier Inv-loop μ-loop) →
+after : (c : tie.After-earlier-in-row Inv-loop μ-loop) →
     let l = c .before .before .before .before .before .before .before .before .before in
     let a = begin l .args in
     let new = c .before .before .before .lower .last .1 .1 .0 in
-    (c .earlier .result < l .loop .s)
-    × Loosening (a .m) (a .v) (c .earlier .result) (first-end (a .ends .now)) (second-end (a .ends .now)) (a .weights .now) (a .work .now) new
+    (c .earlier-in-row .result < l .loop .s)
+    × Loosening (a .m) (a .v) (c .earlier-in-row .result) (first-end (a .ends .now)) (second-end (a .ends .now)) (a .weights .now) (a .work .now) new
 after c =
     let u = c .before .before .before .before .before .before in
     let l = u .before .before .before .loop in
-    loosening-next (l .inv .0) (l .s - 1) (omega arith) (other-is u) refl (c .before .before .before .lower .ensures) (c .earlier .ensures)
+    loosening-next (l .inv .0) (l .s - 1) (omega arith) (other-is u) refl (c .before .before .before .lower .ensures) (c .earlier-in-row .ensures)
 
 mul-wide : tie.Need-mul-wide Inv-loop μ-loop
 mul-wide c = let p = c .before .before .before .before .pre .0 in omega (arith, p .below, few-modules _ _ _ _ (p .held .listed))
@@ -105,8 +104,8 @@ lower-requires c κs =
       ),
     )
 
-earlier-requires : tie.Need-earlier-requires Inv-loop μ-loop
-earlier-requires c κs =
+earlier-in-row-requires : tie.Need-earlier-in-row-requires Inv-loop μ-loop
+earlier-in-row-requires c κs =
     let i = c .before .before .before .before .before .before .before in
     row-at (begin (i .before) .pre .0 .held) (low i) (own i)
 
@@ -141,7 +140,7 @@ loosen-row-spec =
     mul-lower
     shared-slice-read-lower
     lower-requires
-    earlier-requires
+    earlier-in-row-requires
     loop-less
     loop-again
     same-length

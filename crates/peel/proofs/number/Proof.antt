@@ -5,7 +5,8 @@ use native.Mathlib.Omega.{arith}
 use native.Mathlib.Numerals.{add-one}
 use Rattle.theory.specs.Basics.{greatest}
 use Rattle.theory.proofs.Tables.{greatest-suc}
-use Rattle.peel.specs.Steps.{entry, Numbered}
+use Rattle.slots.specs.Buffers.{entry}
+use Rattle.peel.specs.Steps.{Numbered}
 use Rattle.peel.proofs.Numbers.{numbered-none, numbered-next}
 use Rattle.peel.proofs.number.Statement.{statement}
 use Rattle.peel.proofs.number.Tie as tie

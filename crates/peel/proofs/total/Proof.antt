@@ -4,7 +4,7 @@ use Prim.Native.Nat.{_+_, _-_, _≤_}
 use native.Mathlib.Omega.{arith}
 use Rattle.slots.specs.Slots.{total}
 use Rattle.slots.proofs.Totals.{total-next, total-upto}
-use Rattle.peel.specs.Steps.{entry}
+use Rattle.slots.specs.Buffers.{entry}
 use Rattle.peel.proofs.total.Statement.{statement}
 use Rattle.peel.proofs.total.Tie as tie
 

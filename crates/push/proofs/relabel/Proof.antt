@@ -66,14 +66,14 @@ shared-slice-read-wide c = let p = at-slot (c .before) in omega arith
 wide-requires : tie.Need-wide-requires Inv-loop μ-loop
 wide-requires c κs = omega arith
 
-mul-least : tie.Need-mul-least Inv-loop μ-loop
-mul-least c = let p = at-slot (c .before .before) in omega (arith, c .wide .ensures)
+mul-lesser : tie.Need-mul-lesser Inv-loop μ-loop
+mul-lesser c = let p = at-slot (c .before .before) in omega (arith, c .wide .ensures)
 
-shared-slice-read-least : tie.Need-shared-slice-read-least Inv-loop μ-loop
-shared-slice-read-least c = let p = at-slot (c .before .before .before) in omega (arith, c .before .wide .ensures)
+shared-slice-read-lesser : tie.Need-shared-slice-read-lesser Inv-loop μ-loop
+shared-slice-read-lesser c = let p = at-slot (c .before .before .before) in omega (arith, c .before .wide .ensures)
 
-least-requires : tie.Need-least-requires Inv-loop μ-loop
-least-requires c κs = omega arith
+lesser-requires : tie.Need-lesser-requires Inv-loop μ-loop
+lesser-requires c κs = omega arith
 
 loop-less : tie.Need-loop-less Inv-loop μ-loop
 loop-less c = omega arith
@@ -114,9 +114,9 @@ relabel-spec =
     mul-wide
     shared-slice-read-wide
     wide-requires
-    mul-least
-    shared-slice-read-least
-    least-requires
+    mul-lesser
+    shared-slice-read-lesser
+    lesser-requires
     loop-less
     loop-again
     loop-less-2

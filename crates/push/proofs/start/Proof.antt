@@ -25,17 +25,17 @@ mul-label c = omega arith
 slice-write-label : tie.Need-slice-write-label Inv-loop μ-loop
 slice-write-label c = omega arith
 
-shared-slice-read-short : tie.Need-shared-slice-read-short Inv-loop μ-loop
-shared-slice-read-short c = omega arith
+shared-slice-read-has-room : tie.Need-shared-slice-read-has-room Inv-loop μ-loop
+shared-slice-read-has-room c = omega arith
 
-mul-short : tie.Need-mul-short Inv-loop μ-loop
-mul-short c = omega arith
+mul-has-room : tie.Need-mul-has-room Inv-loop μ-loop
+mul-has-room c = omega arith
 
-shared-slice-read-short-2 : tie.Need-shared-slice-read-short-2 Inv-loop μ-loop
-shared-slice-read-short-2 c = omega arith
+shared-slice-read-has-room-2 : tie.Need-shared-slice-read-has-room-2 Inv-loop μ-loop
+shared-slice-read-has-room-2 c = omega arith
 
-short-requires : tie.Need-short-requires Inv-loop μ-loop
-short-requires c κs = omega arith
+has-room-requires : tie.Need-has-room-requires Inv-loop μ-loop
+has-room-requires c κs = omega arith
 
 mul-label-2 : tie.Need-mul-label-2 Inv-loop μ-loop
 mul-label-2 c = omega arith
@@ -80,10 +80,10 @@ start-spec =
     sub-v
     mul-label
     slice-write-label
-    shared-slice-read-short
-    mul-short
-    shared-slice-read-short-2
-    short-requires
+    shared-slice-read-has-room
+    mul-has-room
+    shared-slice-read-has-room-2
+    has-room-requires
     mul-label-2
     slice-write-label-2
     cast-join

@@ -4,12 +4,12 @@ use Prim.Native.Nat.{_+_, _*_, _-_, _<_}
 use lib.ListN.{length-set}
 use Rattle.slots.specs.Slots.{Ends}
 use Rattle.slots.specs.Split.{Weights}
-use Rattle.slots.proofs.Spreading.{Laid, laid-start, laid-next, laid-end}
+use Rattle.slots.proofs.Spreading.{Split-upto, split-start, split-next, split-end}
 use Rattle.slots.proofs.spread.Statement.{statement}
 use Rattle.slots.proofs.spread.Tie as tie
 
 abbrev Inv-loop : tie.InvT-loop
-Inv-loop n m q old ends weights scope hold₀ j₀ hold j = Ends n m ends × Weights m weights × Laid m q j ends weights scope hold₀ hold
+Inv-loop n m q old ends weights scope hold₀ j₀ hold j = Ends n m ends × Weights m weights × Split-upto m q j ends weights scope hold₀ hold
 
 abbrev μ-loop : tie.MeasureT-loop
 μ-loop n m q old ends weights scope hold₀ j₀ hold j = m - j
@@ -32,7 +32,7 @@ loop-holds : tie.Need-loop-holds Inv-loop μ-loop
 loop-holds c = (
   c .before .before .before .before .pre .0,
   c .before .before .before .before .pre .1 .0,
-  laid-start (c .before .before .before .before .pre .1 .1 .1 .1 .long),
+  split-start (c .before .before .before .before .pre .1 .1 .1 .1 .long),
 )
 
 mul-wide : tie.Need-mul-wide Inv-loop μ-loop
@@ -136,7 +136,7 @@ loop-again c =
     let i = c .before .before .before .before .before .before .before .before .before .before .before .loop .inv in (
       i .0,
       i .1,
-      laid-next _ _ _ _ (i .2) (omega arith) (c .before .before .before .before .before .before .before .before .wide .ensures)
+      split-next _ _ _ _ (i .2) (omega arith) (c .before .before .before .before .before .before .before .before .wide .ensures)
           (c .before .before .before .before .before .before .wide2 .ensures) (c .before .before .pair-units .ensures) (c .first-part .ensures),
     )
 
@@ -144,7 +144,7 @@ same-length : tie.Need-same-length Inv-loop μ-loop
 same-length c = c .before .loop .inv .2 .long
 
 returns : tie.Need-returns Inv-loop μ-loop
-returns c = laid-end (c .before .loop .inv .2) (omega arith)
+returns c = split-end (c .before .loop .inv .2) (omega arith)
 
 pub spread-spec : {M : Type 1} → statement M
 spread-spec =

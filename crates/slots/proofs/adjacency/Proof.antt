@@ -1,16 +1,17 @@
--- `peel::lay_out` meets its contract. The loop's invariant: the pairs passed are laid out. Assumes nothing.
+-- `slots::adjacency` meets its contract. The loop's invariant: the pairs passed are in the buffers. Assumes nothing.
 use mathlib.Core.Path.{_≡_, refl, _∙_}
 use Prim.Native.Nat.{_-_, _≤_, _<_}
 use native.Mathlib.Omega.{arith}
 use lib.ListN.{length, length-set}
-use Rattle.peel.specs.Steps.{first-end, second-end, Laid}
-use Rattle.peel.proofs.Laying.{Pair-at, pair-at, laid-start, laid-fits, laid-fits-too, laid-next}
-use Rattle.peel.proofs.lay_out.Statement.{statement}
-use Rattle.peel.proofs.lay_out.Tie as tie
+use Rattle.slots.specs.Rows.{first-end, second-end, Adjacency}
+use Rattle.slots.proofs.Rows.{Pair-at, pair-at}
+use Rattle.slots.proofs.Passing.{adjacency-start, adjacency-fits, adjacency-fits-too, adjacency-next}
+use Rattle.slots.proofs.adjacency.Statement.{statement}
+use Rattle.slots.proofs.adjacency.Tie as tie
 
 abbrev Inv-loop : tie.InvT-loop
 Inv-loop n m ends weights rows₀ first₀ next₀ degrees₀ j₀ rows first next degrees j =
-    Laid n j ends weights rows first next degrees × (j ≤ m) × (length rows ≡ length rows₀) × (length first ≡ length first₀)
+    Adjacency n j ends weights rows first next degrees × (j ≤ m) × (length rows ≡ length rows₀) × (length first ≡ length first₀)
     × (length next ≡ length next₀) × (length degrees ≡ length degrees₀)
 
 abbrev μ-loop : tie.MeasureT-loop
@@ -45,7 +46,7 @@ second-is c = c .wide2 .ensures
 loop-holds : tie.Need-loop-holds Inv-loop μ-loop
 loop-holds c =
     let s = c .before .before .before .before .before .before in (
-      laid-start (s .pre .0) (s .pre .1),
+      adjacency-start (s .pre .0) (s .pre .1),
       omega arith,
       refl,
       refl,
@@ -116,14 +117,15 @@ add-requires c κs =
     let l = inside w .before in
     let s = begin l in (
       omega (arith, first-is w, pair (inside w) .first-low, s .pre .1 .degrees-long),
-      laid-fits (s .pre .0) (low (inside w)) (first-is w) (second-is w) (l .loop .inv .0) (omega (arith, s .pre .1 .degrees-long)),
+      adjacency-fits (s .pre .0) (low (inside w)) (first-is w) (second-is w) (l .loop .inv .0) (omega (arith, s .pre .1 .degrees-long)),
     )
 
 mul-add-2 : tie.Need-mul-add-2 Inv-loop μ-loop
 mul-add-2 c = omega (arith, pair (inside (c .before .before .before .before .before .before .before .before .before .before .before .before)) .few)
 
 shared-slice-read-add-2 : tie.Need-shared-slice-read-add-2 Inv-loop μ-loop
-shared-slice-read-add-2 c = pair (inside (c .before .before .before .before .before .before .before .before .before .before .before .before .before)) .weights-long
+shared-slice-read-add-2 c =
+    pair (inside (c .before .before .before .before .before .before .before .before .before .before .before .before .before)) .weights-long
 
 add-requires-2 : tie.Need-add-requires-2 Inv-loop μ-loop
 add-requires-2 c κs =
@@ -132,7 +134,7 @@ add-requires-2 c κs =
     let l = inside w .before in
     let s = begin l in (
       omega (arith, second-is w, pair (inside w) .second-low, s .pre .1 .degrees-long, e .add .kept .1 .1 .0),
-      laid-fits-too (s .pre .0) (low (inside w)) (first-is w) (second-is w) (l .loop .inv .0) (omega (arith, s .pre .1 .degrees-long)) (e .add .ensures),
+      adjacency-fits-too (s .pre .0) (low (inside w)) (first-is w) (second-is w) (l .loop .inv .0) (omega (arith, s .pre .1 .degrees-long)) (e .add .ensures),
     )
 
 add-j : tie.Need-add-j Inv-loop μ-loop
@@ -150,8 +152,9 @@ loop-again c =
     let l = inside w .before in
     let s = begin l in
     let i = l .loop .inv in (
-      laid-next (s .pre .0) (low (inside w)) (first-is w) (second-is w) (i .0) (omega (arith, s .pre .1 .degrees-long, i .5))
-          (e .add .ensures) (omega (arith, s .pre .1 .next-long, i .4)) (k .link .kept .1 .1 .1 .0) (k .link .kept .1 .1 .0) (k .link .ensures) (f .add2 .ensures),
+      adjacency-next (s .pre .0) (low (inside w)) (first-is w) (second-is w) (i .0) (omega (arith, s .pre .1 .degrees-long, i .5))
+          (e .add .ensures) (omega (arith, s .pre .1 .next-long, i .4)) (k .link .kept .1 .1 .1 .0)
+          (k .link .kept .1 .1 .0) (k .link .ensures) (f .add2 .ensures),
       omega (arith, low (inside w)),
       simp length-set (i .2),
       k .link .kept .1 .1 .0 ∙ i .3,
@@ -176,8 +179,8 @@ returns c =
     let all : c .before .loop .j ≡ begin (c .before) .args .m = omega arith in
     rw all at (c .before .loop .inv .0)
 
-pub lay-out-spec : {M : Type 1} → statement M
-lay-out-spec =
+pub adjacency-spec : {M : Type 1} → statement M
+adjacency-spec =
     tie.close
     (tie.spec
     Inv-loop

@@ -1,4 +1,5 @@
--- Rows: along a list in rising order first ends do not fall, so the pairs of one first end stand side by side.
+-- The pairs of a held list by their ends, and rows: along a list in rising order first ends do not fall, so the pairs of one first end stand side by side.
+--   Pair-at, pair-at           what the words of a held list have at a pair
 --   row-at                     a pair of a held list, in the row of its first end
 --   row-back, row-begins       the pair before it is in the row, or the row begins
 -- Assumes nothing.
@@ -6,19 +7,20 @@ use mathlib.Core.Path.{_≡_, sym}
 use mathlib.Core.Bool.{true, _&&_}
 use mathlib.Core.List.{List}
 use mathlib.Core.Logic.{⊎-elim}
-use Prim.Native.Nat.{ℕ, zero, suc, _+_, _-_, _≤_, _<_}
+use Prim.Native.Nat.{ℕ, zero, suc, _+_, _*_, _-_, _≤_, _<_}
 use native.Mathlib.Omega.{arith}
 use lib.Dec.{ltb, eqb}
+use lib.ListN.{length, getD}
 use Rattle.theory.specs.Basics.{table}
 use Rattle.theory.specs.Lists.{Pair, stands-before, before-first, rising}
 use Rattle.theory.specs.Words.{word-pair, pairs-in, list-in, Held-words}
 use Rattle.theory.proofs.Tests.{tests, or-cases}
 use Rattle.theory.proofs.Lists.{listed}
 use Rattle.slots.specs.Links.{last-at}
+use Rattle.slots.specs.Rows.{first-end, second-end, Row-at}
 use Rattle.slots.proofs.Choice.{eq-or-ne}
 use Rattle.slots.proofs.Linking.{last-here, last-none}
-use Rattle.slots.proofs.Words.{few-pairs}
-use Rattle.peel.specs.Steps.{first-end, Row-at}
+use Rattle.slots.proofs.Words.{few-modules, few-pairs, good-pair}
 
 -- a pair that stands before another has no higher first end
 before-le : (p r : Pair) → stands-before p r ≡ true → p .a ≤ r .a
@@ -38,7 +40,31 @@ next-le (suc (suc m)) h (suc j) e l =
     let later : rising (table (suc m) (λ i. h (suc i))) ≡ true = simp tests ((simp tests at e) .1) in
     next-le (suc m) (λ i. h (suc i)) j later (omega arith)
 
+-- of pair k: its ends are modules, its weight is at most 1,000, and both are in the words
+pub record Pair-at (n k : ℕ) (ends weights : List ℕ) : Type 0 where
+  pub few : k < 4096
+  pub modules : n ≤ 512
+  pub ends-long : 2 * k + 1 < length ends
+  pub weights-long : k < length weights
+  pub first-low : first-end ends k < n
+  pub second-low : second-end ends k < n
+  pub light : getD weights k 0 ≤ 1000
+
 module _ {n m : ℕ} {ends weights : List ℕ} (h : Held-words n m ends weights) where
+  pub pair-at : (k : ℕ) → k < m → Pair-at n k ends weights
+  unfolding first-end second-end
+  pair-at k l =
+      let g = good-pair n m ends weights (h .listed) k l in
+      record {
+        few = omega (arith, few-pairs n m ends weights (h .listed));
+        modules = few-modules n m ends weights (h .listed);
+        ends-long = omega (arith, h .ends-long);
+        weights-long = omega (arith, h .weights-long);
+        first-low = omega (arith, g .first, g .below);
+        second-low = g .below;
+        light = g .light;
+      }
+
   first-next : (j : ℕ) → suc j < m → first-end ends j ≤ first-end ends (suc j)
   unfolding first-end word-pair pairs-in list-in
   first-next j l = next-le m (word-pair ends weights) j (listed (list-in n m ends weights) (h .listed) .rises) l

@@ -1,12 +1,11 @@
--- `peel::earlier` meets its contract. Assumes nothing.
+-- `slots::earlier_in_row` meets its contract. Assumes nothing.
 use mathlib.Core.Path.{refl, sym, _∙_}
-use native.Mathlib.Omega.{arith}
 use borrow.Author.Needs.{needs}
 use Rattle.slots.specs.Links.{last-at}
-use Rattle.peel.specs.Steps.{first-end}
-use Rattle.peel.proofs.Rows.{row-back, row-begins}
-use Rattle.peel.proofs.earlier.Statement.{statement}
-use Rattle.peel.proofs.earlier.Tie as tie
+use Rattle.slots.specs.Rows.{first-end}
+use Rattle.slots.proofs.Rows.{row-back, row-begins}
+use Rattle.slots.proofs.earlier_in_row.Statement.{statement}
+use Rattle.slots.proofs.earlier_in_row.Tie as tie
 
 returns : tie.Need-returns
 unfolding last-at
@@ -41,8 +40,8 @@ returns-3 c =
     let s = o .before .before in
     sym (row-begins (s .args .k) (s .args .v) (s .args .ends .now) (o .if1 .left) (s .pre) (λ e. c .if2 .left (c .before .wide .ensures ∙ e)))
 
-pub earlier-spec : {M : Type 1} → statement M
-earlier-spec =
+pub earlier-in-row-spec : {M : Type 1} → statement M
+earlier-in-row-spec =
     tie.close
     (tie.spec
     returns

@@ -1,5 +1,6 @@
--- Buffers that are written one entry at a time.
---   written-none, written-next, written-all    a buffer that is written from the front
+-- Buffers that are written from the front, one entry at a time.
+--   written-none, written-next    no entry; one entry more
+--   written-all                   all n entries, and what stood past them
 -- Assumes nothing.
 use mathlib.Core.Path.{_≡_, refl, sym, _∙_}
 use mathlib.Core.Bool.{Bool, true, false}
@@ -12,14 +13,14 @@ use lib.Seq.{getD-set-other, getD-append-add, getD-drop, ext-getD}
 use borrow.Author.Tests.{leb-true, leb-false}
 use Rattle.theory.specs.Basics.{table}
 use Rattle.theory.proofs.Tables.{length-table, table-at}
+use Rattle.slots.specs.Buffers.{Written-front}
 use Rattle.slots.proofs.Choice.{stored-more}
-use Rattle.peel.specs.Steps.{Written}
 
-pub written-none : (f : ℕ → ℕ) (xs : List ℕ) → Written 0 f xs xs
+pub written-none : (f : ℕ → ℕ) (xs : List ℕ) → Written-front 0 f xs xs
 written-none f xs = record { long = refl; front = λ i h. absurd (omega arith); rest = λ i h. refl }
 
-pub written-next : (k : ℕ) (f : ℕ → ℕ) (old xs : List ℕ) (x : ℕ) → k < length old → x ≡ f k → Written k f old xs →
-    Written (k + 1) f old (set xs k x)
+pub written-next : (k : ℕ) (f : ℕ → ℕ) (old xs : List ℕ) (x : ℕ) → k < length old → x ≡ f k → Written-front k f old xs →
+    Written-front (k + 1) f old (set xs k x)
 written-next k f old xs x h e w =
     record {
       long = length-set xs k x ∙ w .long;
@@ -28,7 +29,7 @@ written-next k f old xs x h e w =
     }
 
 -- all n entries, and what stood past them
-pub written-all : (n : ℕ) (f : ℕ → ℕ) (old new : List ℕ) → n ≤ length old → Written n f old new → new ≡ table n f ++ drop n old
+pub written-all : (n : ℕ) (f : ℕ → ℕ) (old new : List ℕ) → n ≤ length old → Written-front n f old new → new ≡ table n f ++ drop n old
 written-all n f old new h w =
     ext-getD 0 new (table n f ++ drop n old)
     (w .long ∙ simp (length-append, length-table, length-drop) (omega arith))
