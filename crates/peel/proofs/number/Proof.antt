@@ -1,4 +1,4 @@
--- `peel::number` meets its contract. The loop's invariant: the first i are numbered, and top is the greatest fall so far. Assumes nothing.
+-- `peel::number` meets its contract. The loop's invariant: the first i are numbered, and top is the greatest degree so far. Assumes nothing.
 use mathlib.Core.Path.{_≡_, refl}
 use Prim.Native.Nat.{suc, _-_, _≤_, _<_}
 use native.Mathlib.Omega.{arith}
@@ -12,14 +12,14 @@ use Rattle.peel.proofs.number.Statement.{statement}
 use Rattle.peel.proofs.number.Tie as tie
 
 abbrev Inv-loop : tie.InvT-loop
-Inv-loop n order falls cores₀ place₀ top₀ i₀ cores place top i =
-    Numbered i n order falls cores₀ place₀ cores place × (i ≤ n) × (top ≡ greatest i (entry falls))
+Inv-loop n order finals cores₀ place₀ top₀ i₀ cores place top i =
+    Numbered i n order finals cores₀ place₀ cores place × (i ≤ n) × (top ≡ greatest i (entry finals))
 
 abbrev μ-loop : tie.MeasureT-loop
-μ-loop n order falls cores₀ place₀ top₀ i₀ cores place top i = n - i
+μ-loop n order finals cores₀ place₀ top₀ i₀ cores place top i = n - i
 
 -- the module at place i
-below : (c : tie.After-higher-of Inv-loop μ-loop) →
+below : (c : tie.After-greater Inv-loop μ-loop) →
     let s = c .before .before .before .before .before .before .before .before .before .before in
     (c .before .before .wide .result < s .args .n) × (s .args .n ≤ 512)
 below c =
@@ -40,14 +40,14 @@ shared-slice-read-wide c = omega (arith, c .before .before .before .before .befo
 wide-requires : tie.Need-wide-requires Inv-loop μ-loop
 wide-requires c κs = tt
 
-mul-higher-of : tie.Need-mul-higher-of Inv-loop μ-loop
-mul-higher-of c = omega (arith, c .before .before .before .before .before .before .before .before .pre .few)
+mul-greater : tie.Need-mul-greater Inv-loop μ-loop
+mul-greater c = omega (arith, c .before .before .before .before .before .before .before .before .pre .few)
 
-shared-slice-read-higher-of : tie.Need-shared-slice-read-higher-of Inv-loop μ-loop
-shared-slice-read-higher-of c = omega (arith, c .before .before .before .before .before .before .before .before .before .pre .falls-long)
+shared-slice-read-greater : tie.Need-shared-slice-read-greater Inv-loop μ-loop
+shared-slice-read-greater c = omega (arith, c .before .before .before .before .before .before .before .before .before .pre .finals-long)
 
-higher-of-requires : tie.Need-higher-of-requires Inv-loop μ-loop
-higher-of-requires c κs = tt
+greater-requires : tie.Need-greater-requires Inv-loop μ-loop
+greater-requires c κs = tt
 
 mul-cores : tie.Need-mul-cores Inv-loop μ-loop
 mul-cores c = omega (arith, below c)
@@ -79,9 +79,9 @@ loop-again c =
     let l = c .before .before .before .before .before in
     let s = l .before .before .before .before .before in
     let a = s .args in
-    let top : c .higher-of .result ≡ greatest (suc (l .loop .i)) (entry (a .falls .now)) =
-    unfold entry in omega (arith, c .higher-of .ensures, greatest-suc (l .loop .i) (entry (a .falls .now)), l .loop .inv .2) in (
-      numbered-next (a .n) (a .order .now) (a .falls .now) (a .cores .now) (a .place .now) (s .pre) (l .loop .i) (omega arith)
+    let top : c .greater .result ≡ greatest (suc (l .loop .i)) (entry (a .finals .now)) =
+    unfold entry in omega (arith, c .greater .ensures, greatest-suc (l .loop .i) (entry (a .finals .now)), l .loop .inv .2) in (
+      numbered-next (a .n) (a .order .now) (a .finals .now) (a .cores .now) (a .place .now) (s .pre) (l .loop .i) (omega arith)
           (l .loop .cores) (l .loop .place) (l .loop .inv .0) _ _ (c .before .before .wide .ensures) top,
       omega arith,
       rw add-one top,
@@ -109,9 +109,9 @@ number-spec =
     mul-wide
     shared-slice-read-wide
     wide-requires
-    mul-higher-of
-    shared-slice-read-higher-of
-    higher-of-requires
+    mul-greater
+    shared-slice-read-greater
+    greater-requires
     mul-cores
     slice-write-cores
     cast-place

@@ -9,7 +9,7 @@ use Rattle.slots.proofs.Words.{few-modules, few-pairs}
 use Rattle.peel.proofs.Degrees.{adjacency-degrees}
 use Rattle.peel.proofs.Ranks.{ranked-buildable, ranked-built}
 use Rattle.peel.proofs.Remainders.{all-light}
-use Rattle.peel.proofs.Answers.{answer-numberable, answer-pickable, answer}
+use Rattle.peel.proofs.Answers.{answer-numberable, answer-comparable, answer}
 use Rattle.peel.proofs.peel.Statement.{statement}
 use Rattle.peel.proofs.peel.Tie as tie
 
@@ -125,7 +125,7 @@ densest-requires c κs =
     let s = begin (laid t) in
     let a = s .args in
     let b = s .pre .1 in
-    answer-pickable (list-in (a .n) (a .m) (a .ends .now) (a .weights .now)) (s .pre .0 .listed) _ _ _ _ (t .turns .ensures)
+    answer-comparable (list-in (a .n) (a .m) (a .ends .now) (a .weights .now)) (s .pre .0 .listed) _ _ _ _ (t .turns .ensures)
     (a .least) (b .some) (b .few)
     (few-modules (a .n) (a .m) (a .ends .now) (a .weights .now) (s .pre .0 .listed))
     (all-light (a .n) (a .m) (a .ends .now) (a .weights .now) (s .pre .0 .listed) (everyone (list-in (a .n) (a .m) (a .ends .now) (a .weights .now))))

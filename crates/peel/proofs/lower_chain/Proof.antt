@@ -1,4 +1,4 @@
--- `peel::loosen_chain` meets its contract. The loop's invariant: s is the next place, and the pairs from there on are done. Assumes nothing.
+-- `peel::lower_chain` meets its contract. The loop's invariant: s is the next place, and the pairs from there on are done. Assumes nothing.
 use mathlib.Core.Path.{_≡_, refl, ap, _∙_}
 use Prim.Native.Nat.{_-_, _<_}
 use native.Mathlib.Omega.{arith}
@@ -7,13 +7,13 @@ use Rattle.slots.specs.Links.{last-at}
 use Rattle.slots.proofs.Words.{few-modules}
 use Rattle.slots.specs.Rows.{first-end, second-end}
 use Rattle.slots.proofs.Rows.{Pair-at, pair-at}
-use Rattle.peel.proofs.Walks.{Loosening, loosening-start, loosening-low, loosening-own, loosening-fits, loosening-next, loosening-end}
-use Rattle.peel.proofs.loosen_chain.Statement.{statement}
-use Rattle.peel.proofs.loosen_chain.Tie as tie
+use Rattle.peel.proofs.Walks.{Lowering, lowering-start, lowering-low, lowering-own, lowering-fits, lowering-next, lowering-end}
+use Rattle.peel.proofs.lower_chain.Statement.{statement}
+use Rattle.peel.proofs.lower_chain.Tie as tie
 
 abbrev Inv-loop : tie.InvT-loop
 Inv-loop n m v ends weights first next work₀ s₀ work s =
-    Loosening m v s (second-end ends) (first-end ends) weights work₀ work × (length work ≡ length work₀)
+    Lowering m v s (second-end ends) (first-end ends) weights work₀ work × (length work ≡ length work₀)
 
 abbrev μ-loop : tie.MeasureT-loop
 μ-loop n m v ends weights first next work₀ s₀ work s = s
@@ -24,11 +24,11 @@ begin l = l .before .before .before .before .before .before .before .before
 
 -- the pair at hand is the list's, and v's
 low : (c : tie.In-loop Inv-loop μ-loop) → c .before .loop .s - 1 < begin (c .before) .args .m
-low c = let l = c .before .loop in loosening-low (l .inv .0) (l .s - 1) (omega arith)
+low c = let l = c .before .loop in lowering-low (l .inv .0) (l .s - 1) (omega arith)
 
 own : (c : tie.In-loop Inv-loop μ-loop) →
     let a = begin (c .before) .args in second-end (a .ends .now) (c .before .loop .s - 1) ≡ a .v
-own c = let l = c .before .loop in loosening-own (l .inv .0) (l .s - 1) (omega arith)
+own c = let l = c .before .loop in lowering-own (l .inv .0) (l .s - 1) (omega arith)
 
 pair : (c : tie.In-loop Inv-loop μ-loop) →
     let a = begin (c .before) .args in Pair-at (a .n) (c .before .loop .s - 1) (a .ends .now) (a .weights .now)
@@ -55,11 +55,11 @@ after : (c : tie.After-wide3 Inv-loop μ-loop) →
     let a = begin l .args in
     let new = c .before .before .before .before .lower .last .1 .1 .0 in
     (c .wide3 .result < l .loop .s)
-    × Loosening (a .m) (a .v) (c .wide3 .result) (second-end (a .ends .now)) (first-end (a .ends .now)) (a .weights .now) (a .work .now) new
+    × Lowering (a .m) (a .v) (c .wide3 .result) (second-end (a .ends .now)) (first-end (a .ends .now)) (a .weights .now) (a .work .now) new
 after c =
     let u = c .before .before .before .before .before .before .before in
     let l = u .before .before .before .loop in
-    loosening-next (l .inv .0) (l .s - 1) (omega arith) (other-is u) refl (c .before .before .before .before .lower .ensures) (link-is c)
+    lowering-next (l .inv .0) (l .s - 1) (omega arith) (other-is u) refl (c .before .before .before .before .lower .ensures) (link-is c)
 
 mul-wide : tie.Need-mul-wide Inv-loop μ-loop
 mul-wide c = let p = c .before .before .before .before .before .pre .0 in omega (arith, p .below, few-modules _ _ _ _ (p .held .listed))
@@ -73,7 +73,7 @@ wide-requires c κs = tt
 loop-holds : tie.Need-loop-holds Inv-loop μ-loop
 loop-holds c =
     let s = c .before .before .before .before .before .before .before in
-    (loosening-start (s .pre .0) (c .wide .ensures ∙ s .pre .1 .linked .firsts .same _ (s .pre .0 .below)), refl)
+    (lowering-start (s .pre .0) (c .wide .ensures ∙ s .pre .1 .linked .firsts .same _ (s .pre .0 .below)), refl)
 
 sub-k : tie.Need-sub-k Inv-loop μ-loop
 sub-k c = omega arith
@@ -106,7 +106,7 @@ lower-requires c κs =
         omega (arith, other-is u, p .first-low, p .modules),
         (
           omega (arith, p .light),
-          loosening-fits (l .loop .inv .0) (l .loop .s - 1) (omega arith) (other-is u) refl (begin l .pre .0),
+          lowering-fits (l .loop .inv .0) (l .loop .s - 1) (omega arith) (other-is u) refl (begin l .pre .0),
         ),
       ),
     )
@@ -130,10 +130,10 @@ same-length : tie.Need-same-length Inv-loop μ-loop
 same-length c = c .before .loop .inv .1
 
 returns : tie.Need-returns Inv-loop μ-loop
-returns c = loosening-end (c .before .loop .inv .0) (omega arith)
+returns c = lowering-end (c .before .loop .inv .0) (omega arith)
 
-pub loosen-chain-spec : {M : Type 1} → statement M
-loosen-chain-spec =
+pub lower-chain-spec : {M : Type 1} → statement M
+lower-chain-spec =
     tie.close
     (tie.spec
     Inv-loop

@@ -1,4 +1,4 @@
--- `peel::loosen_row` meets its contract. The loop's invariant: s is the next place, and the pairs from there on are done. Assumes nothing.
+-- `peel::lower_row` meets its contract. The loop's invariant: s is the next place, and the pairs from there on are done. Assumes nothing.
 use mathlib.Core.Path.{_≡_, refl, _∙_}
 use Prim.Native.Nat.{_-_, _<_}
 use native.Mathlib.Omega.{arith}
@@ -6,13 +6,13 @@ use lib.ListN.{length}
 use Rattle.slots.proofs.Words.{few-modules}
 use Rattle.slots.specs.Rows.{first-end, second-end}
 use Rattle.slots.proofs.Rows.{Pair-at, pair-at, row-at}
-use Rattle.peel.proofs.Walks.{Loosening, loosening-start, loosening-low, loosening-own, loosening-fits, loosening-next, loosening-end}
-use Rattle.peel.proofs.loosen_row.Statement.{statement}
-use Rattle.peel.proofs.loosen_row.Tie as tie
+use Rattle.peel.proofs.Walks.{Lowering, lowering-start, lowering-low, lowering-own, lowering-fits, lowering-next, lowering-end}
+use Rattle.peel.proofs.lower_row.Statement.{statement}
+use Rattle.peel.proofs.lower_row.Tie as tie
 
 abbrev Inv-loop : tie.InvT-loop
 Inv-loop n m v ends weights rows work₀ s₀ work s =
-    Loosening m v s (first-end ends) (second-end ends) weights work₀ work × (length work ≡ length work₀)
+    Lowering m v s (first-end ends) (second-end ends) weights work₀ work × (length work ≡ length work₀)
 
 abbrev μ-loop : tie.MeasureT-loop
 μ-loop n m v ends weights rows work₀ s₀ work s = s
@@ -23,11 +23,11 @@ begin l = l .before .before .before .before .before .before .before
 
 -- the pair at hand is the list's, and v's
 low : (c : tie.In-loop Inv-loop μ-loop) → c .before .loop .s - 1 < begin (c .before) .args .m
-low c = let l = c .before .loop in loosening-low (l .inv .0) (l .s - 1) (omega arith)
+low c = let l = c .before .loop in lowering-low (l .inv .0) (l .s - 1) (omega arith)
 
 own : (c : tie.In-loop Inv-loop μ-loop) →
     let a = begin (c .before) .args in first-end (a .ends .now) (c .before .loop .s - 1) ≡ a .v
-own c = let l = c .before .loop in loosening-own (l .inv .0) (l .s - 1) (omega arith)
+own c = let l = c .before .loop in lowering-own (l .inv .0) (l .s - 1) (omega arith)
 
 pair : (c : tie.In-loop Inv-loop μ-loop) →
     let a = begin (c .before) .args in Pair-at (a .n) (c .before .loop .s - 1) (a .ends .now) (a .weights .now)
@@ -45,11 +45,11 @@ after : (c : tie.After-earlier-in-row Inv-loop μ-loop) →
     let a = begin l .args in
     let new = c .before .before .before .lower .last .1 .1 .0 in
     (c .earlier-in-row .result < l .loop .s)
-    × Loosening (a .m) (a .v) (c .earlier-in-row .result) (first-end (a .ends .now)) (second-end (a .ends .now)) (a .weights .now) (a .work .now) new
+    × Lowering (a .m) (a .v) (c .earlier-in-row .result) (first-end (a .ends .now)) (second-end (a .ends .now)) (a .weights .now) (a .work .now) new
 after c =
     let u = c .before .before .before .before .before .before in
     let l = u .before .before .before .loop in
-    loosening-next (l .inv .0) (l .s - 1) (omega arith) (other-is u) refl (c .before .before .before .lower .ensures) (c .earlier-in-row .ensures)
+    lowering-next (l .inv .0) (l .s - 1) (omega arith) (other-is u) refl (c .before .before .before .lower .ensures) (c .earlier-in-row .ensures)
 
 mul-wide : tie.Need-mul-wide Inv-loop μ-loop
 mul-wide c = let p = c .before .before .before .before .pre .0 in omega (arith, p .below, few-modules _ _ _ _ (p .held .listed))
@@ -63,7 +63,7 @@ wide-requires c κs = tt
 loop-holds : tie.Need-loop-holds Inv-loop μ-loop
 loop-holds c =
     let s = c .before .before .before .before .before .before in
-    (loosening-start (s .pre .0) (c .wide .ensures ∙ s .pre .1 .lasts .same _ (s .pre .0 .below)), refl)
+    (lowering-start (s .pre .0) (c .wide .ensures ∙ s .pre .1 .lasts .same _ (s .pre .0 .below)), refl)
 
 sub-k : tie.Need-sub-k Inv-loop μ-loop
 sub-k c = omega arith
@@ -99,7 +99,7 @@ lower-requires c κs =
         omega (arith, other-is u, p .second-low, p .modules),
         (
           omega (arith, p .light),
-          loosening-fits (l .loop .inv .0) (l .loop .s - 1) (omega arith) (other-is u) refl (begin l .pre .0),
+          lowering-fits (l .loop .inv .0) (l .loop .s - 1) (omega arith) (other-is u) refl (begin l .pre .0),
         ),
       ),
     )
@@ -119,10 +119,10 @@ same-length : tie.Need-same-length Inv-loop μ-loop
 same-length c = c .before .loop .inv .1
 
 returns : tie.Need-returns Inv-loop μ-loop
-returns c = loosening-end (c .before .loop .inv .0) (omega arith)
+returns c = lowering-end (c .before .loop .inv .0) (omega arith)
 
-pub loosen-row-spec : {M : Type 1} → statement M
-loosen-row-spec =
+pub lower-row-spec : {M : Type 1} → statement M
+lower-row-spec =
     tie.close
     (tie.spec
     Inv-loop
