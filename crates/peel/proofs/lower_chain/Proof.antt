@@ -47,7 +47,8 @@ link-is : (c : tie.After-wide3 Inv-loop μ-loop) →
 link-is c =
     let i = c .before .before .before .before .before .before .before .before .before in
     let s = begin (i .before) in
-    c .wide3 .ensures ∙ s .pre .1 .linked .nexts (i .before .loop .s - 1) (low i) ∙ ap (last-at (i .before .loop .s - 1) (second-end (s .args .ends .now))) (own i)
+    c .wide3 .ensures ∙ s .pre .1 .linked .nexts (i .before .loop .s - 1) (low i)
+    ∙ ap (last-at (i .before .loop .s - 1) (second-end (s .args .ends .now))) (own i)
 
 -- it is lower, and the pair is done
 after : (c : tie.After-wide3 Inv-loop μ-loop) →
@@ -115,7 +116,9 @@ mul-wide-4 : tie.Need-mul-wide-4 Inv-loop μ-loop
 mul-wide-4 c = omega (arith, pair (c .before .before .before .before .before .before .before) .few)
 
 shared-slice-read-wide-3 : tie.Need-shared-slice-read-wide-3 Inv-loop μ-loop
-shared-slice-read-wide-3 c = let i = c .before .before .before .before .before .before .before .before in omega (arith, low i, begin (i .before) .pre .1 .next-long)
+shared-slice-read-wide-3 c =
+    let i = c .before .before .before .before .before .before .before .before in
+    omega (arith, low i, begin (i .before) .pre .1 .next-long)
 
 wide-requires-3 : tie.Need-wide-requires-3 Inv-loop μ-loop
 wide-requires-3 c κs = tt
@@ -124,7 +127,9 @@ loop-less : tie.Need-loop-less Inv-loop μ-loop
 loop-less c = after c .0
 
 loop-again : tie.Need-loop-again Inv-loop μ-loop
-loop-again c = (after c .1, c .before .before .before .before .lower .kept .1 .1 .0 ∙ c .before .before .before .before .before .before .before .before .before .before .loop .inv .1)
+loop-again c =
+    let k = c .before .before .before .before .lower .kept in
+    (after c .1, k .1 .1 .0 ∙ c .before .before .before .before .before .before .before .before .before .before .loop .inv .1)
 
 same-length : tie.Need-same-length Inv-loop μ-loop
 same-length c = c .before .loop .inv .1

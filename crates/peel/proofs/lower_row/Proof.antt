@@ -113,7 +113,9 @@ loop-less : tie.Need-loop-less Inv-loop μ-loop
 loop-less c = after c .0
 
 loop-again : tie.Need-loop-again Inv-loop μ-loop
-loop-again c = (after c .1, c .before .before .before .lower .kept .1 .1 .0 ∙ c .before .before .before .before .before .before .before .before .before .loop .inv .1)
+loop-again c =
+    let k = c .before .before .before .lower .kept in
+    (after c .1, k .1 .1 .0 ∙ c .before .before .before .before .before .before .before .before .before .loop .inv .1)
 
 same-length : tie.Need-same-length Inv-loop μ-loop
 same-length c = c .before .loop .inv .1
