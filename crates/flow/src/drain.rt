@@ -2,8 +2,9 @@
 // loaded p throughout.
 use crate::exits::exit;
 use crate::exits::leading;
-use slots::capped;
+use slots::first_link;
 use slots::has_room;
+use slots::next_link;
 use slots::other;
 use slots::wide;
 ghost use mathlib.Core.Path.{_≡_};
@@ -94,11 +95,11 @@ fn spill(
         (now (queue .exit)) r ⌝ }
 {
     let mut t = tail;
-    let mut s = capped(first[u], 2 * m);
+    let mut s = first_link(u, 2 * m, first);
     while s > 0 {
         let k = s - 1;
         let o = other(k);
-        s = capped(next[k], k);
+        s = next_link(k, next);
         if leading(n, m, o, ends, hold, rank) {
             release(n, m, o, t, ends, rank, queue);
             t = t + 1;

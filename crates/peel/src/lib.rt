@@ -47,7 +47,7 @@ fn lower_row(
     let mut s = slots::wide(rows[v]);
     while s > 0 {
         let k = s - 1;
-        let b = slots::wide(ends[2 * k + 1]);
+        let b = slots::second_end(k, ends);
         ranking::lower(b, weights[k], work);
         s = slots::earlier_in_row(k, v, ends);
     }
@@ -71,7 +71,7 @@ fn lower_chain(
     let mut s = slots::wide(first[v]);
     while s > 0 {
         let k = s - 1;
-        let a = slots::wide(ends[2 * k]);
+        let a = slots::first_end(k, ends);
         ranking::lower(a, weights[k], work);
         s = slots::wide(next[k]);
     }

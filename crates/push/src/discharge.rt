@@ -3,8 +3,9 @@ use crate::labels::FAR;
 use crate::labels::next_label;
 use crate::queue::enqueue;
 use crate::queue::enqueue_active;
-use slots::capped;
+use slots::first_link;
 use slots::lesser;
+use slots::next_link;
 use slots::other;
 use slots::shift;
 use slots::wide;
@@ -83,11 +84,11 @@ fn push_from(
     ensures { λ r. ⌜ Kept n m (now (ends .entry)) (now (hold .entry)) (now (load .entry)) (now (hold .exit)) (now (load .exit)) ⌝ }
 {
     let mut t = tail;
-    let mut s = capped(arc[v], 2 * m);
+    let mut s = first_link(v, 2 * m, arc);
     while s > 0 && p < load[v] {
         arc[v] = s as u32;
         let k = s - 1;
-        s = capped(next[k], k);
+        s = next_link(k, next);
         t = push(n, m, p, k, t, ends, label, hold, load, queue);
     }
     t
@@ -109,10 +110,10 @@ fn relabel(
     requires { ⌜ n ≤ length (now label) ⌝ }
 {
     let mut low = FAR;
-    let mut s = capped(first[v], 2 * m);
+    let mut s = first_link(v, 2 * m, first);
     while s > 0 {
         let k = s - 1;
-        s = capped(next[k], k);
+        s = next_link(k, next);
         if hold[k] > 0 {
             low = lesser(low, label[wide(ends[other(k)])]);
         }

@@ -1,8 +1,9 @@
 // Labels: a module's distance from one of the scope loaded below p, along slots that hold units. Found breadth first, backward.
 use crate::queue::enqueue;
-use slots::capped;
+use slots::first_link;
 use slots::has_room;
 use slots::lesser;
+use slots::next_link;
 use slots::other;
 use slots::wide;
 ghost use Prim.Native.Nat.{_*_, _≤_, _<_};
@@ -89,10 +90,10 @@ fn label_neighbours(
     ensures { λ r. ⌜ r ≤ length (now (queue .entry)) ⌝ }
 {
     let mut t = tail;
-    let mut s = capped(first[v], 2 * m);
+    let mut s = first_link(v, 2 * m, first);
     while s > 0 {
         let k = s - 1;
-        s = capped(next[k], k);
+        s = next_link(k, next);
         t = label_one(n, m, other(k), d, t, ends, hold, label, queue);
     }
     t

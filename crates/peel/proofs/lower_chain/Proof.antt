@@ -34,33 +34,27 @@ pair : (c : tie.In-loop Inv-loop μ-loop) →
     let a = begin (c .before) .args in Pair-at (a .n) (c .before .loop .s - 1) (a .ends .now) (a .weights .now)
 pair c = pair-at (begin (c .before) .pre .0 .held) (c .before .loop .s - 1) (low c)
 
--- the module at its other end
-other-is : (c : tie.After-wide2 Inv-loop μ-loop) →
-    let l = c .before .before .before in c .wide2 .result ≡ first-end (begin l .args .ends .now) (l .loop .s - 1)
-unfolding first-end
-other-is c = c .wide2 .ensures
-
 -- the next place
-link-is : (c : tie.After-wide3 Inv-loop μ-loop) →
-    let l = c .before .before .before .before .before .before .before .before .before .before in
-    let a = begin l .args in c .wide3 .result ≡ last-at (l .loop .s - 1) (second-end (a .ends .now)) (a .v)
+link-is : (c : tie.After-wide2 Inv-loop μ-loop) →
+    let l = c .before .before .before .before .before .before .before .before .before in
+    let a = begin l .args in c .wide2 .result ≡ last-at (l .loop .s - 1) (second-end (a .ends .now)) (a .v)
 link-is c =
-    let i = c .before .before .before .before .before .before .before .before .before in
+    let i = c .before .before .before .before .before .before .before .before in
     let s = begin (i .before) in
-    c .wide3 .ensures ∙ s .pre .1 .linked .nexts (i .before .loop .s - 1) (low i)
+    c .wide2 .ensures ∙ s .pre .1 .linked .nexts (i .before .loop .s - 1) (low i)
     ∙ ap (last-at (i .before .loop .s - 1) (second-end (s .args .ends .now))) (own i)
 
 -- it is lower, and the pair is done
-after : (c : tie.After-wide3 Inv-loop μ-loop) →
-    let l = c .before .before .before .before .before .before .before .before .before .before in
+after : (c : tie.After-wide2 Inv-loop μ-loop) →
+    let l = c .before .before .before .before .before .before .before .before .before in
     let a = begin l .args in
     let new = c .before .before .before .before .lower .last .1 .1 .0 in
-    (c .wide3 .result < l .loop .s)
-    × Lowering (a .m) (a .v) (c .wide3 .result) (second-end (a .ends .now)) (first-end (a .ends .now)) (a .weights .now) (a .work .now) new
+    (c .wide2 .result < l .loop .s)
+    × Lowering (a .m) (a .v) (c .wide2 .result) (second-end (a .ends .now)) (first-end (a .ends .now)) (a .weights .now) (a .work .now) new
 after c =
     let u = c .before .before .before .before .before .before .before in
-    let l = u .before .before .before .loop in
-    lowering-next (l .inv .0) (l .s - 1) (omega arith) (other-is u) refl (c .before .before .before .before .lower .ensures) (link-is c)
+    let l = u .before .before .loop in
+    lowering-next (l .inv .0) (l .s - 1) (omega arith) (u .first-end .ensures) refl (c .before .before .before .before .lower .ensures) (link-is c)
 
 mul-wide : tie.Need-mul-wide Inv-loop μ-loop
 mul-wide c = let p = c .before .before .before .before .before .pre .0 in omega (arith, p .below, few-modules _ _ _ _ (p .held .listed))
@@ -79,49 +73,40 @@ loop-holds c =
 sub-k : tie.Need-sub-k Inv-loop μ-loop
 sub-k c = omega arith
 
-mul-wide-2 : tie.Need-mul-wide-2 Inv-loop μ-loop
-mul-wide-2 c = omega (arith, pair c .few)
-
-mul-wide-3 : tie.Need-mul-wide-3 Inv-loop μ-loop
-mul-wide-3 c = omega (arith, pair c .few)
-
-shared-slice-read-wide-2 : tie.Need-shared-slice-read-wide-2 Inv-loop μ-loop
-shared-slice-read-wide-2 c = omega (arith, pair (c .before) .ends-long)
-
-wide-requires-2 : tie.Need-wide-requires-2 Inv-loop μ-loop
-wide-requires-2 c κs = tt
+first-end-requires : tie.Need-first-end-requires Inv-loop μ-loop
+first-end-requires c κs = let p = pair c in (p .few, omega arith)
 
 mul-lower : tie.Need-mul-lower Inv-loop μ-loop
-mul-lower c = omega (arith, pair (c .before .before) .few)
+mul-lower c = omega (arith, pair (c .before) .few)
 
 shared-slice-read-lower : tie.Need-shared-slice-read-lower Inv-loop μ-loop
-shared-slice-read-lower c = pair (c .before .before .before) .weights-long
+shared-slice-read-lower c = pair (c .before .before) .weights-long
 
 lower-requires : tie.Need-lower-requires Inv-loop μ-loop
 lower-requires c κs =
     let u = c .before .before in
-    let l = u .before .before .before in
-    let p = pair (u .before .before) in (
+    let l = u .before .before in
+    let p = pair (u .before) in (
       l .loop .inv .0 .ranking,
       (
-        omega (arith, other-is u, p .first-low, p .modules),
+        omega (arith, u .first-end .ensures, p .first-low, p .modules),
         (
           omega (arith, p .light),
-          lowering-fits (l .loop .inv .0) (l .loop .s - 1) (omega arith) (other-is u) refl (begin l .pre .0),
+          lowering-fits (l .loop .inv .0) (l .loop .s - 1) (omega arith) (u .first-end .ensures) refl (begin l .pre .0),
         ),
       ),
     )
 
-mul-wide-4 : tie.Need-mul-wide-4 Inv-loop μ-loop
-mul-wide-4 c = omega (arith, pair (c .before .before .before .before .before .before .before) .few)
+mul-wide-2 : tie.Need-mul-wide-2 Inv-loop μ-loop
+mul-wide-2 c = omega (arith, pair (c .before .before .before .before .before .before) .few)
 
-shared-slice-read-wide-3 : tie.Need-shared-slice-read-wide-3 Inv-loop μ-loop
-shared-slice-read-wide-3 c =
-    let i = c .before .before .before .before .before .before .before .before in
+shared-slice-read-wide-2 : tie.Need-shared-slice-read-wide-2 Inv-loop μ-loop
+shared-slice-read-wide-2 c =
+    let i = c .before .before .before .before .before .before .before in
     omega (arith, low i, begin (i .before) .pre .1 .next-long)
 
-wide-requires-3 : tie.Need-wide-requires-3 Inv-loop μ-loop
-wide-requires-3 c κs = tt
+wide-requires-2 : tie.Need-wide-requires-2 Inv-loop μ-loop
+wide-requires-2 c κs = tt
 
 loop-less : tie.Need-loop-less Inv-loop μ-loop
 loop-less c = after c .0
@@ -129,7 +114,7 @@ loop-less c = after c .0
 loop-again : tie.Need-loop-again Inv-loop μ-loop
 loop-again c =
     let k = c .before .before .before .before .lower .kept in
-    (after c .1, k .1 .1 .0 ∙ c .before .before .before .before .before .before .before .before .before .before .loop .inv .1)
+    (after c .1, k .1 .1 .0 ∙ c .before .before .before .before .before .before .before .before .before .loop .inv .1)
 
 same-length : tie.Need-same-length Inv-loop μ-loop
 same-length c = c .before .loop .inv .1
@@ -148,16 +133,13 @@ lower-chain-spec =
     wide-requires
     loop-holds
     sub-k
-    mul-wide-2
-    mul-wide-3
-    shared-slice-read-wide-2
-    wide-requires-2
+    first-end-requires
     mul-lower
     shared-slice-read-lower
     lower-requires
-    mul-wide-4
-    shared-slice-read-wide-3
-    wide-requires-3
+    mul-wide-2
+    shared-slice-read-wide-2
+    wide-requires-2
     loop-less
     loop-again
     same-length

@@ -33,23 +33,17 @@ pair : (c : tie.In-loop Inv-loop μ-loop) →
     let a = begin (c .before) .args in Pair-at (a .n) (c .before .loop .s - 1) (a .ends .now) (a .weights .now)
 pair c = pair-at (begin (c .before) .pre .0 .held) (c .before .loop .s - 1) (low c)
 
--- the module at its other end
-other-is : (c : tie.After-wide2 Inv-loop μ-loop) →
-    let l = c .before .before .before in c .wide2 .result ≡ second-end (begin l .args .ends .now) (l .loop .s - 1)
-unfolding second-end
-other-is c = c .wide2 .ensures
-
 -- the next place is lower, and the pair is done
 after : (c : tie.After-earlier-in-row Inv-loop μ-loop) →
-    let l = c .before .before .before .before .before .before .before .before .before in
+    let l = c .before .before .before .before .before .before .before .before in
     let a = begin l .args in
     let new = c .before .before .before .lower .last .1 .1 .0 in
     (c .earlier-in-row .result < l .loop .s)
     × Lowering (a .m) (a .v) (c .earlier-in-row .result) (first-end (a .ends .now)) (second-end (a .ends .now)) (a .weights .now) (a .work .now) new
 after c =
     let u = c .before .before .before .before .before .before in
-    let l = u .before .before .before .loop in
-    lowering-next (l .inv .0) (l .s - 1) (omega arith) (other-is u) refl (c .before .before .before .lower .ensures) (c .earlier-in-row .ensures)
+    let l = u .before .before .loop in
+    lowering-next (l .inv .0) (l .s - 1) (omega arith) (u .second-end .ensures) refl (c .before .before .before .lower .ensures) (c .earlier-in-row .ensures)
 
 mul-wide : tie.Need-mul-wide Inv-loop μ-loop
 mul-wide c = let p = c .before .before .before .before .pre .0 in omega (arith, p .below, few-modules _ _ _ _ (p .held .listed))
@@ -68,45 +62,33 @@ loop-holds c =
 sub-k : tie.Need-sub-k Inv-loop μ-loop
 sub-k c = omega arith
 
-mul-wide-2 : tie.Need-mul-wide-2 Inv-loop μ-loop
-mul-wide-2 c = omega (arith, pair c .few)
-
-add-wide : tie.Need-add-wide Inv-loop μ-loop
-add-wide c = omega (arith, pair c .few)
-
-mul-wide-3 : tie.Need-mul-wide-3 Inv-loop μ-loop
-mul-wide-3 c = omega (arith, pair c .few)
-
-shared-slice-read-wide-2 : tie.Need-shared-slice-read-wide-2 Inv-loop μ-loop
-shared-slice-read-wide-2 c = omega (arith, pair (c .before) .ends-long)
-
-wide-requires-2 : tie.Need-wide-requires-2 Inv-loop μ-loop
-wide-requires-2 c κs = tt
+second-end-requires : tie.Need-second-end-requires Inv-loop μ-loop
+second-end-requires c κs = let p = pair c in (p .few, omega arith)
 
 mul-lower : tie.Need-mul-lower Inv-loop μ-loop
-mul-lower c = omega (arith, pair (c .before .before) .few)
+mul-lower c = omega (arith, pair (c .before) .few)
 
 shared-slice-read-lower : tie.Need-shared-slice-read-lower Inv-loop μ-loop
-shared-slice-read-lower c = pair (c .before .before .before) .weights-long
+shared-slice-read-lower c = pair (c .before .before) .weights-long
 
 lower-requires : tie.Need-lower-requires Inv-loop μ-loop
 lower-requires c κs =
     let u = c .before .before in
-    let l = u .before .before .before in
-    let p = pair (u .before .before) in (
+    let l = u .before .before in
+    let p = pair (u .before) in (
       l .loop .inv .0 .ranking,
       (
-        omega (arith, other-is u, p .second-low, p .modules),
+        omega (arith, u .second-end .ensures, p .second-low, p .modules),
         (
           omega (arith, p .light),
-          lowering-fits (l .loop .inv .0) (l .loop .s - 1) (omega arith) (other-is u) refl (begin l .pre .0),
+          lowering-fits (l .loop .inv .0) (l .loop .s - 1) (omega arith) (u .second-end .ensures) refl (begin l .pre .0),
         ),
       ),
     )
 
 earlier-in-row-requires : tie.Need-earlier-in-row-requires Inv-loop μ-loop
 earlier-in-row-requires c κs =
-    let i = c .before .before .before .before .before .before .before in
+    let i = c .before .before .before .before .before .before in
     row-at (begin (i .before) .pre .0 .held) (low i) (own i)
 
 loop-less : tie.Need-loop-less Inv-loop μ-loop
@@ -115,7 +97,7 @@ loop-less c = after c .0
 loop-again : tie.Need-loop-again Inv-loop μ-loop
 loop-again c =
     let k = c .before .before .before .lower .kept in
-    (after c .1, k .1 .1 .0 ∙ c .before .before .before .before .before .before .before .before .before .loop .inv .1)
+    (after c .1, k .1 .1 .0 ∙ c .before .before .before .before .before .before .before .before .loop .inv .1)
 
 same-length : tie.Need-same-length Inv-loop μ-loop
 same-length c = c .before .loop .inv .1
@@ -134,11 +116,7 @@ lower-row-spec =
     wide-requires
     loop-holds
     sub-k
-    mul-wide-2
-    add-wide
-    mul-wide-3
-    shared-slice-read-wide-2
-    wide-requires-2
+    second-end-requires
     mul-lower
     shared-slice-read-lower
     lower-requires

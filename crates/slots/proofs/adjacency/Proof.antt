@@ -3,7 +3,7 @@ use mathlib.Core.Path.{_≡_, refl, _∙_}
 use Prim.Native.Nat.{_-_, _≤_, _<_}
 use native.Mathlib.Omega.{arith}
 use lib.ListN.{length, length-set}
-use Rattle.slots.specs.Rows.{first-end, second-end, Adjacency}
+use Rattle.slots.specs.Rows.{Adjacency}
 use Rattle.slots.proofs.Rows.{Pair-at, pair-at}
 use Rattle.slots.proofs.Passing.{adjacency-start, adjacency-fits, adjacency-fits-too, adjacency-next}
 use Rattle.slots.proofs.adjacency.Statement.{statement}
@@ -21,8 +21,8 @@ abbrev μ-loop : tie.MeasureT-loop
 abbrev begin : tie.At-loop Inv-loop μ-loop → tie.Start Inv-loop μ-loop
 begin l = l .before .before .before .before .before .before .before
 
-abbrev inside : tie.After-wide2 Inv-loop μ-loop → tie.In-loop Inv-loop μ-loop
-inside c = c .before .before .before .before
+abbrev inside : tie.After-second-end Inv-loop μ-loop → tie.In-loop Inv-loop μ-loop
+inside c = c .before .before
 
 -- the pair at hand
 low : (c : tie.In-loop Inv-loop μ-loop) → c .before .loop .j < begin (c .before) .args .m
@@ -31,17 +31,6 @@ low c = omega arith
 pair : (c : tie.In-loop Inv-loop μ-loop) →
     let a = begin (c .before) .args in Pair-at (a .n) (c .before .loop .j) (a .ends .now) (a .weights .now)
 pair c = pair-at (begin (c .before) .pre .0) (c .before .loop .j) (low c)
-
--- and its ends
-first-is : (c : tie.After-wide2 Inv-loop μ-loop) →
-    let l = inside c .before in c .before .before .wide .result ≡ first-end (begin l .args .ends .now) (l .loop .j)
-unfolding first-end
-first-is c = c .before .before .wide .ensures
-
-second-is : (c : tie.After-wide2 Inv-loop μ-loop) →
-    let l = inside c .before in c .wide2 .result ≡ second-end (begin l .args .ends .now) (l .loop .j)
-unfolding second-end
-second-is c = c .wide2 .ensures
 
 loop-holds : tie.Need-loop-holds Inv-loop μ-loop
 loop-holds c =
@@ -54,32 +43,11 @@ loop-holds c =
       refl,
     )
 
-mul-wide : tie.Need-mul-wide Inv-loop μ-loop
-mul-wide c = omega (arith, pair c .few)
+first-end-requires : tie.Need-first-end-requires Inv-loop μ-loop
+first-end-requires c κs = let p = pair c in (p .few, omega arith)
 
-mul-wide-2 : tie.Need-mul-wide-2 Inv-loop μ-loop
-mul-wide-2 c = omega (arith, pair c .few)
-
-shared-slice-read-wide : tie.Need-shared-slice-read-wide Inv-loop μ-loop
-shared-slice-read-wide c = omega (arith, pair (c .before) .ends-long)
-
-wide-requires : tie.Need-wide-requires Inv-loop μ-loop
-wide-requires c κs = tt
-
-mul-wide-3 : tie.Need-mul-wide-3 Inv-loop μ-loop
-mul-wide-3 c = omega (arith, pair (c .before .before) .few)
-
-add-wide : tie.Need-add-wide Inv-loop μ-loop
-add-wide c = omega (arith, pair (c .before .before) .few)
-
-mul-wide-4 : tie.Need-mul-wide-4 Inv-loop μ-loop
-mul-wide-4 c = omega (arith, pair (c .before .before) .few)
-
-shared-slice-read-wide-2 : tie.Need-shared-slice-read-wide-2 Inv-loop μ-loop
-shared-slice-read-wide-2 c = pair (c .before .before .before) .ends-long
-
-wide-requires-2 : tie.Need-wide-requires-2 Inv-loop μ-loop
-wide-requires-2 c κs = tt
+second-end-requires : tie.Need-second-end-requires Inv-loop μ-loop
+second-end-requires c κs = let p = pair (c .before) in (p .few, p .ends-long)
 
 add-rows : tie.Need-add-rows Inv-loop μ-loop
 add-rows c = omega (arith, pair (inside c) .few)
@@ -88,10 +56,10 @@ cast-rows : tie.Need-cast-rows Inv-loop μ-loop
 cast-rows c = omega (arith, pair (inside c) .few)
 
 mul-rows : tie.Need-mul-rows Inv-loop μ-loop
-mul-rows c = omega (arith, first-is c, pair (inside c) .first-low, pair (inside c) .modules)
+mul-rows c = omega (arith, c .before .first-end .ensures, pair (inside c) .first-low, pair (inside c) .modules)
 
 slice-write-rows : tie.Need-slice-write-rows Inv-loop μ-loop
-slice-write-rows c = omega (arith, first-is c, pair (inside c) .first-low, inside c .before .loop .inv .0 .rows-are .long)
+slice-write-rows c = omega (arith, c .before .first-end .ensures, pair (inside c) .first-low, inside c .before .loop .inv .0 .rows-are .long)
 
 link-requires : tie.Need-link-requires Inv-loop μ-loop
 link-requires c κs =
@@ -100,7 +68,7 @@ link-requires c κs =
     let p = pair (inside w) in (
       omega (arith, p .few),
       (
-        omega (arith, second-is w, p .second-low, l .loop .inv .0 .chains-are .first-long),
+        omega (arith, w .second-end .ensures, p .second-low, l .loop .inv .0 .chains-are .first-long),
         omega (arith, begin l .pre .1 .next-long),
       ),
     )
@@ -116,8 +84,9 @@ add-requires c κs =
     let w = c .before .before .before .before .before .before .before .before .before in
     let l = inside w .before in
     let s = begin l in (
-      omega (arith, first-is w, pair (inside w) .first-low, s .pre .1 .degrees-long),
-      adjacency-fits (s .pre .0) (low (inside w)) (first-is w) (second-is w) (l .loop .inv .0) (omega (arith, s .pre .1 .degrees-long)),
+      omega (arith, w .before .first-end .ensures, pair (inside w) .first-low, s .pre .1 .degrees-long),
+      adjacency-fits (s .pre .0) (low (inside w)) (w .before .first-end .ensures) (w .second-end .ensures) (l .loop .inv .0)
+          (omega (arith, s .pre .1 .degrees-long)),
     )
 
 mul-add-2 : tie.Need-mul-add-2 Inv-loop μ-loop
@@ -133,8 +102,9 @@ add-requires-2 c κs =
     let w = e .before .before .before .before .before .before .before .before .before .before in
     let l = inside w .before in
     let s = begin l in (
-      omega (arith, second-is w, pair (inside w) .second-low, s .pre .1 .degrees-long, e .add .kept .1 .1 .0),
-      adjacency-fits-too (s .pre .0) (low (inside w)) (first-is w) (second-is w) (l .loop .inv .0) (omega (arith, s .pre .1 .degrees-long)) (e .add .ensures),
+      omega (arith, w .second-end .ensures, pair (inside w) .second-low, s .pre .1 .degrees-long, e .add .kept .1 .1 .0),
+      adjacency-fits-too (s .pre .0) (low (inside w)) (w .before .first-end .ensures) (w .second-end .ensures) (l .loop .inv .0)
+          (omega (arith, s .pre .1 .degrees-long)) (e .add .ensures),
     )
 
 add-j : tie.Need-add-j Inv-loop μ-loop
@@ -152,7 +122,7 @@ loop-again c =
     let l = inside w .before in
     let s = begin l in
     let i = l .loop .inv in (
-      adjacency-next (s .pre .0) (low (inside w)) (first-is w) (second-is w) (i .0) (omega (arith, s .pre .1 .degrees-long, i .5))
+      adjacency-next (s .pre .0) (low (inside w)) (w .before .first-end .ensures) (w .second-end .ensures) (i .0) (omega (arith, s .pre .1 .degrees-long, i .5))
           (e .add .ensures) (omega (arith, s .pre .1 .next-long, i .4)) (k .link .kept .1 .1 .1 .0)
           (k .link .kept .1 .1 .0) (k .link .ensures) (f .add2 .ensures),
       omega (arith, low (inside w)),
@@ -186,15 +156,8 @@ adjacency-spec =
     Inv-loop
     μ-loop
     loop-holds
-    mul-wide
-    mul-wide-2
-    shared-slice-read-wide
-    wide-requires
-    mul-wide-3
-    add-wide
-    mul-wide-4
-    shared-slice-read-wide-2
-    wide-requires-2
+    first-end-requires
+    second-end-requires
     add-rows
     cast-rows
     mul-rows

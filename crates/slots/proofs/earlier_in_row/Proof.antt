@@ -2,7 +2,6 @@
 use mathlib.Core.Path.{refl, sym, _∙_}
 use borrow.Author.Needs.{needs}
 use Rattle.slots.specs.Links.{last-at}
-use Rattle.slots.specs.Rows.{first-end}
 use Rattle.slots.proofs.Rows.{row-back, row-begins}
 use Rattle.slots.proofs.earlier_in_row.Statement.{statement}
 use Rattle.slots.proofs.earlier_in_row.Tie as tie
@@ -11,44 +10,30 @@ returns : tie.Need-returns
 unfolding last-at
 returns c = rw (c .if1 .taken) refl
 
-sub-wide : tie.Need-sub-wide
-sub-wide c = search needs
+sub-first-end : tie.Need-sub-first-end
+sub-first-end c = search needs
 
-mul-wide : tie.Need-mul-wide
-mul-wide c = search needs
-
-mul-wide-2 : tie.Need-mul-wide-2
-mul-wide-2 c = search needs
-
-shared-slice-read-wide : tie.Need-shared-slice-read-wide
-shared-slice-read-wide c = search needs
-
-wide-requires : tie.Need-wide-requires
-wide-requires c κs = search needs
+first-end-requires : tie.Need-first-end-requires
+first-end-requires c κs = search needs
 
 returns-2 : tie.Need-returns-2
-unfolding first-end
 returns-2 c =
-    let o = c .before .before .before in
+    let o = c .before .before in
     let a = o .before .before .args in
-    row-back (a .k) (a .v) (a .ends .now) (o .if1 .left) (sym (c .before .wide .ensures) ∙ c .if2 .taken)
+    row-back (a .k) (a .v) (a .ends .now) (o .if1 .left) (sym (c .before .first-end .ensures) ∙ c .if2 .taken)
 
 returns-3 : tie.Need-returns-3
-unfolding first-end
 returns-3 c =
-    let o = c .before .before .before in
+    let o = c .before .before in
     let s = o .before .before in
-    sym (row-begins (s .args .k) (s .args .v) (s .args .ends .now) (o .if1 .left) (s .pre) (λ e. c .if2 .left (c .before .wide .ensures ∙ e)))
+    sym (row-begins (s .args .k) (s .args .v) (s .args .ends .now) (o .if1 .left) (s .pre) (λ e. c .if2 .left (c .before .first-end .ensures ∙ e)))
 
 pub earlier-in-row-spec : {M : Type 1} → statement M
 earlier-in-row-spec =
     tie.close
     (tie.spec
     returns
-    sub-wide
-    mul-wide
-    mul-wide-2
-    shared-slice-read-wide
-    wide-requires
+    sub-first-end
+    first-end-requires
     returns-2
     returns-3)

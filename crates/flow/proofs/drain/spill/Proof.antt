@@ -21,41 +21,35 @@ abbrev μ-loop : tie.MeasureT-loop
 
 -- the function's entry
 abbrev begin : tie.At-loop Inv-loop μ-loop → tie.Start Inv-loop μ-loop
-begin c = c .before .before .before .before .before .before .before .before .before
+begin c = c .before .before .before .before .before .before .before .before
 
 -- the other slot of the link at hand
 other-low : (c : tie.After-other Inv-loop μ-loop) → c .other .result < 2 * begin (c .before .before) .args .m
 other-low c = omega (arith, c .other .ensures, mates (begin (c .before .before) .args .m) (c .before .before .loop .s - 1) .low (omega arith))
 
-out : (c : tie.Then1 Inv-loop μ-loop) → let l = c .before .before .before .before .before .before .before in let a = begin l .args in
-    Leads-out (a .n) (a .m) (a .ends .now) (a .hold .now) (l .loop .rank) (c .before .before .before .before .before .other .result)
+out : (c : tie.Then1 Inv-loop μ-loop) → let l = c .before .before .before .before .before .before in let a = begin l .args in
+    Leads-out (a .n) (a .m) (a .ends .now) (a .hold .now) (l .loop .rank) (c .before .before .before .before .other .result)
 out c =
-    let i = c .before .before .before .before .before .before .before .loop .inv in
-    leads-out (i .1) (i .3) (other-low (c .before .before .before .before .before)) (sym (c .before .leading .ensures) ∙ c .if1 .taken)
+    let i = c .before .before .before .before .before .before .loop .inv in
+    leads-out (i .1) (i .3) (other-low (c .before .before .before .before)) (sym (c .before .leading .ensures) ∙ c .if1 .taken)
 
 room : (c : tie.Then1 Inv-loop μ-loop) →
-    c .before .before .before .before .before .before .before .loop .t < begin (c .before .before .before .before .before .before .before) .args .n
-room c = release-room (out c) (c .before .before .before .before .before .before .before .loop .inv .6)
+    c .before .before .before .before .before .before .loop .t < begin (c .before .before .before .before .before .before) .args .n
+room c = release-room (out c) (c .before .before .before .before .before .before .loop .inv .6)
 
-in-queue : (c : tie.Then1 Inv-loop μ-loop) → c .before .before .before .before .before .before .before .loop .t < 512
-in-queue c = omega (arith, room c, begin (c .before .before .before .before .before .before .before) .pre .0 .0)
+in-queue : (c : tie.Then1 Inv-loop μ-loop) → c .before .before .before .before .before .before .loop .t < 512
+in-queue c = omega (arith, room c, begin (c .before .before .before .before .before .before) .pre .0 .0)
 
-mul-capped : tie.Need-mul-capped Inv-loop μ-loop
-mul-capped c = omega arith
+mul-first-link : tie.Need-mul-first-link Inv-loop μ-loop
+mul-first-link c = omega (arith, c .before .before .before .before .before .before .pre .1 .0 .few)
 
-shared-slice-read-capped : tie.Need-shared-slice-read-capped Inv-loop μ-loop
-shared-slice-read-capped c = omega arith
-
-mul-capped-2 : tie.Need-mul-capped-2 Inv-loop μ-loop
-mul-capped-2 c = omega (arith, c .before .before .before .before .before .before .before .pre .1 .0 .few)
-
-capped-requires : tie.Need-capped-requires Inv-loop μ-loop
-capped-requires c κs = tt
+first-link-requires : tie.Need-first-link-requires Inv-loop μ-loop
+first-link-requires c κs = omega arith
 
 loop-holds : tie.Need-loop-holds Inv-loop μ-loop
 loop-holds c =
-    let q = c .before .before .before .before .before .before .before .before .pre in
-    (drains-none, q .1 .0, c .capped .ensures .0, q .1 .1 .1 .0, refl, q .1 .1 .1 .1, q .1 .1 .1 .2)
+    let q = c .before .before .before .before .before .before .before .pre in
+    (drains-none, q .1 .0, c .first-link .ensures, q .1 .1 .1 .0, refl, q .1 .1 .1 .1, q .1 .1 .1 .2)
 
 sub-k : tie.Need-sub-k Inv-loop μ-loop
 sub-k c = omega arith
@@ -63,34 +57,28 @@ sub-k c = omega arith
 other-requires : tie.Need-other-requires Inv-loop μ-loop
 other-requires c κs = omega arith
 
-mul-capped-3 : tie.Need-mul-capped-3 Inv-loop μ-loop
-mul-capped-3 c = omega arith
-
-shared-slice-read-capped-2 : tie.Need-shared-slice-read-capped-2 Inv-loop μ-loop
-shared-slice-read-capped-2 c = omega arith
-
-capped-requires-2 : tie.Need-capped-requires-2 Inv-loop μ-loop
-capped-requires-2 c κs = tt
+next-link-requires : tie.Need-next-link-requires Inv-loop μ-loop
+next-link-requires c κs = omega arith
 
 leading-requires : tie.Need-leading-requires Inv-loop μ-loop
 leading-requires c κs =
-    let i = c .before .before .before .before .before .loop .inv in
-    (i .1, (other-low (c .before .before .before), (begin (c .before .before .before .before .before) .pre .1 .1 .0 .2, i .3)))
+    let i = c .before .before .before .before .loop .inv in
+    (i .1, (other-low (c .before .before), (begin (c .before .before .before .before) .pre .1 .1 .0 .2, i .3)))
 
 release-requires : tie.Need-release-requires Inv-loop μ-loop
 release-requires c κs =
-    let i = c .before .before .before .before .before .before .before .before .before .loop .inv in
-    (i .1, (other-low (c .before .before .before .before .before .before .before), (i .3, (in-queue (c .before .before), i .5))))
+    let i = c .before .before .before .before .before .before .before .before .loop .inv in
+    (i .1, (other-low (c .before .before .before .before .before .before), (i .3, (in-queue (c .before .before), i .5))))
 
 add-t : tie.Need-add-t Inv-loop μ-loop
 add-t c = omega (arith, in-queue (c .before .before .before .before .before .before .before))
 
 loop-less : tie.Need-loop-less Inv-loop μ-loop
-loop-less c = omega (arith, c .before .before .before .before .before .before .before .before .before .before .capped2 .ensures .0)
+loop-less c = omega (arith, c .before .before .before .before .before .before .before .before .before .before .next-link .ensures)
 
 loop-again : tie.Need-loop-again Inv-loop μ-loop
 loop-again c =
-    let i = c .before .before .before .before .before .before .before .before .before .before .before .before .before .before .loop .inv in
+    let i = c .before .before .before .before .before .before .before .before .before .before .before .before .before .loop .inv in
     let d =
     release-drains (out (c .before .before .before .before .before .before .before))
     (omega (arith, in-queue (c .before .before .before .before .before .before .before), i .5))
@@ -98,7 +86,7 @@ loop-again c =
     let k = c .before .before .before .before .release .kept .1 .1 .1 .1 .1 in (
       drains-more (i .0) d,
       i .1,
-      omega (arith, c .before .before .before .before .before .before .before .before .before .before .capped2 .ensures .0),
+      omega (arith, c .before .before .before .before .before .before .before .before .before .before .next-link .ensures),
       omega (arith, k .0),
       k .0 ∙ i .4,
       k .1 .0 ∙ i .5,
@@ -106,12 +94,12 @@ loop-again c =
     )
 
 loop-less-2 : tie.Need-loop-less-2 Inv-loop μ-loop
-loop-less-2 c = omega (arith, c .before .before .before .capped2 .ensures .0)
+loop-less-2 c = omega (arith, c .before .before .before .next-link .ensures)
 
 loop-again-2 : tie.Need-loop-again-2 Inv-loop μ-loop
 loop-again-2 c =
-    let i = c .before .before .before .before .before .before .before .loop .inv in
-    (i .0, i .1, omega (arith, c .before .before .before .capped2 .ensures .0), i .3, i .4, i .5, i .6)
+    let i = c .before .before .before .before .before .before .loop .inv in
+    (i .0, i .1, omega (arith, c .before .before .before .next-link .ensures), i .3, i .4, i .5, i .6)
 
 same-length : tie.Need-same-length Inv-loop μ-loop
 same-length c = omega arith
@@ -128,16 +116,12 @@ spill-spec =
     (tie.spec
     Inv-loop
     μ-loop
-    mul-capped
-    shared-slice-read-capped
-    mul-capped-2
-    capped-requires
+    mul-first-link
+    first-link-requires
     loop-holds
     sub-k
     other-requires
-    mul-capped-3
-    shared-slice-read-capped-2
-    capped-requires-2
+    next-link-requires
     leading-requires
     release-requires
     add-t

@@ -19,21 +19,15 @@ abbrev μ-loop : tie.MeasureT-loop
 abbrev begin : tie.At-loop Inv-loop μ-loop → tie.Start Inv-loop μ-loop
 begin c = c .before .before .before .before .before .before .before .before .before .before
 
-mul-capped : tie.Need-mul-capped Inv-loop μ-loop
-mul-capped c = omega arith
+mul-first-link : tie.Need-mul-first-link Inv-loop μ-loop
+mul-first-link c = omega arith
 
-slice-read-capped : tie.Need-slice-read-capped Inv-loop μ-loop
-slice-read-capped c = omega arith
-
-mul-capped-2 : tie.Need-mul-capped-2 Inv-loop μ-loop
-mul-capped-2 c = omega arith
-
-capped-requires : tie.Need-capped-requires Inv-loop μ-loop
-capped-requires c κs = omega arith
+first-link-requires : tie.Need-first-link-requires Inv-loop μ-loop
+first-link-requires c κs = omega arith
 
 loop-holds : tie.Need-loop-holds Inv-loop μ-loop
 loop-holds c =
-    (kept-none _ _ _ _ _, c .capped .ensures .0, c .before .before .before .before .before .before .before .before .before .pre .1 .1 .1 .1 .1, refl, refl)
+    (kept-none _ _ _ _ _, c .first-link .ensures, c .before .before .before .before .before .before .before .before .before .pre .1 .1 .1 .1 .1, refl, refl)
 
 mul-if1 : tie.Need-mul-if1 Inv-loop μ-loop
 mul-if1 c = omega arith
@@ -54,18 +48,12 @@ slice-write-arc c = let a = c .before .before .before in omega (arith, begin a .
 sub-k : tie.Need-sub-k Inv-loop μ-loop
 sub-k c = omega arith
 
-mul-capped-3 : tie.Need-mul-capped-3 Inv-loop μ-loop
-mul-capped-3 c = omega arith
-
-shared-slice-read-capped : tie.Need-shared-slice-read-capped Inv-loop μ-loop
-shared-slice-read-capped c = omega arith
-
-capped-requires-2 : tie.Need-capped-requires-2 Inv-loop μ-loop
-capped-requires-2 c κs = omega arith
+next-link-requires : tie.Need-next-link-requires Inv-loop μ-loop
+next-link-requires c κs = omega arith
 
 push-requires : tie.Need-push-requires Inv-loop μ-loop
 push-requires c κs =
-    let a = c .before .before .before .before .before .before .before .before in
+    let a = c .before .before .before .before .before .before .before in
     let q = begin a .pre in
     let i = a .loop .inv in
     (q .0, ((omega arith, q .1 .0 .2), (kept-room (i .0) (q .1 .1 .0), (kept-covers (i .0) (q .1 .1 .1 .0), i .2))))
@@ -77,9 +65,9 @@ loop-again : tie.Need-loop-again Inv-loop μ-loop
 loop-again c =
     let d = c .before .before .before .before .before .before in
     let u = d .before .before .before .before in
-    let i = u .before .before .before .before .before .loop .inv in (
+    let i = u .before .before .before .before .loop .inv in (
       kept-more (i .0) (d .push .ensures .1),
-      omega (arith, u .capped2 .ensures .0),
+      omega (arith, u .next-link .ensures),
       omega (arith, d .push .ensures .0, d .push .kept .1 .1 .1 .1 .1),
       omega (arith, d .push .kept .1 .1 .1 .1 .1),
       simp length-set (i .4),
@@ -121,10 +109,8 @@ push-from-spec =
     (tie.spec
     Inv-loop
     μ-loop
-    mul-capped
-    slice-read-capped
-    mul-capped-2
-    capped-requires
+    mul-first-link
+    first-link-requires
     loop-holds
     mul-if1
     slice-read-if1
@@ -132,9 +118,7 @@ push-from-spec =
     mul-arc
     slice-write-arc
     sub-k
-    mul-capped-3
-    shared-slice-read-capped
-    capped-requires-2
+    next-link-requires
     push-requires
     loop-less
     loop-again

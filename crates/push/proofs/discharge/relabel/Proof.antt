@@ -14,24 +14,18 @@ abbrev μ-loop : tie.MeasureT-loop
 
 -- the function's entry
 abbrev begin : tie.At-loop Inv-loop μ-loop → tie.Start Inv-loop μ-loop
-begin c = c .before .before .before .before .before .before .before .before
+begin c = c .before .before .before .before .before .before .before
 
 -- the pair of the link at hand
-at-slot : (c : tie.After-other Inv-loop μ-loop) → let a = begin (c .before .before .before .before .before .before) .args in
-    Slot (a .n) (a .m) (a .ends .now) (c .before .before .before .before .before .before .loop .s - 1) (c .other .result)
-at-slot c = slot-other (c .other .ensures) (begin (c .before .before .before .before .before .before) .pre .0) (omega arith)
+at-slot : (c : tie.After-other Inv-loop μ-loop) → let a = begin (c .before .before .before .before .before) .args in
+    Slot (a .n) (a .m) (a .ends .now) (c .before .before .before .before .before .loop .s - 1) (c .other .result)
+at-slot c = slot-other (c .other .ensures) (begin (c .before .before .before .before .before) .pre .0) (omega arith)
 
-mul-capped : tie.Need-mul-capped Inv-loop μ-loop
-mul-capped c = omega arith
+mul-first-link : tie.Need-mul-first-link Inv-loop μ-loop
+mul-first-link c = omega arith
 
-shared-slice-read-capped : tie.Need-shared-slice-read-capped Inv-loop μ-loop
-shared-slice-read-capped c = omega arith
-
-mul-capped-2 : tie.Need-mul-capped-2 Inv-loop μ-loop
-mul-capped-2 c = omega arith
-
-capped-requires : tie.Need-capped-requires Inv-loop μ-loop
-capped-requires c κs = omega arith
+first-link-requires : tie.Need-first-link-requires Inv-loop μ-loop
+first-link-requires c κs = omega arith
 
 loop-holds : tie.Need-loop-holds Inv-loop μ-loop
 loop-holds c = omega arith
@@ -39,14 +33,8 @@ loop-holds c = omega arith
 sub-k : tie.Need-sub-k Inv-loop μ-loop
 sub-k c = omega arith
 
-mul-capped-3 : tie.Need-mul-capped-3 Inv-loop μ-loop
-mul-capped-3 c = omega arith
-
-shared-slice-read-capped-2 : tie.Need-shared-slice-read-capped-2 Inv-loop μ-loop
-shared-slice-read-capped-2 c = omega arith
-
-capped-requires-2 : tie.Need-capped-requires-2 Inv-loop μ-loop
-capped-requires-2 c κs = omega arith
+next-link-requires : tie.Need-next-link-requires Inv-loop μ-loop
+next-link-requires c κs = omega arith
 
 mul-if1 : tie.Need-mul-if1 Inv-loop μ-loop
 mul-if1 c = omega arith
@@ -99,15 +87,11 @@ relabel-spec =
     (tie.spec
     Inv-loop
     μ-loop
-    mul-capped
-    shared-slice-read-capped
-    mul-capped-2
-    capped-requires
+    mul-first-link
+    first-link-requires
     loop-holds
     sub-k
-    mul-capped-3
-    shared-slice-read-capped-2
-    capped-requires-2
+    next-link-requires
     mul-if1
     shared-slice-read-if1
     other-requires

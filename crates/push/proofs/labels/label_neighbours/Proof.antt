@@ -16,19 +16,13 @@ abbrev μ-loop : tie.MeasureT-loop
 
 -- the function's entry
 abbrev begin : tie.At-loop Inv-loop μ-loop → tie.Start Inv-loop μ-loop
-begin c = c .before .before .before .before .before .before .before .before .before
+begin c = c .before .before .before .before .before .before .before .before
 
-mul-capped : tie.Need-mul-capped Inv-loop μ-loop
-mul-capped c = omega arith
+mul-first-link : tie.Need-mul-first-link Inv-loop μ-loop
+mul-first-link c = omega arith
 
-shared-slice-read-capped : tie.Need-shared-slice-read-capped Inv-loop μ-loop
-shared-slice-read-capped c = omega arith
-
-mul-capped-2 : tie.Need-mul-capped-2 Inv-loop μ-loop
-mul-capped-2 c = omega arith
-
-capped-requires : tie.Need-capped-requires Inv-loop μ-loop
-capped-requires c κs = omega arith
+first-link-requires : tie.Need-first-link-requires Inv-loop μ-loop
+first-link-requires c κs = omega arith
 
 loop-holds : tie.Need-loop-holds Inv-loop μ-loop
 loop-holds c = omega arith
@@ -36,21 +30,15 @@ loop-holds c = omega arith
 sub-k : tie.Need-sub-k Inv-loop μ-loop
 sub-k c = omega arith
 
-mul-capped-3 : tie.Need-mul-capped-3 Inv-loop μ-loop
-mul-capped-3 c = omega arith
-
-shared-slice-read-capped-2 : tie.Need-shared-slice-read-capped-2 Inv-loop μ-loop
-shared-slice-read-capped-2 c = omega arith
-
-capped-requires-2 : tie.Need-capped-requires-2 Inv-loop μ-loop
-capped-requires-2 c κs = omega arith
+next-link-requires : tie.Need-next-link-requires Inv-loop μ-loop
+next-link-requires c κs = omega arith
 
 other-requires : tie.Need-other-requires Inv-loop μ-loop
 other-requires c κs = omega arith
 
 label-one-requires : tie.Need-label-one-requires Inv-loop μ-loop
 label-one-requires c κs =
-    let l = c .before .before .before .before .before .before in
+    let l = c .before .before .before .before .before in
     let q = begin l .pre in
     let i = l .loop .inv in
     let o = mates (begin l .args .m) (l .loop .s - 1) .low (omega arith) in
@@ -77,15 +65,11 @@ label-neighbours-spec =
     (tie.spec
     Inv-loop
     μ-loop
-    mul-capped
-    shared-slice-read-capped
-    mul-capped-2
-    capped-requires
+    mul-first-link
+    first-link-requires
     loop-holds
     sub-k
-    mul-capped-3
-    shared-slice-read-capped-2
-    capped-requires-2
+    next-link-requires
     other-requires
     label-one-requires
     loop-less
