@@ -18,7 +18,7 @@ use Rattle.slots.specs.Slots.{slot-load, own-of, staying}
 use Rattle.slots.specs.Split.{Split}
 use Rattle.slots.proofs.Counting.{staying-most}
 use Rattle.flow.specs.Flow.{Sub, Denser, Largest}
-use Rattle.densest.proofs.Units.{inside-most, inside-all, busy-in}
+use Rattle.densest.proofs.Units.{inside-most, inside-all, has-units-in}
 
 -- own loads and pairs inside, at share size q
 abbrev pub carried : (n m q : ℕ) → (own ends weights t : List ℕ) → ℕ
@@ -44,7 +44,7 @@ module _ (n m p q : ℕ) (own ends weights scope hold : List ℕ) (sp : Split m 
   unfolding list-in staying
   denser-group out t d = record {
     group = bits-group (list-in n m ends weights) t (d .long, d .bytes) (d .some);
-    sub = λ v i. ⊎-elim (out v) (busy-in n m q ends weights scope hold sp v) (d .live v i);
+    sub = λ v i. ⊎-elim (out v) (has-units-in n m q ends weights scope hold sp v) (d .live v i);
     more = omega (arith, d .more, inside-most n m q ends weights scope hold sp t);
   }
 

@@ -1,7 +1,7 @@
 -- Units of a split in slots, against inside counts.
 --   inside-most, inside-all  the units of the pairs inside a set are at most q times its inside count; all of that, for a set inside the scope
 --   split-kept, split-room   a split whose units moved is a split; a split has room
---   busy-in                  a pair with units has its ends in the scope
+--   has-units-in                  a pair with units has its ends in the scope
 --   own-none                 no own loads
 -- Assumes nothing.
 use mathlib.Core.Path.{_≡_, refl, sym, ap, _∙_}
@@ -21,7 +21,7 @@ use Rattle.slots.proofs.Totals.{total-le, total-scale}
 use Rattle.slots.proofs.Mates.{mate-even, by-pair}
 use Rattle.slots.proofs.Words.{inside-total}
 use Rattle.groups.specs.Pairs.{inner-at}
-use Rattle.flow.specs.Flow.{Sub, Busy}
+use Rattle.flow.specs.Flow.{Sub, Has-units}
 
 -- b: both ends in the set, c: both in the scope
 units-most : (b c : Bool) (x w q : ℕ) → x ≡ cond c (w * q) 0 → cond b x 0 ≤ cond b w 0 * q
@@ -78,9 +78,9 @@ module _ (n m q : ℕ) (ends weights scope hold : List ℕ) (sp : Split m q ends
   }
 
   -- a pair with units has its ends in the scope
-  pub busy-in : (v : ℕ) → Busy m ends hold v → is-in scope v ≡ true
+  pub has-units-in : (v : ℕ) → Has-units m ends hold v → is-in scope v ≡ true
   unfolding scope-units holds-pair word-pair units
-  busy-in v b =
+  has-units-in v b =
       ap (λ (x : ℕ). is-in scope x) (sym (b .end))
       ∙ by-pair m (λ s o. 0 < getD hold s 0 + getD hold o 0 → is-in scope (getD ends s 0) ≡ true)
       (λ j h.

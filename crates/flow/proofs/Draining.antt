@@ -1,7 +1,8 @@
 -- Draining: who stays, and that nobody of a closed set drains.
---   Levelling, level-start, level-next, level-end    the start, module by module
---   drains-none, drains-more                         nobody drains; some and then others
---   release-room, release-drains                     the module of a slot that leads out drains
+--   Drain-starting                                         the start, module by module
+--   drain-start-none, drain-start-next, drain-start-end    no module, one more, all
+--   drains-none, drains-more                               nobody drains; some and then others
+--   release-room, release-drains                           the module of a slot that leads out drains
 --   Draining, draining-start, draining-on, draining-end    all of it
 -- Assumes nothing.
 use mathlib.Core.Path.{_≡_, refl, sym, ap, _∙_}
@@ -19,22 +20,22 @@ use Rattle.theory.proofs.Tests.{tests, no}
 use Rattle.slots.specs.Slots.{mate}
 use Rattle.slots.proofs.Choice.{eq-or-ne, lt-or-le, stored-more}
 use Rattle.flow.specs.Search.{Closed, Exit}
-use Rattle.flow.specs.Drain.{zeros, Level, Released, Drains, Drained}
-use Rattle.flow.proofs.Leads.{leads-of, Way}
+use Rattle.flow.specs.Drain.{zeros, Drain-start, Released, Drains, Drained}
+use Rattle.flow.proofs.Leads.{leads-of, Leads-out}
 use Rattle.flow.proofs.Zeros.{is-zero, zeros-down, zeros-low, zeros-next}
 
 -- ---- the start
 
 -- who stays of the modules below v, and who is queued
-pub record Levelling (n p v : ℕ) (scope load rank queue : List ℕ) (tail : ℕ) : Type 0 where
+pub record Drain-starting (n p v : ℕ) (scope load rank queue : List ℕ) (tail : ℕ) : Type 0 where
   pub low : v ≤ n
   pub ranks : (k : ℕ) → k < v → getD rank k 0 ≡ cond (is-in scope k && leb p (getD load k 0)) 1 0
   pub queued : (i : ℕ) → i < tail → getD queue i 0 < n
   pub count : tail ≤ zeros v rank
   pub few : tail ≤ v
 
-pub level-start : {n p : ℕ} {scope load rank queue : List ℕ} → Levelling n p 0 scope load rank queue 0
-level-start = record {
+pub drain-start-none : {n p : ℕ} {scope load rank queue : List ℕ} → Drain-starting n p 0 scope load rank queue 0
+drain-start-none = record {
   low = omega arith;
   ranks = λ k h. absurd (omega arith);
   queued = λ i h. absurd (omega arith);
@@ -55,12 +56,12 @@ cond-most : (b : Bool) → cond b 1 0 ≤ 1
 cond-most true = omega arith
 cond-most false = omega arith
 
-module _ {n p v : ℕ} {scope load rank queue : List ℕ} {tail : ℕ} (w : Levelling n p v scope load rank queue tail) (l : v < n) (lr : v < length rank)
+module _ {n p v : ℕ} {scope load rank queue : List ℕ} {tail : ℕ} (w : Drain-starting n p v scope load rank queue tail) (l : v < n) (lr : v < length rank)
     (lq : tail < length queue) where
-  pub level-next : (k d : ℕ) → k ≡ cond (eqb (getD scope v 0) 1 && leb p (getD load v 0)) 1 0 →
-      d ≡ cond (eqb (getD scope v 0) 1 && ltb (getD load v 0) p) 1 0 → Levelling n p (v + 1) scope load (set rank v k) (set queue tail v) (tail + d)
+  pub drain-start-next : (k d : ℕ) → k ≡ cond (eqb (getD scope v 0) 1 && leb p (getD load v 0)) 1 0 →
+      d ≡ cond (eqb (getD scope v 0) 1 && ltb (getD load v 0) p) 1 0 → Drain-starting n p (v + 1) scope load (set rank v k) (set queue tail v) (tail + d)
   unfolding is-in
-  level-next k d ek ed =
+  drain-start-next k d ek ed =
       let one : d ≤ 1 = rw ed (cond-most (eqb (getD scope v 0) 1 && ltb (getD load v 0) p)) in
       let gone : d ≤ is-zero k = rw (ed, ek) (queued-gone (eqb (getD scope v 0) 1) p (getD load v 0)) in
       record {
@@ -71,9 +72,9 @@ module _ {n p v : ℕ} {scope load rank queue : List ℕ} {tail : ℕ} (w : Leve
         few = omega (arith, w .few);
       }
 
-pub level-end : {n p v : ℕ} {scope load rank queue : List ℕ} {tail : ℕ} → Levelling n p v scope load rank queue tail → n ≤ v →
-    Level n p scope load rank queue tail
-level-end {n} {p} {v} {scope} {load} {rank} {queue} {tail} w h =
+pub drain-start-end : {n p v : ℕ} {scope load rank queue : List ℕ} {tail : ℕ} → Drain-starting n p v scope load rank queue tail → n ≤ v →
+    Drain-start n p scope load rank queue tail
+drain-start-end {n} {p} {v} {scope} {load} {rank} {queue} {tail} w h =
     let e : v ≡ n = omega (arith, w .low) in
     record { ranks = rw e at (w .ranks); queued = w .queued; count = rw e at (w .count) }
 
@@ -94,7 +95,7 @@ drains-more a b = record {
 }
 
 -- slot k leads out of those who stay: its module drains
-module _ {n m : ℕ} {ends hold rank : List ℕ} {k : ℕ} (w : Way n m ends hold rank k) where
+module _ {n m : ℕ} {ends hold rank : List ℕ} {k : ℕ} (w : Leads-out n m ends hold rank k) where
   -- the queue has room
   pub release-room : {tail : ℕ} → tail ≤ zeros n rank → tail < n
   release-room h = omega (arith, zeros-low n (getD ends k 0) rank (w .low) (omega (arith, w .low, w .long)) (w .up))
@@ -138,7 +139,7 @@ on-bit : (b : Bool) → b ≡ true → 0 < cond b 1 0
 on-bit true h = omega arith
 on-bit false h = no h
 
-pub draining-start : {n m p : ℕ} {scope ends hold load rank queue : List ℕ} {tail : ℕ} → Level n p scope load rank queue tail →
+pub draining-start : {n m p : ℕ} {scope ends hold load rank queue : List ℕ} {tail : ℕ} → Drain-start n p scope load rank queue tail →
     Draining n m p scope ends hold load rank queue tail
 draining-start {n} {m} {p} {scope} {ends} {hold} {load} {rank} l = record {
   inside = λ v h b. simp tests at (bit-on (is-in scope v && leb p (getD load v 0)) (rw (l .ranks v h) at b));

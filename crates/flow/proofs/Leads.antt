@@ -2,7 +2,7 @@
 --   leads-facts, leads-of           what it says of a slot that it leads out, and back
 --   leads-none, leads-not, leads-test    the three ways that `leading` goes
 --   closed-empty                    of a closed set: a slot from a member to another module holds nothing
---   Way, way                        what is known of a slot that leads out
+--   Leads-out, leads-out            what is known of a slot that leads out
 -- Assumes nothing.
 use mathlib.Core.Path.{_≡_, sym, ap, _∙_}
 use mathlib.Core.Bool.{true, false}
@@ -53,7 +53,7 @@ module _ (ends hold rank : List ℕ) (s : ℕ) where
       (lt-or-le 0 (getD hold s 0))
 
 -- slot k leads out of the set
-pub record Way (n m : ℕ) (ends hold rank : List ℕ) (k : ℕ) : Type 0 where
+pub record Leads-out (n m : ℕ) (ends hold rank : List ℕ) (k : ℕ) : Type 0 where
   pub slot : k < 2 * m
   pub low : getD ends k 0 < n
   pub mate-low : getD ends (mate k) 0 < n
@@ -62,9 +62,9 @@ pub record Way (n m : ℕ) (ends hold rank : List ℕ) (k : ℕ) : Type 0 where
   pub up : 0 < getD rank (getD ends k 0) 0
   pub down : getD rank (getD ends (mate k) 0) 0 ≡ 0
 
-pub way : {n m : ℕ} {ends hold rank : List ℕ} {k : ℕ} → Ends n m ends → n ≤ length rank → k < 2 * m → leads ends hold rank k ≡ true →
-    Way n m ends hold rank k
-way {n} {m} {ends} {hold} {rank} {k} e lr lk ld =
+pub leads-out : {n m : ℕ} {ends hold rank : List ℕ} {k : ℕ} → Ends n m ends → n ≤ length rank → k < 2 * m → leads ends hold rank k ≡ true →
+    Leads-out n m ends hold rank k
+leads-out {n} {m} {ends} {hold} {rank} {k} e lr lk ld =
     let f = leads-facts ends hold rank k ld in
     record {
       slot = lk;

@@ -171,5 +171,5 @@ module _ {n m p root : ℕ} {ends rank from hold₀ load₀ hold load : List ℕ
         record {
           kept = kept-more (w .kept) step-kept;
           calm = rw loads-after step-calm;
-          falls = rw loads-after (omega (arith, step-excess, w .most, q .live, w .less));
+          less-excess = rw loads-after (omega (arith, step-excess, w .most, q .live, w .less));
         }

@@ -16,8 +16,8 @@ use Rattle.slots.specs.Slots.{mate, Room, Covers, Kept}
 use Rattle.slots.proofs.Choice.{eq-or-ne}
 use Rattle.slots.proofs.Mates.{mates}
 use Rattle.slots.proofs.Moves.{kept-none, kept-more, kept-room, kept-covers}
-use Rattle.flow.specs.Flow.{Busy}
-use Rattle.flow.specs.Search.{Tree, Searched, Pulled, Settled}
+use Rattle.flow.specs.Flow.{Has-units}
+use Rattle.flow.specs.Search.{Tree, Chain-found, Pulled, Settled}
 
 -- no module before `root` is loaded above p
 pub record Settling (n m p root : ℕ) (ends hold₀ load₀ hold load : List ℕ) : Type 0 where
@@ -37,9 +37,9 @@ settling-start {n} {m} {p} {ends} {hold} {load} r c = record {
 }
 
 -- a module that a search reached, and is not its root, has a pair with units
-reached-busy : {n m root : ℕ} {ends hold rank from : List ℕ} → ((top : ℕ) → Tree n m root top ends hold rank from) →
-    (v : ℕ) → v < n → 0 < getD rank v 0 → (v ≡ root → ⊥) → Busy m ends hold v
-reached-busy {n} {m} {root} {ends} {hold} {rank} {from} t v h up ne =
+visited-units : {n m root : ℕ} {ends hold rank from : List ℕ} → ((top : ℕ) → Tree n m root top ends hold rank from) →
+    (v : ℕ) → v < n → 0 < getD rank v 0 → (v ≡ root → ⊥) → Has-units m ends hold v
+visited-units {n} {m} {root} {ends} {hold} {rank} {from} t v h up ne =
     let tree = t (getD rank v 0) in
     let later : 1 < getD rank v 0 =
     ⊎-elim (λ (z : getD rank v 0 ≡ 1). absurd (ne (tree .one v h z))) (λ d. omega arith) (eq-or-ne (getD rank v 0) 1) in
@@ -68,7 +68,7 @@ module _ {n m p root : ℕ} {ends hold₀ load₀ hold load : List ℕ} (g : Set
   pub settled-good : {rank : List ℕ} → n ≤ root → Settled n m p ends hold₀ load₀ hold load rank true
   settled-good h = record { kept = g .kept; good = λ e v l. g .calm v (omega arith); bad = λ e. no (sym e) }
 
-  pub settled-bad : {rank from : List ℕ} {r : ℕ} → Searched n m p root ends hold load rank from r → r ≡ n → root < n → p < getD load root 0 →
+  pub settled-bad : {rank from : List ℕ} {r : ℕ} → Chain-found n m p root ends hold load rank from r → r ≡ n → root < n → p < getD load root 0 →
       Settled n m p ends hold₀ load₀ hold load rank false
   settled-bad s z l ov = record {
     kept = g .kept;
@@ -80,6 +80,6 @@ module _ {n m p root : ℕ} {ends hold₀ load₀ hold load : List ℕ} (g : Set
       over = ov;
       shut = s .shut z .0;
       full = s .shut z .1;
-      live = reached-busy (s .tree);
+      live = visited-units (s .tree);
     };
   }

@@ -2,7 +2,7 @@
 -- pair whose other end has drained. `rank` is 0 at modules that have drained or are outside the scope; the queue has those whose pairs are to be
 -- looked at.
 --   zeros                         how many numbers are 0
---   Level                         who stays at the start
+--   Drain-start                   who stays at the start
 --   Released, Drains              one module drains; any number do
 --   Drained                       who stays at the end
 -- Assumes nothing: these are definitions.
@@ -21,7 +21,7 @@ unfoldable pub zeros : (k : ℕ) → List ℕ → ℕ
 zeros k xs = total k (λ v. cond (eqb (getD xs v 0) 0) 1 0)
 
 -- at the start those of the scope that are loaded p or more stay; what is queued is free
-pub record Level (n p : ℕ) (scope load rank queue : List ℕ) (tail : ℕ) : Type 0 where
+pub record Drain-start (n p : ℕ) (scope load rank queue : List ℕ) (tail : ℕ) : Type 0 where
   pub ranks : (v : ℕ) → v < n → getD rank v 0 ≡ cond (is-in scope v && leb p (getD load v 0)) 1 0
   pub queued : (i : ℕ) → i < tail → getD queue i 0 < n
   pub count : tail ≤ zeros n rank

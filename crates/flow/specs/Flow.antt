@@ -2,7 +2,8 @@
 -- shows that no way of moving them does that. (A maximum flow, or a minimum cut.)
 --   Sub                every member of one set is in another
 --   Tight              a set that cannot get below p a module
---   Busy, Denser       a set that cannot get down to p a module: the cut
+--   Has-units          an end of a pair that has units
+--   Denser             a set that cannot get down to p a module: the cut
 --   Largest            the largest tight set inside a scope
 --   Flowed             what `flow` answers
 -- Assumes nothing: these are definitions.
@@ -24,7 +25,7 @@ abbrev pub Tight : (m p : ℕ) → (own ends hold t : List ℕ) → Type 0
 Tight m p own ends hold t = p * size t ≤ staying m own ends hold t
 
 -- module v is an end of a pair that has units
-pub record Busy (m : ℕ) (ends hold : List ℕ) (v : ℕ) : Type 0 where
+pub record Has-units (m : ℕ) (ends hold : List ℕ) (v : ℕ) : Type 0 where
   pub slot : ℕ
   pub low : slot < 2 * m
   pub end : getD ends slot 0 ≡ v
@@ -37,7 +38,7 @@ pub record Denser (n m p : ℕ) (own ends hold t : List ℕ) : Type 0 where
   pub some : 0 < size t
   pub more : p * size t < staying m own ends hold t
   -- so it lies in any scope outside of which modules have no own load and pairs no units
-  pub live : (v : ℕ) → is-in t v ≡ true → (0 < getD own v 0) ⊎ Busy m ends hold v
+  pub live : (v : ℕ) → is-in t v ≡ true → (0 < getD own v 0) ⊎ Has-units m ends hold v
 
 -- t is tight, and has every tight set inside the scope
 pub record Largest (n m p : ℕ) (own scope ends hold t : List ℕ) : Type 0 where

@@ -2,7 +2,7 @@
 --   leads, Closed, Exit        slots that hold units and lead out of a set
 --   Step, Tree                 how each module was reached (a search tree)
 --   Full                       every module of a set is loaded p or more
---   Reached, Searched          one module more; a search's answer
+--   Visited, Chain-found       one module more; a search's answer
 --   excess, Pulled             what lies above p; units moved back along a chain
 --   Stuck, Settled             a set that no unit can leave; the answer of all searches
 --   Marked                     a set as bytes
@@ -14,7 +14,7 @@ use Prim.Native.Nat.{ℕ, _+_, _*_, _-_, _≤_, _<_}
 use lib.Dec.{ltb, eqb}
 use lib.ListN.{length, getD, set}
 use Rattle.slots.specs.Slots.{mate, total, Kept}
-use Rattle.flow.specs.Flow.{Busy}
+use Rattle.flow.specs.Flow.{Has-units}
 
 -- a slot that holds units and leads out of the set: from a module of rank above 0 to one of rank 0
 unfoldable pub leads : (ends hold rank : List ℕ) → (s : ℕ) → Bool
@@ -32,7 +32,7 @@ pub record Exit (m : ℕ) (ends hold rank : List ℕ) (r : ℕ) : Type 0 where
   pub none : (s : ℕ) → s < r → leads ends hold rank s ≡ false
 
 -- the module that slot k leads to is the next of rank, at the end of the queue
-pub record Reached (ends : List ℕ) (k tail : ℕ) (rank from queue rank' from' queue' : List ℕ) (r : ℕ) : Type 0 where
+pub record Visited (ends : List ℕ) (k tail : ℕ) (rank from queue rank' from' queue' : List ℕ) (r : ℕ) : Type 0 where
   pub at : r ≡ getD ends (mate k) 0
   pub ranks : rank' ≡ set rank r (tail + 1)
   pub froms : from' ≡ set from r k
@@ -59,7 +59,7 @@ abbrev pub Full : (n p : ℕ) → (load rank : List ℕ) → Type 0
 Full n p load rank = (v : ℕ) → v < n → 0 < getD rank v 0 → p ≤ getD load v 0
 
 -- a search from the root: the module r is reached and loaded below p; or r is n, and the modules reached are closed and loaded p or more
-pub record Searched (n m p root : ℕ) (ends hold load rank from : List ℕ) (r : ℕ) : Type 0 where
+pub record Chain-found (n m p root : ℕ) (ends hold load rank from : List ℕ) (r : ℕ) : Type 0 where
   pub tree : (top : ℕ) → Tree n m root top ends hold rank from
   pub within : r ≤ n
   pub low : r < n → (0 < getD rank r 0) × (getD load r 0 < p)
@@ -75,7 +75,7 @@ excess k p load = total k (λ v. getD load v 0 - p)
 pub record Pulled (n m p : ℕ) (ends hold load hold' load' : List ℕ) : Type 0 where
   pub kept : Kept n m ends hold load hold' load'
   pub calm : (v : ℕ) → v < n → getD load v 0 ≤ p → getD load' v 0 ≤ p
-  pub falls : excess n p load' < excess n p load
+  pub less-excess : excess n p load' < excess n p load
 
 -- a closed set of modules loaded p or more, one of them, the root, above it; the others have pairs with units
 pub record Stuck (n m p : ℕ) (ends hold load rank : List ℕ) : Type 0 where
@@ -85,7 +85,7 @@ pub record Stuck (n m p : ℕ) (ends hold load rank : List ℕ) : Type 0 where
   pub over : p < getD load root 0
   pub shut : Closed m ends hold rank
   pub full : Full n p load rank
-  pub live : (v : ℕ) → v < n → 0 < getD rank v 0 → (v ≡ root → ⊥) → Busy m ends hold v
+  pub live : (v : ℕ) → v < n → 0 < getD rank v 0 → (v ≡ root → ⊥) → Has-units m ends hold v
 
 -- all searches: no load is above p, or a set is stuck
 pub record Settled (n m p : ℕ) (ends hold load hold' load' rank' : List ℕ) (r : Bool) : Type 0 where

@@ -1,8 +1,9 @@
 -- Degrees and joint weights by the words of the pairs.
 --   degree-ends                the degree among all modules: what the pairs weigh at a module
+--   adjacency-degrees          the degrees that `slots::adjacency` leaves
 --   joint-ways                 what joins two modules, by row and by chain
 -- Assumes nothing.
-use mathlib.Core.Path.{_≡_, refl, _∙_}
+use mathlib.Core.Path.{_≡_, refl, sym, _∙_}
 use mathlib.Core.Bool.{Bool, true, false, _&&_, _||_, cond}
 use mathlib.Core.List.{List}
 use Prim.Native.Nat.{ℕ, zero, suc, _+_, _*_, _<_}
@@ -14,14 +15,15 @@ use Rattle.theory.specs.Basics.{table}
 use Rattle.theory.specs.Lists.{Pair, is-list}
 use Rattle.theory.specs.Groups.{everyone}
 use Rattle.theory.specs.Leaving.{joins, degree-of, degree}
-use Rattle.theory.specs.Words.{word-pair, pairs-in, list-in}
+use Rattle.theory.specs.Words.{word-pair, pairs-in, list-in, Held-words}
 use Rattle.theory.proofs.Tests.{no}
 use Rattle.theory.proofs.Groups.{in-everyone}
 use Rattle.theory.proofs.Peeling.{joint}
 use Rattle.slots.specs.Slots.{total}
+use Rattle.slots.specs.Rows.{first-end, second-end, weight-at, Adjacency}
 use Rattle.slots.proofs.Totals.{total-ext, total-first, total-sum}
 use Rattle.slots.proofs.Words.{good-pair}
-use Rattle.peel.specs.Steps.{first-end, second-end, weight-at, pair-to, one-way, both-ways}
+use Rattle.peel.specs.Steps.{pair-to, one-way, both-ways, Degrees}
 
 -- ---- sums over pairs
 
@@ -112,3 +114,8 @@ module _ (n m : ℕ) (ends weights : List ℕ) (h : is-list (list-in n m ends we
       joint-total m (word-pair ends weights) u v
       ∙ total-ext m _ _ (joint-two u v)
       ∙ total-sum m (pair-to (first-end ends) (second-end ends) weights v u) (pair-to (second-end ends) (first-end ends) weights v u)
+
+pub adjacency-degrees : {n m : ℕ} {ends weights rows first next degrees : List ℕ} → Held-words n m ends weights →
+    Adjacency n m ends weights rows first next degrees → Degrees n (list-in n m ends weights) degrees
+unfolding Degrees
+adjacency-degrees {n} {m} {ends} {weights} h d v l = d .degrees-are v l ∙ sym (degree-ends n m ends weights (h .listed) v)

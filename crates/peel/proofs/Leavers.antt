@@ -28,8 +28,8 @@ use Rattle.theory.proofs.Tables.{length-table, table-at}
 use Rattle.theory.proofs.Groups.{Sub, everyone-bits, bits-group, size-everyone, size-leave, good-leave, leaver-gone, none-comes}
 use Rattle.theory.proofs.Leaving.{leaver-fewest, leaving-steps, leaving-everyone}
 use Rattle.theory.proofs.Peeling.{peeled}
-use Rattle.peel.specs.Places.{place-in}
-use Rattle.peel.specs.Steps.{entry}
+use Rattle.peel.specs.Places.{index-of}
+use Rattle.slots.specs.Buffers.{entry}
 
 module _ (g : Pairs) where
   pub leaver-at : (i : ℕ) → i < g .n → leaver g (remainder g i) ≡ some (getD (leaving g) i 0)
@@ -108,24 +108,24 @@ module _ (g : Pairs) where
       (λ i l. table-at (g .n) (entry (leaving g)) i 0 (omega (arith, length-table (g .n) (entry (leaving g)))))
 
 -- the place of an entry that stands nowhere before
-place-first : (xs : List ℕ) (i : ℕ) → i < length xs → ((j : ℕ) → j < i → getD xs j 0 ≡ getD xs i 0 → ⊥) → place-in xs (getD xs i 0) ≡ i
-unfolding place-in
+place-first : (xs : List ℕ) (i : ℕ) → i < length xs → ((j : ℕ) → j < i → getD xs j 0 ≡ getD xs i 0 → ⊥) → index-of xs (getD xs i 0) ≡ i
+unfolding index-of
 place-first [] i h apart = absurd (omega arith)
 place-first (x ∷ xs) zero h apart = rw (eq-eqb x x refl)
 place-first (x ∷ xs) (suc i) h apart =
     rw (ne-eqb x (getD xs i 0) (apart 0 (omega arith)))
     (ap suc (place-first xs i (omega arith) (λ j l. apart (suc j) (omega arith))))
 
-pub place-of-leaver : (g : Pairs) (i : ℕ) → i < g .n → place-in (leaving g) (getD (leaving g) i 0) ≡ i
+pub place-of-leaver : (g : Pairs) (i : ℕ) → i < g .n → index-of (leaving g) (getD (leaving g) i 0) ≡ i
 unfolding Leaving-steps
 place-of-leaver g i l = place-first (leaving g) i (omega (arith, leaving-steps g .0)) (λ j k. later-apart g i j k l)
 
 -- a module is in a remainder exactly if it leaves later
-pub remainder-by-place : (g : Pairs) (i v : ℕ) → v < g .n → is-in (remainder g i) v ≡ leb i (place-in (leaving g) v)
+pub remainder-by-place : (g : Pairs) (i v : ℕ) → v < g .n → is-in (remainder g i) v ≡ leb i (index-of (leaving g) v)
 unfolding Leaving-everyone
 remainder-by-place g i v h =
     let e = leaving-everyone g v h in
-    let at : place-in (leaving g) v ≡ e .0 = rw (e .2) at (place-of-leaver g (e .0) (e .1)) in
+    let at : index-of (leaving g) v ≡ e .0 = rw (e .2) at (place-of-leaver g (e .0) (e .1)) in
     rw at (go e (leb i (e .0)) refl)
   where
     go : (e : (j : ℕ) × (j < g .n) × (getD (leaving g) j 0 ≡ v) × (is-in (remainder g j) v ≡ true)) → (t : Bool) → leb i (e .0) ≡ t →

@@ -2,9 +2,6 @@
 pub mod Degrees
 pub mod Leavers
 pub mod Ranks
-pub mod Updates
-pub mod Rows
-pub mod Laying
 pub mod Walks
 pub mod Orders
 pub mod Numbers

@@ -11,10 +11,11 @@ use lib.ListN.{length, getD, set, length-set}
 use lib.Seq.{getD-set-same, getD-set-other}
 use borrow.Author.Tests.{eqb-true, eqb-false}
 use Rattle.theory.specs.Basics.{greatest}
-use Rattle.peel.specs.Steps.{entry, Numberable, Numbered}
+use Rattle.slots.specs.Buffers.{entry}
+use Rattle.peel.specs.Steps.{Numberable, Numbered}
 
-pub numbered-none : (n : ℕ) (order falls cores place : List ℕ) → Numbered 0 n order falls cores place cores place
-numbered-none n order falls cores place =
+pub numbered-none : (n : ℕ) (order finals cores place : List ℕ) → Numbered 0 n order finals cores place cores place
+numbered-none n order finals cores place =
     record {
       cores-long = refl;
       place-long = refl;
@@ -36,10 +37,10 @@ write-next n i order xs f x h room apart e all j l = go (eqb j i) refl
         let ne : j ≡ i → ⊥ = eqb-false j i w in
         getD-set-other xs (getD order i 0) (getD order j 0) x 0 (λ y. ne (apart j (omega arith) y)) ∙ all j (omega arith)
 
-module _ (n : ℕ) (order falls cores place : List ℕ) (b : Numberable n order falls cores place) (i : ℕ) (h : i < n)
-    (cores′ place′ : List ℕ) (d : Numbered i n order falls cores place cores′ place′) where
-  pub numbered-next : (v top : ℕ) → v ≡ getD order i 0 → top ≡ greatest (suc i) (entry falls) →
-      Numbered (i + 1) n order falls cores place (set cores′ v top) (set place′ v i)
+module _ (n : ℕ) (order finals cores place : List ℕ) (b : Numberable n order finals cores place) (i : ℕ) (h : i < n)
+    (cores′ place′ : List ℕ) (d : Numbered i n order finals cores place cores′ place′) where
+  pub numbered-next : (v top : ℕ) → v ≡ getD order i 0 → top ≡ greatest (suc i) (entry finals) →
+      Numbered (i + 1) n order finals cores place (set cores′ v top) (set place′ v i)
   numbered-next v top at e =
       let low : getD order i 0 < n = b .below i h in
       rw at
@@ -47,7 +48,7 @@ module _ (n : ℕ) (order falls cores place : List ℕ) (b : Numberable n order 
         cores-long = length-set cores′ (getD order i 0) top ∙ d .cores-long;
         place-long = length-set place′ (getD order i 0) i ∙ d .place-long;
         cores-are =
-            write-next n i order cores′ (λ j. greatest (suc j) (entry falls)) top h (omega (arith, d .cores-long, b .cores-long))
+            write-next n i order cores′ (λ j. greatest (suc j) (entry finals)) top h (omega (arith, d .cores-long, b .cores-long))
             (λ j l. b .apart j i l h) e (d .cores-are);
         places-are =
             write-next n i order place′ (λ j. j) i h (omega (arith, d .place-long, b .place-long)) (λ j l. b .apart j i l h) refl

@@ -17,7 +17,7 @@ use Rattle.theory.specs.Promise.{Core-exact, Outside-first}
 use Rattle.theory.proofs.Tests.{no}
 use Rattle.theory.proofs.Tables.{length-table, table-at}
 use Rattle.theory.proofs.Promises.{core-exact, outside-first}
-use Rattle.peel.specs.Places.{place-in, places}
+use Rattle.peel.specs.Places.{index-of, places}
 use Rattle.peel.specs.Remainders.{densest-remainder}
 use Rattle.peel.specs.Promise.{Peel-promised, Place-before}
 use Rattle.peel.proofs.Leavers.{remainder-size, remainder-by-place}
@@ -26,16 +26,16 @@ use Rattle.peel.proofs.Remainders.{densest-le, densest-best, densest-la
 -- ---- places
 
 pub place-before : Place-before
-unfolding Place-before before place-in
+unfolding Place-before before index-of
 place-before [] a b = refl
 place-before (x ∷ xs) a b = go (eqb x a) (eqb x b) (place-before xs a b)
   where
-    go : (s t : Bool) → before xs a b ≡ ltb (place-in xs a) (place-in xs b) →
-        cond t false (cond s true (before xs a b)) ≡ ltb (cond s 0 (suc (place-in xs a))) (cond t 0 (suc (place-in xs b)))
+    go : (s t : Bool) → before xs a b ≡ ltb (index-of xs a) (index-of xs b) →
+        cond t false (cond s true (before xs a b)) ≡ ltb (cond s 0 (suc (index-of xs a))) (cond t 0 (suc (index-of xs b)))
     go true true ih = refl
-    go true false ih = sym (lt-ltb 0 (suc (place-in xs b)) (omega arith))
-    go false true ih = sym (le-ltb (suc (place-in xs a)) 0 (omega arith))
-    go false false ih = ih ∙ sym (leb·suc-suc (suc (place-in xs a)) (place-in xs b))
+    go true false ih = sym (lt-ltb 0 (suc (index-of xs b)) (omega arith))
+    go false true ih = sym (le-ltb (suc (index-of xs a)) 0 (omega arith))
+    go false false ih = ih ∙ sym (leb·suc-suc (suc (index-of xs a)) (index-of xs b))
 
 -- what stands past an order changes nothing in it
 before-append : (xs ys : List ℕ) (a b : ℕ) → before xs a b ≡ true → before (xs ++ ys) a b ≡ true
@@ -78,8 +78,8 @@ peel-promised g least order cores place order′ cores′ place′ r h some few 
     core-at : (m : ℕ) → m < g .n → getD cores′ m 0 ≡ core-number g m
     core-at = front-at (g .n) (core-number g) cores′ (drop (g .n) cores) (p .cores-are)
 
-    place-at : (m : ℕ) → m < g .n → getD place′ m 0 ≡ place-in (leaving g) m
-    place-at = front-at (g .n) (place-in (leaving g)) place′ (drop (g .n) place) (p .places-are)
+    place-at : (m : ℕ) → m < g .n → getD place′ m 0 ≡ index-of (leaving g) m
+    place-at = front-at (g .n) (index-of (leaving g)) place′ (drop (g .n) place) (p .places-are)
 
     low : r .at ≤ g .n - least
     low = omega (arith, p .at-is, densest-le g (g .n - least))

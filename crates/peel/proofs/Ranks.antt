@@ -1,7 +1,7 @@
 -- One turn: the first of the ranking is the leaver, and what the ranking holds then.
 --   ranked-buildable, ranked-built    all modules, each with its degree
---   ranked-someone, ranked-first, ranked-degree    the first of the ranking is the module that the leaving order has there
---   ranked-loosable, ranked-next      it has left, and the others have fallen
+--   ranked-some, ranked-first, ranked-degree    the first of the ranking is the module that the leaving order has there
+--   ranked-lowerable, ranked-next     it has left, and the others carry less
 -- Assumes nothing.
 use mathlib.Core.Path.{_≡_, refl, sym, ap, _∙_}
 use mathlib.Core.Bool.{Bool, true, false, _&&_, not}
@@ -25,9 +25,9 @@ use Rattle.theory.proofs.Peeling.{degree-leave}
 use Rattle.theory.proofs.Cores.{inside-leave}
 use Rattle.slots.proofs.Words.{few-modules}
 use Rattle.ranking.specs.declared.Leaver.{Leaver}
-use Rattle.ranking.specs.Ranking.{has, carries, Someone, Buildable, Built, Taken}
+use Rattle.ranking.specs.Ranking.{has, carries, Some-present, Buildable, Built, Taken}
 use Rattle.ranking.proofs.Order.{has-below, key-first}
-use Rattle.peel.specs.Steps.{both-ways, Degrees, Ranked, Loosable, Loosened}
+use Rattle.peel.specs.Steps.{both-ways, Degrees, Ranking-of, Lowerable-by, Lowered-by}
 use Rattle.peel.proofs.Degrees.{joint-ways}
 use Rattle.peel.proofs.Remainders.{all-light}
 
@@ -54,7 +54,7 @@ module _ (n m : ℕ) (ends weights : List ℕ) (h : Held-words n m ends weights)
           );
     }
 
-    pub ranked-built : (work : List ℕ) → Built n degrees work → Ranked g (everyone g) work
+    pub ranked-built : (work : List ℕ) → Built n degrees work → Ranking-of g (everyone g) work
     unfolding Degrees list-in
     ranked-built work b =
         record {
@@ -71,7 +71,7 @@ module _ (n m : ℕ) (ends weights : List ℕ) (h : Held-words n m ends weights)
 
   -- ---- a turn
 
-  module _ (s work : List ℕ) (v : ℕ) (full : length s ≡ n) (r : Ranked g s work) (f : leaver g s ≡ some v) where
+  module _ (s work : List ℕ) (v : ℕ) (full : length s ≡ n) (r : Ranking-of g s work) (f : leaver g s ≡ some v) where
     there : is-in s v ≡ true
     unfolding Leaver-fewest
     there = leaver-fewest g s v f .1
@@ -79,9 +79,9 @@ module _ (n m : ℕ) (ends weights : List ℕ) (h : Held-words n m ends weights)
     ranked-there : has work v ≡ true
     ranked-there = r .present v ∙ there
 
-    pub ranked-someone : Someone work
-    unfolding Someone
-    ranked-someone = (v, ranked-there)
+    pub ranked-some : Some-present work
+    unfolding Some-present
+    ranked-some = (v, ranked-there)
 
     -- when v leaves, the degree of u falls by what joins them
     fallen : (u : ℕ) → degree g (set s v 0) u + both-ways ends weights v m u ≡ degree g s u
@@ -129,8 +129,8 @@ module _ (n m : ℕ) (ends weights : List ℕ) (h : Held-words n m ends weights)
           let was : has work u ≡ true = (simp tests at (sym (t .present u) ∙ e)) .0 in
           t .carried u e ∙ r .carried u was ∙ sym (fallen u)
 
-      pub ranked-loosable : Loosable n m (l .number) (both-ways ends weights (l .number) m) ends weights new
-      ranked-loosable =
+      pub ranked-lowerable : Lowerable-by n m (l .number) (both-ways ends weights (l .number) m) ends weights new
+      ranked-lowerable =
           record {
             held = h;
             ranking = t .ranking;
@@ -138,7 +138,7 @@ module _ (n m : ℕ) (ends weights : List ℕ) (h : Held-words n m ends weights)
             enough = λ u e. let at : l .number ≡ v = ranked-first in rw at (omega (arith, left-carries u e));
           }
 
-      pub ranked-next : (after : List ℕ) → Loosened (both-ways ends weights (l .number) m) new after → Ranked g (set s v 0) after
+      pub ranked-next : (after : List ℕ) → Lowered-by (both-ways ends weights (l .number) m) new after → Ranking-of g (set s v 0) after
       ranked-next after o =
           record {
             ranking = o .ranking;

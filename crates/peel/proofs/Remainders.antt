@@ -1,10 +1,10 @@
--- The densest remainder, by what falls at each turn and by the list itself.
+-- The densest remainder, by the final degrees and by the list itself.
 --   cross-fits                          a cross product fits 32 bits
 --   remaining-start, remaining-next, remaining-fits, remaining-le    what is left inside, turn by turn
 --   best-start, best-next, best-light   the densest so far
---   inside-falls, falls-all, remaining-inside    what is left inside is the remainder's inside count
+--   inside-finals, finals-all, remaining-inside    what is left inside is the remainder's inside count
 --   all-light                           it is at most 4,096,000
---   picks-densest                       the densest by the falls is the densest remainder
+--   denser-by-is, densest-by-is         the densest by the final degrees is the densest remainder
 --   densest-best, densest-larger        no remainder of as many modules is denser, and none as dense is larger
 -- Assumes nothing.
 use mathlib.Core.Path.{_≡_, refl, sym, _∙_}
@@ -32,57 +32,58 @@ use Rattle.slots.proofs.Held.{cond-most}
 use Rattle.slots.proofs.Words.{few-pairs, good-pair, inside-total}
 use Rattle.peel.specs.declared.Remainder.{Remainder}
 use Rattle.peel.specs.Remainders.{denser-of, densest-upto}
-use Rattle.peel.specs.Steps.{entry, remaining, pick, picks, Remainder-at, denser}
+use Rattle.slots.specs.Buffers.{entry}
+use Rattle.peel.specs.Steps.{remaining, denser-by, densest-by, Remainder-at, denser}
 use Rattle.peel.proofs.Leavers.{leaver-in, remainder-size, remainder-group}
 
 pub cross-fits : (p q : ℕ) → p ≤ 4096000 → q ≤ 512 → p * q ≤ 2097152000
 cross-fits p q h k = omega (arith, mul-le-mul-right q h)
 
--- ---- by the falls
+-- ---- by the final degrees
 
-module _ (n : ℕ) (falls : List ℕ) where
-  pub remaining-fits : (i : ℕ) → i < n → getD falls i 0 ≤ remaining n falls i
+module _ (n : ℕ) (finals : List ℕ) where
+  pub remaining-fits : (i : ℕ) → i < n → getD finals i 0 ≤ remaining n finals i
   unfolding remaining entry
-  remaining-fits i l = omega (arith, total-next i (entry falls), total-upto (i + 1) n (entry falls) (omega arith))
+  remaining-fits i l = omega (arith, total-next i (entry finals), total-upto (i + 1) n (entry finals) (omega arith))
 
-  pub remaining-next : (i : ℕ) → remaining n falls (i + 1) ≡ remaining n falls i - getD falls i 0
+  pub remaining-next : (i : ℕ) → remaining n finals (i + 1) ≡ remaining n finals i - getD finals i 0
   unfolding remaining entry
-  remaining-next i = omega (arith, total-next i (entry falls))
+  remaining-next i = omega (arith, total-next i (entry finals))
 
-  pub remaining-le : (i : ℕ) → remaining n falls i ≤ total n (entry falls)
+  pub remaining-le : (i : ℕ) → remaining n finals i ≤ total n (entry finals)
   unfolding remaining
   remaining-le i = omega arith
 
-  pub remaining-start : (x : ℕ) → x ≡ total n (entry falls) → x ≡ remaining n falls 0
+  pub remaining-start : (x : ℕ) → x ≡ total n (entry finals) → x ≡ remaining n finals 0
   unfolding remaining total
   remaining-start x e = omega arith
 
   -- what is compared fits
-  pub best-light : total n (entry falls) ≤ 4096000 → n ≤ 512 → (i : ℕ) (r : Remainder) → Remainder-at n falls i r → (r .p ≤ 4096000) × (r .q ≤ 512)
+  pub best-light : total n (entry finals) ≤ 4096000 → n ≤ 512 → (i : ℕ) (r : Remainder) → Remainder-at n finals i r → (r .p ≤ 4096000) × (r .q ≤ 512)
   best-light h k i r l = (omega (arith, l .p-is, remaining-le i), omega (arith, l .q-is))
 
-  pub best-start : (r : Remainder) → r .p ≡ total n (entry falls) → r .q ≡ n → r .at ≡ 0 → Remainder-at n falls (picks n (remaining n falls) 0) r
-  unfolding picks remaining total
+  pub best-start : (r : Remainder) → r .p ≡ total n (entry finals) → r .q ≡ n → r .at ≡ 0 → Remainder-at n finals (densest-by n (remaining n finals) 0) r
+  unfolding densest-by remaining total
   best-start r p q a = record { at-is = a; p-is = omega arith; q-is = omega arith }
 
-  either : (t : Bool) (i j : ℕ) (a b : Remainder) → Remainder-at n falls i a → Remainder-at n falls j b →
-      Remainder-at n falls (cond t i j) (cond t a b)
+  either : (t : Bool) (i j : ℕ) (a b : Remainder) → Remainder-at n finals i a → Remainder-at n finals j b →
+      Remainder-at n finals (cond t i j) (cond t a b)
   either true i j a b l k = l
   either false i j a b l k = k
 
-  best-pick : (i j : ℕ) (a b : Remainder) → Remainder-at n falls i a → Remainder-at n falls j b →
-      Remainder-at n falls (pick n (remaining n falls) i j) (denser a b)
-  unfolding pick denser
-  best-pick i j a b l k =
-      let same : leb (b .p * a .q) (a .p * b .q) ≡ leb (remaining n falls j * (n - i)) (remaining n falls i * (n - j)) =
+  best-of-two : (i j : ℕ) (a b : Remainder) → Remainder-at n finals i a → Remainder-at n finals j b →
+      Remainder-at n finals (denser-by n (remaining n finals) i j) (denser a b)
+  unfolding denser-by denser
+  best-of-two i j a b l k =
+      let same : leb (b .p * a .q) (a .p * b .q) ≡ leb (remaining n finals j * (n - i)) (remaining n finals i * (n - j)) =
       cc (l .p-is, l .q-is, k .p-is, k .q-is) in
       rw (← same) (either (leb (b .p * a .q) (a .p * b .q)) i j a b l k)
 
   -- the next one, or still the densest so far
-  pub best-next : (i : ℕ) (a b : Remainder) → Remainder-at n falls (picks n (remaining n falls) i) a → Remainder-at n falls (i + 1) b →
-      Remainder-at n falls (picks n (remaining n falls) (i + 1)) (denser a b)
-  unfolding picks
-  best-next i a b l k = rw add-one (best-pick (picks n (remaining n falls) i) (suc i) a b l (rw add-one at k))
+  pub best-next : (i : ℕ) (a b : Remainder) → Remainder-at n finals (densest-by n (remaining n finals) i) a → Remainder-at n finals (i + 1) b →
+      Remainder-at n finals (densest-by n (remaining n finals) (i + 1)) (denser a b)
+  unfolding densest-by
+  best-next i a b l k = rw add-one (best-of-two (densest-by n (remaining n finals) i) (suc i) a b l (rw add-one at k))
 
 -- the densest of the first i is one of them
 pub densest-le : (g : Pairs) (i : ℕ) → densest-upto g i ≤ i
@@ -110,13 +111,13 @@ module _ (n m : ℕ) (ends weights : List ℕ) (h : is-list (list-in n m ends we
 
 -- each leaver takes its degree out
 module _ (g : Pairs) (h : is-list g ≡ true) where
-  pub inside-falls : (i : ℕ) → i ≤ g .n → inside g (remainder g i) + total i (leaving-degree g) ≡ inside g (everyone g)
+  pub inside-finals : (i : ℕ) → i ≤ g .n → inside g (remainder g i) + total i (leaving-degree g) ≡ inside g (everyone g)
   unfolding remainder total inside leaving-degree degree
-  inside-falls zero l = omega arith
-  inside-falls (suc i) l =
+  inside-finals zero l = omega arith
+  inside-finals (suc i) l =
       omega (
         arith,
-        inside-falls i (omega arith),
+        inside-finals i (omega arith),
         inside-leave (g .n) (g .pairs) (remainder g i) (getD (leaving g) i 0) (proper g h) (leaver-in g i l),
       )
 
@@ -124,30 +125,30 @@ module _ (g : Pairs) (h : is-list g ≡ true) where
   unfolding inside
   inside-end = inside-none (g .pairs) (remainder g (g .n)) (omega (arith, remainder-size g (g .n) (omega arith)))
 
-  module _ (falls : List ℕ) (f : (i : ℕ) → i < g .n → getD falls i 0 ≡ leaving-degree g i) where
-    falls-first : (i : ℕ) → i ≤ g .n → total i (entry falls) ≡ total i (leaving-degree g)
+  module _ (finals : List ℕ) (f : (i : ℕ) → i < g .n → getD finals i 0 ≡ leaving-degree g i) where
+    finals-first : (i : ℕ) → i ≤ g .n → total i (entry finals) ≡ total i (leaving-degree g)
     unfolding entry
-    falls-first i l = total-ext i (entry falls) (leaving-degree g) (λ j k. f j (omega arith))
+    finals-first i l = total-ext i (entry finals) (leaving-degree g) (λ j k. f j (omega arith))
 
-    pub falls-all : total (g .n) (entry falls) ≡ inside g (everyone g)
-    falls-all = omega (arith, falls-first (g .n) (omega arith), inside-falls (g .n) (omega arith), inside-end)
+    pub finals-all : total (g .n) (entry finals) ≡ inside g (everyone g)
+    finals-all = omega (arith, finals-first (g .n) (omega arith), inside-finals (g .n) (omega arith), inside-end)
 
-    pub remaining-inside : (i : ℕ) → i ≤ g .n → remaining (g .n) falls i ≡ inside g (remainder g i)
+    pub remaining-inside : (i : ℕ) → i ≤ g .n → remaining (g .n) finals i ≡ inside g (remainder g i)
     unfolding remaining
-    remaining-inside i l = omega (arith, falls-all, falls-first i l, inside-falls i l)
+    remaining-inside i l = omega (arith, finals-all, finals-first i l, inside-finals i l)
 
-    pub pick-denser : (i j : ℕ) → i ≤ g .n → j ≤ g .n → pick (g .n) (remaining (g .n) falls) i j ≡ denser-of g i j
-    unfolding pick denser-of at-most
-    pick-denser i j l k =
+    pub denser-by-is : (i j : ℕ) → i ≤ g .n → j ≤ g .n → denser-by (g .n) (remaining (g .n) finals) i j ≡ denser-of g i j
+    unfolding denser-by denser-of at-most
+    denser-by-is i j l k =
         let si : g .n - i ≡ size (remainder g i) = omega (arith, remainder-size g i l) in
         let sj : g .n - j ≡ size (remainder g j) = omega (arith, remainder-size g j k) in
         rw (remaining-inside i l, remaining-inside j k, si, sj)
 
-    pub picks-densest : (i : ℕ) → i ≤ g .n → picks (g .n) (remaining (g .n) falls) i ≡ densest-upto g i
-    unfolding picks densest-upto
-    picks-densest zero l = refl
-    picks-densest (suc i) l =
-        rw (picks-densest i (omega arith)) (pick-denser (densest-upto g i) (suc i) (omega (arith, densest-le g i)) l)
+    pub densest-by-is : (i : ℕ) → i ≤ g .n → densest-by (g .n) (remaining (g .n) finals) i ≡ densest-upto g i
+    unfolding densest-by densest-upto
+    densest-by-is zero l = refl
+    densest-by-is (suc i) l =
+        rw (densest-by-is i (omega arith)) (denser-by-is (densest-upto g i) (suc i) (omega (arith, densest-le g i)) l)
 
 -- ---- the densest of them
 

@@ -1,5 +1,5 @@
 -- The places of the leaving order.
---   place-in    the place at which a module stands in an order
+--   index-of    the place at which a module stands in an order
 --   places      the place of each module in the leaving order
 -- Assumes nothing: these are definitions.
 use mathlib.Core.Bool.{cond}
@@ -11,10 +11,10 @@ use Rattle.theory.specs.Lists.{Pairs}
 use Rattle.theory.specs.Leaving.{leaving}
 
 -- the place at which m stands, counted from 0; the order's length where it stands nowhere
-unfoldable pub place-in : List ℕ → (m : ℕ) → ℕ
-place-in [] m = 0
-place-in (x ∷ xs) m = cond (eqb x m) 0 (suc (place-in xs m))
+unfoldable pub index-of : List ℕ → (m : ℕ) → ℕ
+index-of [] m = 0
+index-of (x ∷ xs) m = cond (eqb x m) 0 (suc (index-of xs m))
 
 -- who leaves before whom: the module at the lower place (the inverse of the leaving order)
 unfoldable pub places : Pairs → List ℕ
-places g = table (g .n) (place-in (leaving g))
+places g = table (g .n) (index-of (leaving g))

@@ -15,7 +15,7 @@ use Rattle.theory.specs.Leaving.{leaving, remainder, before}
 use Rattle.theory.specs.Cores.{core}
 use Rattle.theory.specs.Promise.{Largest-order}
 use Rattle.peel.specs.declared.Remainder.{Remainder}
-use Rattle.peel.specs.Places.{place-in}
+use Rattle.peel.specs.Places.{index-of}
 use Rattle.peel.specs.Peel.{Peels}
 
 -- of the buffers and the remainder that one call leaves
@@ -44,4 +44,4 @@ Peel-promised =
 
 -- in every order: whoever stands before another has the lower place
 unfoldable pub Place-before : Type 0
-Place-before = (order : List ℕ) (a b : ℕ) → before order a b ≡ ltb (place-in order a) (place-in order b)
+Place-before = (order : List ℕ) (a b : ℕ) → before order a b ≡ ltb (index-of order a) (index-of order b)

@@ -1,17 +1,13 @@
 -- What the functions under `peel` take and leave; only this crate cites it.
---   entry, Written           a buffer as a function; its first entries are written, the others as they were
---   first-end, second-end    the ends of a pair
---   weight-at                what modules carry at first, by pairs
---   Rows, Chains             the ways to a module's pairs: those whose first end it is, and those whose second end it is
---   Blank, Laid              before and after these and the degrees are laid out
---   Row-at                   a place in a module's row
---   by-row, by-chain, both-ways    what joins two modules, by these ways
---   Degrees, Ranked          degrees at first; the ranking holds the modules present, each with its degree
---   Loosable, Loosened       before and after the pairs of a leaver are taken from the others
---   Turned                   the leaving order and the degrees at leaving
---   Numberable, Numbered     core numbers and places, from those
---   remaining, pick, picks   remainders by the degrees at leaving, and the densest of them
---   Pickable, Remainder-at, denser    the same, as it is returned
+--   by-row, by-chain, both-ways    what joins two modules, along a module's row and its chain
+--   Degrees, Ranking-of            degrees at first; the ranking holds the modules present, each with its degree
+--   Lowerable-by, Lowered-by       before and after the pairs of a leaver are taken from its neighbours
+--   Leavers-written                the leaving order and the final degrees: those at leaving
+--   Numberable, Numbered           core numbers and places, from those
+--   remaining                      what is left inside, by the final degrees
+--   denser-by, densest-by          of remainders the denser one, and the densest of the first
+--   Comparable                     final degrees by which remainders can be compared
+--   Remainder-at, denser           a remainder as it is returned
 -- Assumes nothing: these are definitions.
 use mathlib.Core.Path.{_≡_}
 use mathlib.Core.Bool.{true, _&&_, cond}
@@ -25,67 +21,12 @@ use Rattle.theory.specs.Groups.{is-in, everyone}
 use Rattle.theory.specs.Leaving.{degree, leaving, leaving-degree}
 use Rattle.theory.specs.Words.{Held-words}
 use Rattle.slots.specs.Slots.{total}
-use Rattle.slots.specs.Links.{Lasts, Linked}
+use Rattle.slots.specs.Rows.{first-end, second-end}
+use Rattle.slots.specs.Buffers.{entry, Written-front}
 use Rattle.ranking.specs.Ranking.{Ranking, has, carries}
 use Rattle.peel.specs.declared.Remainder.{Remainder}
 
--- entry i of a buffer, as a function
-unfoldable pub entry : List ℕ → (i : ℕ) → ℕ
-entry xs i = getD xs i 0
-
--- the first k entries are f 0, .., f (k − 1), and the others as they were
-pub record Written (k : ℕ) (f : ℕ → ℕ) (old new : List ℕ) : Type 0 where
-  pub long : length new ≡ length old
-  pub front : (i : ℕ) → i < k → getD new i 0 ≡ f i
-  pub rest : (i : ℕ) → k ≤ i → getD new i 0 ≡ getD old i 0
-
--- ---- pairs, by their ends
-
--- the first and the second end of pair j
-unfoldable pub first-end : (ends : List ℕ) → (j : ℕ) → ℕ
-first-end es j = getD es (2 * j) 0
-
-unfoldable pub second-end : (ends : List ℕ) → (j : ℕ) → ℕ
-second-end es j = getD es (2 * j + 1) 0
-
--- what the first k pairs weigh at v
-unfoldable pub weight-at : (ends weights : List ℕ) → (k v : ℕ) → ℕ
-weight-at es ws k v =
-    total k (λ j. cond (eqb (first-end es j) v) (getD ws j 0) 0 + cond (eqb (second-end es j) v) (getD ws j 0) 0)
-
--- where the row of each module ends: the pairs whose first end it is stand side by side, as the list rises
-pub record Rows (n k : ℕ) (ends rows : List ℕ) : Type 0 where
-  pub lasts : Lasts n k (first-end ends) rows
-  pub long : n ≤ length rows
-
--- the chain of each module: the pairs whose second end it is, from the last one back
-pub record Chains (n k : ℕ) (ends first next : List ℕ) : Type 0 where
-  pub linked : Linked n k (second-end ends) first next
-  pub first-long : n ≤ length first
-  pub next-long : k ≤ length next
-
--- buffers that are long enough; rows, first and degrees are 0, and what `next` holds is free
-pub record Blank (n m : ℕ) (rows first next degrees : List ℕ) : Type 0 where
-  pub rows-long : n ≤ length rows
-  pub first-long : n ≤ length first
-  pub next-long : m ≤ length next
-  pub degrees-long : n ≤ length degrees
-  pub rows-none : (v : ℕ) → v < n → getD rows v 0 ≡ 0
-  pub first-none : (v : ℕ) → v < n → getD first v 0 ≡ 0
-  pub degrees-none : (v : ℕ) → v < n → getD degrees v 0 ≡ 0
-
--- the first k pairs are in them
-pub record Laid (n k : ℕ) (ends weights rows first next degrees : List ℕ) : Type 0 where
-  pub rows-are : Rows n k ends rows
-  pub chains-are : Chains n k ends first next
-  pub degrees-are : (v : ℕ) → v < n → getD degrees v 0 ≡ weight-at ends weights k v
-
--- pair k is in the row of v, and up to there first ends do not fall
-pub record Row-at (k v : ℕ) (ends : List ℕ) : Type 0 where
-  pub few : k < 4096
-  pub long : 2 * k < length ends
-  pub here : first-end ends k ≡ v
-  pub rises : (i j : ℕ) → i ≤ j → j ≤ k → first-end ends i ≤ first-end ends j
+-- ---- pairs, along rows and chains
 
 -- what pair j counts, where its end `from` is v and its end `to` is u
 unfoldable pub pair-to : (from to : ℕ → ℕ) → (weights : List ℕ) → (v u j : ℕ) → ℕ
@@ -112,77 +53,77 @@ unfoldable pub Degrees : (n : ℕ) → Pairs → (degrees : List ℕ) → Type 0
 Degrees n g degrees = (v : ℕ) → v < n → getD degrees v 0 ≡ degree g (everyone g) v
 
 -- the ranking holds exactly the modules of s, each with its degree among them
-pub record Ranked (g : Pairs) (s work : List ℕ) : Type 0 where
+pub record Ranking-of (g : Pairs) (s work : List ℕ) : Type 0 where
   pub ranking : Ranking work
   pub present : (u : ℕ) → has work u ≡ is-in s u
   pub carried : (u : ℕ) → has work u ≡ true → carries work u ≡ degree g s u
 
 -- whoever is present carries what is to be taken from it for v's pairs
-pub record Loosable (n m v : ℕ) (f : ℕ → ℕ) (ends weights work : List ℕ) : Type 0 where
+pub record Lowerable-by (n m v : ℕ) (f : ℕ → ℕ) (ends weights work : List ℕ) : Type 0 where
   pub held : Held-words n m ends weights
   pub ranking : Ranking work
   pub below : v < n
   pub enough : (u : ℕ) → has work u ≡ true → f u ≤ carries work u
 
 -- that is taken from it
-pub record Loosened (f : ℕ → ℕ) (old new : List ℕ) : Type 0 where
+pub record Lowered-by (f : ℕ → ℕ) (old new : List ℕ) : Type 0 where
   pub ranking : Ranking new
   pub present : (u : ℕ) → has new u ≡ has old u
   pub carried : (u : ℕ) → has old u ≡ true → carries new u + f u ≡ carries old u
 
--- the first i places of the order, and the degrees at leaving
-pub record Turned (g : Pairs) (i : ℕ) (order falls order′ falls′ : List ℕ) : Type 0 where
-  pub order-is : Written i (entry (leaving g)) order order′
-  pub falls-are : Written i (leaving-degree g) falls falls′
+-- the first i places of the order, and the final degrees: those at leaving, in that order
+pub record Leavers-written (g : Pairs) (i : ℕ) (order finals order′ finals′ : List ℕ) : Type 0 where
+  pub order-is : Written-front i (entry (leaving g)) order order′
+  pub finals-are : Written-front i (leaving-degree g) finals finals′
 
 -- ---- core numbers and places
 
 -- an order of n different modules
-pub record Numberable (n : ℕ) (order falls cores place : List ℕ) : Type 0 where
+pub record Numberable (n : ℕ) (order finals cores place : List ℕ) : Type 0 where
   pub few : n ≤ 512
   pub order-long : n ≤ length order
-  pub falls-long : n ≤ length falls
+  pub finals-long : n ≤ length finals
   pub cores-long : n ≤ length cores
   pub place-long : n ≤ length place
   pub below : (i : ℕ) → i < n → getD order i 0 < n
   pub apart : (i j : ℕ) → i < n → j < n → getD order i 0 ≡ getD order j 0 → i ≡ j
 
--- of the first i of them: the greatest fall so far, and the place
-pub record Numbered (i n : ℕ) (order falls cores place cores′ place′ : List ℕ) : Type 0 where
+-- of the first i of them: the greatest final degree so far, and the place
+pub record Numbered (i n : ℕ) (order finals cores place cores′ place′ : List ℕ) : Type 0 where
   pub cores-long : length cores′ ≡ length cores
   pub place-long : length place′ ≡ length place
-  pub cores-are : (j : ℕ) → j < i → getD cores′ (getD order j 0) 0 ≡ greatest (suc j) (entry falls)
+  pub cores-are : (j : ℕ) → j < i → getD cores′ (getD order j 0) 0 ≡ greatest (suc j) (entry finals)
   pub places-are : (j : ℕ) → j < i → getD place′ (getD order j 0) 0 ≡ j
   pub cores-rest : (u : ℕ) → n ≤ u → getD cores′ u 0 ≡ getD cores u 0
   pub places-rest : (u : ℕ) → n ≤ u → getD place′ u 0 ≡ getD place u 0
 
 -- ---- the densest remainder
 
--- what is inside the remainder when i of n have left: what falls from then on
-unfoldable pub remaining : (n : ℕ) → (falls : List ℕ) → (i : ℕ) → ℕ
-remaining n falls i = total n (entry falls) - total i (entry falls)
+-- what is inside the remainder when i of n have left: the final degrees from then on
+unfoldable pub remaining : (n : ℕ) → (finals : List ℕ) → (i : ℕ) → ℕ
+remaining n finals i = total n (entry finals) - total i (entry finals)
 
 -- i, unless j of n has the higher ratio, by cross products
-unfoldable pub pick : (n : ℕ) → (f : ℕ → ℕ) → (i j : ℕ) → ℕ
-pick n f i j = cond (leb (f j * (n - i)) (f i * (n - j))) i j
+unfoldable pub denser-by : (n : ℕ) → (f : ℕ → ℕ) → (i j : ℕ) → ℕ
+denser-by n f i j = cond (leb (f j * (n - i)) (f i * (n - j))) i j
 
--- the pick of 0, 1, .., i
-unfoldable pub picks : (n : ℕ) → (f : ℕ → ℕ) → (i : ℕ) → ℕ
-picks n f zero = 0
-picks n f (suc i) = pick n f (picks n f i) (suc i)
+-- the densest of 0, 1, .., i; of equals the earliest
+unfoldable pub densest-by : (n : ℕ) → (f : ℕ → ℕ) → (i : ℕ) → ℕ
+densest-by n f zero = 0
+densest-by n f (suc i) = denser-by n f (densest-by n f i) (suc i)
 
--- the falls of n modules, of which 1 to n are asked to remain
-pub record Pickable (n least : ℕ) (falls : List ℕ) : Type 0 where
+-- the final degrees of n modules, of which 1 to n are asked to remain; 4,096 pairs that count 1,000 times is the most
+pub record Comparable (n least : ℕ) (finals : List ℕ) : Type 0 where
   pub few : n ≤ 512
   pub some : 1 ≤ least
   pub most : least ≤ n
-  pub long : n ≤ length falls
-  pub light : total n (entry falls) ≤ 4096000
+  pub long : n ≤ length finals
+  pub light : total n (entry finals) ≤ 4096000
 
 -- r is the remainder when `at` have left
-pub record Remainder-at (n : ℕ) (falls : List ℕ) (at : ℕ) (r : Remainder) : Type 0 where
+pub record Remainder-at (n : ℕ) (finals : List ℕ) (at : ℕ) (r : Remainder) : Type 0 where
   pub at-is : r .at ≡ at
-  pub p-is : r .p ≡ remaining n falls at
+  pub p-is : r .p ≡ remaining n finals at
   pub q-is : r .q ≡ n - at
 
 -- a, unless b has the higher ratio

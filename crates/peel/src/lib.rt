@@ -1,20 +1,21 @@
 // Peeling: leaving order, core numbers, and the densest remainder. Document 01, "Leaving order" and "Core number"; source document 001, figure 1.
 //
-// Works on a held list in words (theory's specs/Words.antt). Module by module the first of the ranking leaves, and the modules that its pairs
-// join it to fall in the ranking: for N modules and M pairs about N + M steps of the ranking. The list rises, so the pairs whose first end a
-// module is stand side by side, its row; those whose second end it is are chained. One pass over the pairs finds rows, chains and degrees. The
-// core number of a leaver is the greatest degree at leaving so far. Refuses nothing: its callers have tested the list and the buffers.
+// Works on a held list in words (theory's specs/Words.antt). One pass over the pairs finds each module's pairs, in its row and its chain, and its
+// degree (`slots::adjacency`). Module by module the first of the ranking leaves, and the degrees of its neighbours, the modules that its pairs join
+// it to, get lower: for N modules and M pairs about N + M steps of the ranking. The core number of a leaver is the greatest degree at leaving so
+// far. Refuses nothing: its callers have tested the list and the buffers.
 ghost use mathlib.Core.Path.{_≡_};
-ghost use Prim.Native.Nat.{_+_, _*_, _-_, _≤_, _<_};
-ghost use lib.ListN.{length, getD, set};
+ghost use Prim.Native.Nat.{_-_, _≤_};
+ghost use lib.ListN.{length};
 ghost use Rattle.theory.specs.Groups.{everyone};
 ghost use Rattle.theory.specs.Words.{list-in, Held-words};
 ghost use Rattle.slots.specs.Slots.{total};
-ghost use Rattle.slots.specs.Links.{last-at};
+ghost use Rattle.slots.specs.Rows.{Rows, Chains};
+ghost use Rattle.slots.specs.Buffers.{entry};
 ghost use Rattle.peel.specs.Peel.{Peelable, Peels};
-ghost use Rattle.peel.specs.Steps.{first-end, Blank, Laid, Rows, Row-at, Chains, by-row, by-chain, both-ways, Loosable, Loosened};
-ghost use Rattle.peel.specs.Steps.{Ranked, Turned, Numberable, Numbered};
-ghost use Rattle.peel.specs.Steps.{entry, remaining, picks, denser, Pickable, Remainder-at};
+ghost use Rattle.peel.specs.Steps.{by-row, by-chain, both-ways, Lowerable-by, Lowered-by};
+ghost use Rattle.peel.specs.Steps.{Ranking-of, Leavers-written, Numberable, Numbered};
+ghost use Rattle.peel.specs.Steps.{remaining, densest-by, denser, Comparable, Remainder-at};
 
 // What is left when `at` modules have left: its inside count p and its size q.
 pub struct Remainder {
@@ -23,55 +24,8 @@ pub struct Remainder {
     pub at: u32,
 }
 
-// Adds d to entry i.
-fn add(i: usize, d: u32, xs: &mut [u32])
-    requires { ⌜ i < length (now xs) ⌝ }
-    requires { ⌜ getD (now xs) i 0 + d < 4294967296 ⌝ }
-    ensures { λ r. ⌜ now (xs .exit) ≡ set (now (xs .entry)) i (getD (now (xs .entry)) i 0 + d) ⌝ }
-{
-    xs[i] = xs[i] + d;
-}
-
-// One pass over the pairs: where each module's row ends, the chains of second ends, and the degrees among all modules.
-fn lay_out(
-    n: usize,
-    m: usize,
-    ends: &[u32],
-    weights: &[u32],
-    rows: &mut [u32],
-    first: &mut [u32],
-    next: &mut [u32],
-    degrees: &mut [u32],
-)
-    requires { ⌜ Held-words n m (now ends) (now weights) ⌝ }
-    requires { ⌜ Blank n m (now rows) (now first) (now next) (now degrees) ⌝ }
-    ensures { λ r. ⌜ Laid n m (now (ends .entry)) (now (weights .entry))
-        (now (rows .exit)) (now (first .exit)) (now (next .exit)) (now (degrees .exit)) ⌝ }
-{
-    for j in 0..m {
-        let a = slots::wide(ends[2 * j]);
-        let b = slots::wide(ends[2 * j + 1]);
-        rows[a] = (j + 1) as u32;
-        slots::link(j, b, first, next);
-        add(a, weights[j], degrees);
-        add(b, weights[j], degrees);
-    }
-}
-
-// The place before k in the row of v, and 1 more; 0 where the row begins at k.
-fn earlier(k: usize, v: usize, ends: &[u32]) -> usize
-    requires { ⌜ Row-at k v (now ends) ⌝ }
-    ensures { λ r. ⌜ r ≡ last-at k (first-end (now (ends .entry))) v ⌝ }
-{
-    if k == 0 {
-        return 0;
-    }
-    let a = slots::wide(ends[2 * (k - 1)]);
-    if a == v { k } else { 0 }
-}
-
-// Module v has left: the second ends of the pairs in its row fall in the ranking.
-fn loosen_row(
+// Module v has left: the second ends of the pairs in its row carry less.
+fn lower_row(
     n: usize,
     m: usize,
     v: usize,
@@ -80,21 +34,21 @@ fn loosen_row(
     rows: &[u32],
     work: &mut [u32],
 )
-    requires { ⌜ Loosable n m v (by-row (now ends) (now weights) v m) (now ends) (now weights) (now work) ⌝ }
+    requires { ⌜ Lowerable-by n m v (by-row (now ends) (now weights) v m) (now ends) (now weights) (now work) ⌝ }
     requires { ⌜ Rows n m (now ends) (now rows) ⌝ }
-    ensures { λ r. ⌜ Loosened (by-row (now (ends .entry)) (now (weights .entry)) v m) (now (work .entry)) (now (work .exit)) ⌝ }
+    ensures { λ r. ⌜ Lowered-by (by-row (now (ends .entry)) (now (weights .entry)) v m) (now (work .entry)) (now (work .exit)) ⌝ }
 {
     let mut s = slots::wide(rows[v]);
     while s > 0 {
         let k = s - 1;
-        let b = slots::wide(ends[2 * k + 1]);
+        let b = slots::second_end(k, ends);
         ranking::lower(b, weights[k], work);
-        s = earlier(k, v, ends);
+        s = slots::earlier_in_row(k, v, ends);
     }
 }
 
-// And the first ends of the pairs in its chain.
-fn loosen_chain(
+// So do the first ends of the pairs in its chain.
+fn lower_chain(
     n: usize,
     m: usize,
     v: usize,
@@ -104,21 +58,21 @@ fn loosen_chain(
     next: &[u32],
     work: &mut [u32],
 )
-    requires { ⌜ Loosable n m v (by-chain (now ends) (now weights) v m) (now ends) (now weights) (now work) ⌝ }
+    requires { ⌜ Lowerable-by n m v (by-chain (now ends) (now weights) v m) (now ends) (now weights) (now work) ⌝ }
     requires { ⌜ Chains n m (now ends) (now first) (now next) ⌝ }
-    ensures { λ r. ⌜ Loosened (by-chain (now (ends .entry)) (now (weights .entry)) v m) (now (work .entry)) (now (work .exit)) ⌝ }
+    ensures { λ r. ⌜ Lowered-by (by-chain (now (ends .entry)) (now (weights .entry)) v m) (now (work .entry)) (now (work .exit)) ⌝ }
 {
     let mut s = slots::wide(first[v]);
     while s > 0 {
         let k = s - 1;
-        let a = slots::wide(ends[2 * k]);
+        let a = slots::first_end(k, ends);
         ranking::lower(a, weights[k], work);
         s = slots::wide(next[k]);
     }
 }
 
-// All that its pairs join it to.
-fn loosen(
+// All its neighbours, along row and chain.
+fn lower_neighbours(
     n: usize,
     m: usize,
     v: usize,
@@ -129,16 +83,16 @@ fn loosen(
     next: &[u32],
     work: &mut [u32],
 )
-    requires { ⌜ Loosable n m v (both-ways (now ends) (now weights) v m) (now ends) (now weights) (now work) ⌝ }
+    requires { ⌜ Lowerable-by n m v (both-ways (now ends) (now weights) v m) (now ends) (now weights) (now work) ⌝ }
     requires { ⌜ Rows n m (now ends) (now rows) ⌝ }
     requires { ⌜ Chains n m (now ends) (now first) (now next) ⌝ }
-    ensures { λ r. ⌜ Loosened (both-ways (now (ends .entry)) (now (weights .entry)) v m) (now (work .entry)) (now (work .exit)) ⌝ }
+    ensures { λ r. ⌜ Lowered-by (both-ways (now (ends .entry)) (now (weights .entry)) v m) (now (work .entry)) (now (work .exit)) ⌝ }
 {
-    loosen_row(n, m, v, ends, weights, rows, work);
-    loosen_chain(n, m, v, ends, weights, first, next, work);
+    lower_row(n, m, v, ends, weights, rows, work);
+    lower_chain(n, m, v, ends, weights, first, next, work);
 }
 
-// N turns: who leaves, and with what degree.
+// N turns: who leaves, and with what degree, its final one.
 fn turns(
     n: usize,
     m: usize,
@@ -149,50 +103,50 @@ fn turns(
     next: &[u32],
     work: &mut [u32],
     order: &mut [u32],
-    falls: &mut [u32],
+    finals: &mut [u32],
 )
     requires { ⌜ Held-words n m (now ends) (now weights) ⌝ }
     requires { ⌜ Rows n m (now ends) (now rows) ⌝ }
     requires { ⌜ Chains n m (now ends) (now first) (now next) ⌝ }
-    requires { ⌜ Ranked (list-in n m (now ends) (now weights)) (everyone (list-in n m (now ends) (now weights))) (now work) ⌝ }
+    requires { ⌜ Ranking-of (list-in n m (now ends) (now weights)) (everyone (list-in n m (now ends) (now weights))) (now work) ⌝ }
     requires { ⌜ n ≤ length (now order) ⌝ }
-    requires { ⌜ n ≤ length (now falls) ⌝ }
-    ensures { λ r. ⌜ Turned (list-in n m (now (ends .entry)) (now (weights .entry))) n
-        (now (order .entry)) (now (falls .entry)) (now (order .exit)) (now (falls .exit)) ⌝ }
+    requires { ⌜ n ≤ length (now finals) ⌝ }
+    ensures { λ r. ⌜ Leavers-written (list-in n m (now (ends .entry)) (now (weights .entry))) n
+        (now (order .entry)) (now (finals .entry)) (now (order .exit)) (now (finals .exit)) ⌝ }
 {
     for i in 0..n {
         let leaver = ranking::take(work);
         let v = leaver.number;
         order[i] = v as u32;
-        falls[i] = leaver.carried;
-        loosen(n, m, v, ends, weights, rows, first, next, work);
+        finals[i] = leaver.carried;
+        lower_neighbours(n, m, v, ends, weights, rows, first, next, work);
     }
 }
 
-// Core numbers and places, from the order and the degrees at leaving.
-fn number(n: usize, order: &[u32], falls: &[u32], cores: &mut [u32], place: &mut [u32])
-    requires { ⌜ Numberable n (now order) (now falls) (now cores) (now place) ⌝ }
-    ensures { λ r. ⌜ Numbered n n (now (order .entry)) (now (falls .entry)) (now (cores .entry)) (now (place .entry))
+// Core numbers and places, from the order and the final degrees.
+fn number(n: usize, order: &[u32], finals: &[u32], cores: &mut [u32], place: &mut [u32])
+    requires { ⌜ Numberable n (now order) (now finals) (now cores) (now place) ⌝ }
+    ensures { λ r. ⌜ Numbered n n (now (order .entry)) (now (finals .entry)) (now (cores .entry)) (now (place .entry))
         (now (cores .exit)) (now (place .exit)) ⌝ }
 {
     let mut top = 0;
     for i in 0..n {
         let v = slots::wide(order[i]);
-        top = numbers::greater(top, falls[i]);
+        top = numbers::greater(top, finals[i]);
         cores[v] = top;
         place[v] = i as u32;
     }
 }
 
-// What falls in all: the inside count of all modules.
-fn total(n: usize, falls: &[u32]) -> u32
-    requires { ⌜ n ≤ length (now falls) ⌝ }
-    requires { ⌜ total n (entry (now falls)) ≤ 4096000 ⌝ }
-    ensures { λ r. ⌜ r ≡ total n (entry (now (falls .entry))) ⌝ }
+// The final degrees in all: the inside count of all modules.
+fn total(n: usize, finals: &[u32]) -> u32
+    requires { ⌜ n ≤ length (now finals) ⌝ }
+    requires { ⌜ total n (entry (now finals)) ≤ 4096000 ⌝ }
+    ensures { λ r. ⌜ r ≡ total n (entry (now (finals .entry))) ⌝ }
 {
     let mut sum = 0;
     for i in 0..n {
-        sum += falls[i];
+        sum += finals[i];
     }
     sum
 }
@@ -206,11 +160,11 @@ fn denser_of(a: Remainder, b: Remainder) -> Remainder
 }
 
 // The densest remainder of at least `least` modules, of equals the larger.
-fn densest(n: usize, least: usize, falls: &[u32]) -> Remainder
-    requires { ⌜ Pickable n least (now falls) ⌝ }
-    ensures { λ r. ⌜ Remainder-at n (now (falls .entry)) (picks n (remaining n (now (falls .entry))) (n - least)) r ⌝ }
+fn densest(n: usize, least: usize, finals: &[u32]) -> Remainder
+    requires { ⌜ Comparable n least (now finals) ⌝ }
+    ensures { λ r. ⌜ Remainder-at n (now (finals .entry)) (densest-by n (remaining n (now (finals .entry))) (n - least)) r ⌝ }
 {
-    let mut left = total(n, falls);
+    let mut left = total(n, finals);
     let mut best = Remainder {
         p: left,
         q: n as u32,
@@ -218,7 +172,7 @@ fn densest(n: usize, least: usize, falls: &[u32]) -> Remainder
     };
     let last = n - least;
     for i in 0..last {
-        left -= falls[i];
+        left -= finals[i];
         let next = i + 1;
         best = denser_of(
             best,
@@ -254,8 +208,8 @@ pub fn peel(
     let mut next = [0u32; 4096];
     let mut degrees = [0u32; 512];
     let mut work = [0u32; 1024];
-    let mut falls = [0u32; 512];
-    lay_out(
+    let mut finals = [0u32; 512];
+    slots::adjacency(
         n,
         m,
         ends,
@@ -276,8 +230,8 @@ pub fn peel(
         &next,
         &mut work,
         order,
-        &mut falls,
+        &mut finals,
     );
-    number(n, order, &falls, cores, place);
-    densest(n, least, &falls)
+    number(n, order, &finals, cores, place);
+    densest(n, least, &finals)
 }

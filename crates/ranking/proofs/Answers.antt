@@ -2,8 +2,8 @@
 --   key-has           a word below `gone` is a module present
 --   built             keys and both levels
 --   wraps             the least of what is taken and the next number, which wraps to 0 past `gone`
---   falls, falls-le   by how much a key falls; it is at least as large
---   falls-from        a key below `gone` has in it what is taken from it
+--   decrease, decrease-le    by how much a key falls; it is at least as large
+--   decrease-from     a key below `gone` has in it what is taken from it
 --   lowered           a key is lowered
 --   root-first        the root is the first one's key
 --   taken             the first one's key is gone
@@ -17,7 +17,7 @@ use lib.Dec.{ltb, eqb}
 use lib.ListN.{length, getD, set}
 use borrow.Author.Tests.{eqb-true, eqb-false, ltb-true, ltb-false}
 use Rattle.theory.proofs.Tests.{tests, no, fails}
-use Rattle.ranking.specs.Ranking.{key, module-of, gone, has, carries, least, Ranking, Someone, Buildable, Built, Lowered, Taken}
+use Rattle.ranking.specs.Ranking.{key, module-of, gone, has, carries, least, Ranking, Some-present, Buildable, Built, Lowered, Taken}
 use Rattle.ranking.specs.Words.{Keyed, Levelled}
 use Rattle.ranking.proofs.Order.{has-below, key-low, key-parts, module-below}
 use Rattle.ranking.proofs.Levels.{level-ext}
@@ -92,29 +92,29 @@ module _ (work : List ℕ) (m by : ℕ) (h : m < 512) (r : Ranking work) (l : ha
   lower-le e = omega (arith, l e)
 
   -- by how much the key falls, where the module is present and where it is gone
-  unfoldable pub falls : ℕ
-  falls = cond (ltb (getD work m 0) gone) (512 * by) 0
+  unfoldable pub decrease : ℕ
+  decrease = cond (ltb (getD work m 0) gone) (512 * by) 0
 
-  falls-cases : (P : ℕ → Type 0) → (has work m ≡ true → P (512 * by)) → (gone ≤ getD work m 0 → P 0) → P falls
-  unfolding falls
-  falls-cases P here gone′ = go (ltb (getD work m 0) gone) refl
+  decrease-cases : (P : ℕ → Type 0) → (has work m ≡ true → P (512 * by)) → (gone ≤ getD work m 0 → P 0) → P decrease
+  unfolding decrease
+  decrease-cases P here gone′ = go (ltb (getD work m 0) gone) refl
     where
       go : (t : Bool) → ltb (getD work m 0) gone ≡ t → P (cond t (512 * by) 0)
       go true e = here (key-has work m h (ltb-true (getD work m 0) gone e))
       go false e = gone′ (ltb-false (getD work m 0) gone e)
 
-  pub falls-from : getD work m 0 < gone → 512 * by ≤ getD work m 0
-  falls-from i = lower-le (key-has work m h i)
+  pub decrease-from : getD work m 0 < gone → 512 * by ≤ getD work m 0
+  decrease-from i = lower-le (key-has work m h i)
 
-  pub falls-le : falls ≤ getD work m 0
-  falls-le = falls-cases (λ f. f ≤ getD work m 0) lower-le (λ _. omega arith)
+  pub decrease-le : decrease ≤ getD work m 0
+  decrease-le = decrease-cases (λ f. f ≤ getD work m 0) lower-le (λ _. omega arith)
 
-  lower-key : getD work m 0 - falls < gone → getD work m 0 - falls ≡ key ((getD work m 0 - falls) / 512) m
+  lower-key : getD work m 0 - decrease < gone → getD work m 0 - decrease ≡ key ((getD work m 0 - decrease) / 512) m
   lower-key =
-      falls-cases (λ f. getD work m 0 - f < gone → getD work m 0 - f ≡ key ((getD work m 0 - f) / 512) m)
+      decrease-cases (λ f. getD work m 0 - f < gone → getD work m 0 - f ≡ key ((getD work m 0 - f) / 512) m)
       (λ e i. unfold key carries in omega (arith, r .keyed m e, lower-le e)) (λ g i. absurd (omega arith))
 
-  pub lowered : (x y z : ℕ) → x ≡ getD work m 0 - falls → y ≡ min (getD work (512 + m / 8) 0) x → z ≡ min (getD work (576 + m / 64) 0) y →
+  pub lowered : (x y z : ℕ) → x ≡ getD work m 0 - decrease → y ≡ min (getD work (512 + m / 8) 0) x → z ≡ min (getD work (576 + m / 64) 0) y →
       Lowered m by work (put work m x y z)
   lowered x y z xe ye ze =
       let le : x ≤ getD work m 0 = omega arith in
@@ -129,15 +129,15 @@ module _ (work : List ℕ) (m by : ℕ) (h : m < 512) (r : Ranking work) (l : ha
       new : List ℕ
       new = put work m x y z
 
-      word : getD new m 0 ≡ getD work m 0 - falls
+      word : getD new m 0 ≡ getD work m 0 - decrease
       word = put-same work m x y z h (r .long) ∙ xe
 
       same : (u : ℕ) (t : Bool) → eqb u m ≡ t → has new u ≡ has work u
       same u true w = let at : u ≡ m = eqb-true u m w in rw at (here word)
         where
-          here : getD new m 0 ≡ getD work m 0 - falls → has new m ≡ has work m
+          here : getD new m 0 ≡ getD work m 0 - decrease → has new m ≡ has work m
           here =
-              falls-cases (λ f. getD new m 0 ≡ getD work m 0 - f → has new m ≡ has work m)
+              decrease-cases (λ f. getD new m 0 ≡ getD work m 0 - f → has new m ≡ has work m)
               (λ e i. key-has new m h (omega (arith, i, has-key work m e)) ∙ sym e) (λ g i. has-same work new m (λ _. omega arith))
       same u false w = put-has work m x y z u (eqb-false u m w)
 
@@ -147,18 +147,18 @@ module _ (work : List ℕ) (m by : ℕ) (h : m < 512) (r : Ranking work) (l : ha
           let e : has work m ≡ true = rw at at i in
           rw at (here e word)
         where
-          here : has work m ≡ true → getD new m 0 ≡ getD work m 0 - falls → carries new m + by ≡ carries work m
+          here : has work m ≡ true → getD new m 0 ≡ getD work m 0 - decrease → carries new m + by ≡ carries work m
           here e =
-              falls-cases (λ f. getD new m 0 ≡ getD work m 0 - f → carries new m + by ≡ carries work m)
+              decrease-cases (λ f. getD new m 0 ≡ getD work m 0 - f → carries new m + by ≡ carries work m)
               (λ _ i. unfold carries in omega (arith, i, lower-le e)) (λ g i. absurd (omega (arith, has-key work m e)))
       less u i false w = omega (arith, put-carries work m x y z u (eqb-false u m w) (has-below work u i))
 
 -- ---- take
 
 -- k is the root
-module _ (work : List ℕ) (r : Ranking work) (some : Someone work) (k : ℕ) (root : k ≡ least 7 576 work) where
+module _ (work : List ℕ) (r : Ranking work) (some : Some-present work) (k : ℕ) (root : k ≡ least 7 576 work) where
   root-low : k < gone
-  unfolding Someone
+  unfolding Some-present
   root-low = omega (arith, root-le work r (some .0) (has-below work (some .0) (some .1)), has-key work (some .0) (some .1))
 
   -- it is the key of a module

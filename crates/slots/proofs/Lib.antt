@@ -1,4 +1,4 @@
--- Laws of the definitions of specs/, for whoever works with slots; and the steps of a loop of this crate (Spreading).
+-- Laws of the definitions of specs/, for whoever works with slots; and the steps of loops of this crate (Spreading, Passing).
 pub mod Choice
 pub mod Totals
 pub mod Mates
@@ -7,4 +7,7 @@ pub mod Words
 pub mod Moves
 pub mod Counting
 pub mod Linking
+pub mod Rows
+pub mod Buffers
 mod Spreading
+mod Passing

@@ -1,6 +1,6 @@
--- A split laid out pair by pair.
---   Laid                             the pairs below j hold their units, the others what they did
---   laid-start, laid-next, laid-end  no pair, one pair more, all pairs
+-- A split, pair by pair.
+--   Split-upto                         the pairs below j hold their units, the others what they did
+--   split-start, split-next, split-end no pair, one pair more, all pairs
 -- Assumes nothing.
 use mathlib.Core.Path.{_≡_, refl, _∙_}
 use mathlib.Core.Bool.{_&&_, cond}
@@ -18,15 +18,15 @@ use Rattle.slots.specs.Split.{scope-units, Split}
 use Rattle.slots.proofs.Choice.{eq-or-ne}
 
 -- the pairs below j hold their units, the others what they did
-pub record Laid (m q j : ℕ) (ends weights scope hold₀ hold : List ℕ) : Type 0 where
+pub record Split-upto (m q j : ℕ) (ends weights scope hold₀ hold : List ℕ) : Type 0 where
   pub low : j ≤ m
   pub long : length hold ≡ length hold₀
   pub room : 2 * m ≤ length hold
   pub whole : (i : ℕ) → i < j → getD hold (2 * i) 0 + getD hold (2 * i + 1) 0 ≡ scope-units q ends weights scope i
   pub rest : (s : ℕ) → 2 * j ≤ s → getD hold s 0 ≡ getD hold₀ s 0
 
-pub laid-start : {m q : ℕ} {ends weights scope hold : List ℕ} → 2 * m ≤ length hold → Laid m q 0 ends weights scope hold hold
-laid-start r = record { low = omega arith; long = refl; room = r; whole = λ i h. absurd (omega arith); rest = λ s h. refl }
+pub split-start : {m q : ℕ} {ends weights scope hold : List ℕ} → 2 * m ≤ length hold → Split-upto m q 0 ends weights scope hold hold
+split-start r = record { low = omega arith; long = refl; room = r; whole = λ i h. absurd (omega arith); rest = λ s h. refl }
 
 -- the units of pair j, by its ends' bytes
 scope-bytes : (q j a b : ℕ) (ends weights scope : List ℕ) → a ≡ getD ends (2 * j) 0 → b ≡ getD ends (2 * j + 1) 0 →
@@ -35,10 +35,10 @@ unfolding scope-units holds-pair word-pair is-in units
 scope-bytes q j a b ends weights scope ea eb = rw (ea, eb)
 
 -- pair j gets u units, x of them at its first slot
-pub laid-next : {m q j : ℕ} {ends weights scope hold₀ hold : List ℕ} (a b u x : ℕ) → Laid m q j ends weights scope hold₀ hold → j < m →
+pub split-next : {m q j : ℕ} {ends weights scope hold₀ hold : List ℕ} (a b u x : ℕ) → Split-upto m q j ends weights scope hold₀ hold → j < m →
     a ≡ getD ends (2 * j) 0 → b ≡ getD ends (2 * j + 1) 0 → u ≡ cond (eqb (getD scope a 0) 1 && eqb (getD scope b 0) 1) (getD weights j 0 * q) 0 →
-    x ≤ u → Laid m q (j + 1) ends weights scope hold₀ (set (set hold (2 * j) x) (2 * j + 1) (u - x))
-laid-next {m} {q} {j} {ends} {weights} {scope} {hold₀} {hold} a b u x w h ea eb eu le =
+    x ≤ u → Split-upto m q (j + 1) ends weights scope hold₀ (set (set hold (2 * j) x) (2 * j + 1) (u - x))
+split-next {m} {q} {j} {ends} {weights} {scope} {hold₀} {hold} a b u x w h ea eb eu le =
     let one = set hold (2 * j) x in
     let two = set one (2 * j + 1) (u - x) in
     let room = w .room in
@@ -66,6 +66,6 @@ laid-next {m} {q} {j} {ends} {weights} {scope} {hold₀} {hold} a b u x w h ea e
       rest = λ s l. el s (λ z. omega arith) (λ z. omega arith) ∙ w .rest s (omega arith);
     }
 
-pub laid-end : {m q j : ℕ} {ends weights scope hold₀ hold : List ℕ} → Laid m q j ends weights scope hold₀ hold → m ≤ j →
+pub split-end : {m q j : ℕ} {ends weights scope hold₀ hold : List ℕ} → Split-upto m q j ends weights scope hold₀ hold → m ≤ j →
     Split m q ends weights scope hold
-laid-end w h = record { long = w .room; whole = λ i l. w .whole i (omega arith) }
+split-end w h = record { long = w .room; whole = λ i l. w .whole i (omega arith) }

@@ -1,4 +1,6 @@
--- Units in slots, the links of a module's slots, splits laid out in slots; each file opens with what it gives.
+-- Units in slots, the links of a module's slots, splits in slots, a module's pairs, buffers; each file opens with what it gives.
 pub mod Slots
 pub mod Links
 pub mod Split
+pub mod Rows
+pub mod Buffers

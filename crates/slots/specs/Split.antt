@@ -1,4 +1,4 @@
--- A split (document 01, "Split") laid out in slots, inside a scope of modules.
+-- A split (document 01, "Split") in slots, inside a scope of modules.
 --   Weights        the pairs' weights, a word each
 --   scope-units    the units of a pair: none where it has an end outside the scope
 --   Split          the slots of a pair inside the scope hold its units, all others nothing

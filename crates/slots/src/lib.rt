@@ -1,16 +1,20 @@
-// Units in slots: what the split search moves (document 01, "Words used", split), and how it lies in words.
+// Units in slots: what the split search moves (document 01, "Words used", split), and how it lies in words. And the pairs of each module.
 //
 // Pair j has two slots, 2j and 2j + 1: ends[s] is a slot's module, hold[s] the units of the pair that it holds. Both ends are alike, so nothing goes
 // by sides. A module's load is its own, which does not move, and the units that it holds. Three arguments are the list: n modules, m pairs, `ends`.
-// `spread` lays out a split, `loads` adds up, `links` chains each module's slots, `shift` moves units (no other function does). The first three cost a
-// step for each slot or pair. Peeling uses `link` too, for chains of pairs. Nothing is refused: what is asked is in the contracts.
+// `spread` makes a split, `loads` adds up, `links` chains each module's slots (`first_link` and `next_link` follow them), `shift` moves units (no
+// other function does). The first three cost a step for each slot or pair. `adjacency` finds each module's pairs and its degree in one pass over a
+// list that rises: the pairs whose first end it is stand side by side, its row (`earlier_in_row` goes back along it), and those whose second end it
+// is are chained. Nothing is refused: what is asked is in the contracts.
 ghost use mathlib.Core.Path.{_≡_};
 ghost use mathlib.Core.Bool.{_&&_, cond};
 ghost use Prim.Native.Nat.{ℕ, _+_, _*_, _≤_, _<_};
 ghost use lib.Dec.{eqb, ltb};
 ghost use lib.ListN.{length, getD, set};
+ghost use Rattle.theory.specs.Words.{Held-words};
 ghost use Rattle.slots.specs.Slots.{mate, moved, Ends, Room, Own, Loads, Covers};
-ghost use Rattle.slots.specs.Links.{Linked};
+ghost use Rattle.slots.specs.Links.{last-at, Linked};
+ghost use Rattle.slots.specs.Rows.{first-end, second-end, Row-at, Adjacency-blank, Adjacency};
 ghost use Rattle.slots.specs.Split.{Weights, Split};
 
 // A word as an index.
@@ -29,7 +33,7 @@ pub fn capped(x: u32, top: usize) -> usize
 }
 
 // 1 where a module of scope byte s and load x is in the scope and loaded below p, else 0.
-pub fn short(p: u32, s: u8, x: u32) -> usize
+pub fn has_room(p: u32, s: u8, x: u32) -> usize
     ensures { λ r. ⌜ r ≡ cond (eqb s 1 && ltb x p) 1 0 ⌝ }
 {
     if s == 1 {
@@ -99,6 +103,22 @@ pub fn link(k: usize, v: usize, first: &mut [u32], next: &mut [u32])
     first[v] = (k + 1) as u32;
 }
 
+// Where the links of v lead first, a slot and 1 more: at most `top`, else free.
+pub fn first_link(v: usize, top: usize, first: &[u32]) -> usize
+    requires { ⌜ v < length (now first) ⌝ }
+    ensures { λ r. ⌜ r ≤ top ⌝ }
+{
+    capped(first[v], top)
+}
+
+// Where they lead from slot k: back, else free.
+pub fn next_link(k: usize, next: &[u32]) -> usize
+    requires { ⌜ k < length (now next) ⌝ }
+    ensures { λ r. ⌜ r ≤ k ⌝ }
+{
+    capped(next[k], k)
+}
+
 // Chains each module's slots, from its last one back: entries are a slot and 1 more, and 0 ends a chain.
 pub fn links(n: usize, m: usize, ends: &[u32], first: &mut [u32], next: &mut [u32])
     requires { ⌜ Ends n m (now ends) ⌝ }
@@ -113,6 +133,69 @@ pub fn links(n: usize, m: usize, ends: &[u32], first: &mut [u32], next: &mut [u3
         link(s, wide(ends[s]), first, next);
         s = s + 1;
     }
+}
+
+// Adds d to entry i.
+fn add(i: usize, d: u32, xs: &mut [u32])
+    requires { ⌜ i < length (now xs) ⌝ }
+    requires { ⌜ getD (now xs) i 0 + d < 4294967296 ⌝ }
+    ensures { λ r. ⌜ now (xs .exit) ≡ set (now (xs .entry)) i (getD (now (xs .entry)) i 0 + d) ⌝ }
+{
+    xs[i] = xs[i] + d;
+}
+
+// The first end of pair j.
+pub fn first_end(j: usize, ends: &[u32]) -> usize
+    requires { ⌜ (j < 4096) × (2 * j < length (now ends)) ⌝ }
+    ensures { λ r. ⌜ r ≡ first-end (now (ends .entry)) j ⌝ }
+{
+    wide(ends[2 * j])
+}
+
+// The second end of pair j.
+pub fn second_end(j: usize, ends: &[u32]) -> usize
+    requires { ⌜ (j < 4096) × (2 * j + 1 < length (now ends)) ⌝ }
+    ensures { λ r. ⌜ r ≡ second-end (now (ends .entry)) j ⌝ }
+{
+    wide(ends[2 * j + 1])
+}
+
+// One pass over the pairs: where each module's row ends, the chains of second ends, and the degrees among all modules.
+pub fn adjacency(
+    n: usize,
+    m: usize,
+    ends: &[u32],
+    weights: &[u32],
+    rows: &mut [u32],
+    first: &mut [u32],
+    next: &mut [u32],
+    degrees: &mut [u32],
+)
+    requires { ⌜ Held-words n m (now ends) (now weights) ⌝ }
+    requires { ⌜ Adjacency-blank n m (now rows) (now first) (now next) (now degrees) ⌝ }
+    ensures { λ r. ⌜ Adjacency n m (now (ends .entry)) (now (weights .entry))
+        (now (rows .exit)) (now (first .exit)) (now (next .exit)) (now (degrees .exit)) ⌝ }
+{
+    for j in 0..m {
+        let a = first_end(j, ends);
+        let b = second_end(j, ends);
+        rows[a] = (j + 1) as u32;
+        link(j, b, first, next);
+        add(a, weights[j], degrees);
+        add(b, weights[j], degrees);
+    }
+}
+
+// The place before k in the row of v, and 1 more; 0 where the row begins at k.
+pub fn earlier_in_row(k: usize, v: usize, ends: &[u32]) -> usize
+    requires { ⌜ Row-at k v (now ends) ⌝ }
+    ensures { λ r. ⌜ r ≡ last-at k (first-end (now (ends .entry))) v ⌝ }
+{
+    if k == 0 {
+        return 0;
+    }
+    let a = first_end(k - 1, ends);
+    if a == v { k } else { 0 }
 }
 
 // Moves d from place i to place j.
@@ -191,8 +274,8 @@ pub fn spread(
 {
     let mut j = 0;
     while j < m {
-        let a = wide(ends[2 * j]);
-        let b = wide(ends[2 * j + 1]);
+        let a = first_end(j, ends);
+        let b = second_end(j, ends);
         let u = pair_units(weights[j], q, scope[a], scope[b]);
         let x = first_part(u, q, old, hold[2 * j]);
         hold[2 * j] = x;

@@ -4,17 +4,17 @@ use mathlib.Core.Path.{_≡_, refl}
 use Prim.Native.Nat.{_+_, _-_, _≤_}
 use native.Mathlib.Omega.{arith}
 use lib.ListN.{getD}
-use Rattle.peel.specs.Steps.{remaining, picks, Remainder-at}
+use Rattle.peel.specs.Steps.{remaining, densest-by, Remainder-at}
 use Rattle.peel.proofs.Remainders.{remaining-start, remaining-fits, remaining-next, remaining-le, best-start, best-next, best-light}
 use Rattle.peel.proofs.densest.Statement.{statement}
 use Rattle.peel.proofs.densest.Tie as tie
 
 abbrev Inv-loop : tie.InvT-loop
-Inv-loop n least falls left₀ best₀ last i₀ left best i =
-    (left ≡ remaining n falls i) × Remainder-at n falls (picks n (remaining n falls) i) best × (i ≤ last) × (last ≡ n - least)
+Inv-loop n least finals left₀ best₀ last i₀ left best i =
+    (left ≡ remaining n finals i) × Remainder-at n finals (densest-by n (remaining n finals) i) best × (i ≤ last) × (last ≡ n - least)
 
 abbrev μ-loop : tie.MeasureT-loop
-μ-loop n least falls left₀ best₀ last i₀ left best i = last - i
+μ-loop n least finals left₀ best₀ last i₀ left best i = last - i
 
 total-requires : tie.Need-total-requires Inv-loop μ-loop
 total-requires c κs = (omega arith, c .before .pre .light)
@@ -28,8 +28,8 @@ sub-last c = c .before .before .pre .most
 loop-holds : tie.Need-loop-holds Inv-loop μ-loop
 loop-holds c =
     let a = c .before .before .args in (
-      remaining-start (a .n) (a .falls .now) (c .total .result) (c .total .ensures),
-      best-start (a .n) (a .falls .now) _ (c .total .ensures) refl refl,
+      remaining-start (a .n) (a .finals .now) (c .total .result) (c .total .ensures),
+      best-start (a .n) (a .finals .now) _ (c .total .ensures) refl refl,
       omega arith,
       refl,
     )
@@ -44,7 +44,7 @@ sub-left : tie.Need-sub-left Inv-loop μ-loop
 sub-left c =
     let a = c .before .before .before .before .before .args in
     let l = c .before .before .loop in
-    omega (arith, l .inv .0, remaining-fits (a .n) (a .falls .now) (l .i) (omega arith))
+    omega (arith, l .inv .0, remaining-fits (a .n) (a .finals .now) (l .i) (omega arith))
 
 add-next : tie.Need-add-next Inv-loop μ-loop
 add-next c = omega arith
@@ -63,8 +63,8 @@ denser-of-requires c κs =
     let s = c .before .before .before .before .before in
     let a = s .args in
     let l = c .before .before .loop in
-    let b = best-light (a .n) (a .falls .now) (s .pre .light) (s .pre .few) _ _ (l .inv .1) in
-    (b .0, b .1, omega (arith, l .inv .0, remaining-le (a .n) (a .falls .now) (l .i), s .pre .light), omega (arith, s .pre .few))
+    let b = best-light (a .n) (a .finals .now) (s .pre .light) (s .pre .few) _ _ (l .inv .1) in
+    (b .0, b .1, omega (arith, l .inv .0, remaining-le (a .n) (a .finals .now) (l .i), s .pre .light), omega (arith, s .pre .few))
 
 add-i : tie.Need-add-i Inv-loop μ-loop
 add-i c = omega arith
@@ -76,10 +76,10 @@ loop-again : tie.Need-loop-again Inv-loop μ-loop
 loop-again c =
     let a = c .before .before .before .before .before .before .args in
     let l = c .before .before .before .loop in
-    let less : l .left - getD (a .falls .now) (l .i) 0 ≡ remaining (a .n) (a .falls .now) (l .i + 1) =
-    omega (arith, l .inv .0, remaining-next (a .n) (a .falls .now) (l .i)) in (
+    let less : l .left - getD (a .finals .now) (l .i) 0 ≡ remaining (a .n) (a .finals .now) (l .i + 1) =
+    omega (arith, l .inv .0, remaining-next (a .n) (a .finals .now) (l .i)) in (
       less,
-      (rw (c .denser-of .ensures) (best-next (a .n) (a .falls .now) (l .i) _ _ (l .inv .1) (record { at-is = refl; p-is = less; q-is = refl }))),
+      (rw (c .denser-of .ensures) (best-next (a .n) (a .finals .now) (l .i) _ _ (l .inv .1) (record { at-is = refl; p-is = less; q-is = refl }))),
       omega arith,
       l .inv .3,
     )

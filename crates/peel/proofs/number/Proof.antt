@@ -1,21 +1,22 @@
--- `peel::number` meets its contract. The loop's invariant: the first i are numbered, and top is the greatest fall so far. Assumes nothing.
+-- `peel::number` meets its contract. The loop's invariant: the first i are numbered, and top is the greatest degree so far. Assumes nothing.
 use mathlib.Core.Path.{_≡_, refl}
 use Prim.Native.Nat.{suc, _-_, _≤_, _<_}
 use native.Mathlib.Omega.{arith}
 use native.Mathlib.Numerals.{add-one}
 use Rattle.theory.specs.Basics.{greatest}
 use Rattle.theory.proofs.Tables.{greatest-suc}
-use Rattle.peel.specs.Steps.{entry, Numbered}
+use Rattle.slots.specs.Buffers.{entry}
+use Rattle.peel.specs.Steps.{Numbered}
 use Rattle.peel.proofs.Numbers.{numbered-none, numbered-next}
 use Rattle.peel.proofs.number.Statement.{statement}
 use Rattle.peel.proofs.number.Tie as tie
 
 abbrev Inv-loop : tie.InvT-loop
-Inv-loop n order falls cores₀ place₀ top₀ i₀ cores place top i =
-    Numbered i n order falls cores₀ place₀ cores place × (i ≤ n) × (top ≡ greatest i (entry falls))
+Inv-loop n order finals cores₀ place₀ top₀ i₀ cores place top i =
+    Numbered i n order finals cores₀ place₀ cores place × (i ≤ n) × (top ≡ greatest i (entry finals))
 
 abbrev μ-loop : tie.MeasureT-loop
-μ-loop n order falls cores₀ place₀ top₀ i₀ cores place top i = n - i
+μ-loop n order finals cores₀ place₀ top₀ i₀ cores place top i = n - i
 
 -- the module at place i
 below : (c : tie.After-greater Inv-loop μ-loop) →
@@ -43,7 +44,7 @@ mul-greater : tie.Need-mul-greater Inv-loop μ-loop
 mul-greater c = omega (arith, c .before .before .before .before .before .before .before .before .pre .few)
 
 shared-slice-read-greater : tie.Need-shared-slice-read-greater Inv-loop μ-loop
-shared-slice-read-greater c = omega (arith, c .before .before .before .before .before .before .before .before .before .pre .falls-long)
+shared-slice-read-greater c = omega (arith, c .before .before .before .before .before .before .before .before .before .pre .finals-long)
 
 greater-requires : tie.Need-greater-requires Inv-loop μ-loop
 greater-requires c κs = tt
@@ -78,9 +79,9 @@ loop-again c =
     let l = c .before .before .before .before .before in
     let s = l .before .before .before .before .before in
     let a = s .args in
-    let top : c .greater .result ≡ greatest (suc (l .loop .i)) (entry (a .falls .now)) =
-    unfold entry in omega (arith, c .greater .ensures, greatest-suc (l .loop .i) (entry (a .falls .now)), l .loop .inv .2) in (
-      numbered-next (a .n) (a .order .now) (a .falls .now) (a .cores .now) (a .place .now) (s .pre) (l .loop .i) (omega arith)
+    let top : c .greater .result ≡ greatest (suc (l .loop .i)) (entry (a .finals .now)) =
+    unfold entry in omega (arith, c .greater .ensures, greatest-suc (l .loop .i) (entry (a .finals .now)), l .loop .inv .2) in (
+      numbered-next (a .n) (a .order .now) (a .finals .now) (a .cores .now) (a .place .now) (s .pre) (l .loop .i) (omega arith)
           (l .loop .cores) (l .loop .place) (l .loop .inv .0) _ _ (c .before .before .wide .ensures) top,
       omega arith,
       rw add-one top,

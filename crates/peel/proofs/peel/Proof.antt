@@ -6,34 +6,34 @@ use Rattle.theory.specs.Groups.{everyone}
 use Rattle.theory.specs.Words.{list-in}
 use Rattle.slots.proofs.Held.{zero-at}
 use Rattle.slots.proofs.Words.{few-modules, few-pairs}
-use Rattle.peel.proofs.Laying.{laid-degrees}
+use Rattle.peel.proofs.Degrees.{adjacency-degrees}
 use Rattle.peel.proofs.Ranks.{ranked-buildable, ranked-built}
 use Rattle.peel.proofs.Remainders.{all-light}
-use Rattle.peel.proofs.Answers.{answer-numberable, answer-pickable, answer}
+use Rattle.peel.proofs.Answers.{answer-numberable, answer-comparable, answer}
 use Rattle.peel.proofs.peel.Statement.{statement}
 use Rattle.peel.proofs.peel.Tie as tie
 
 -- the places of the calls, each from the next
-abbrev begin : tie.After-lay-out → tie.Start
+abbrev begin : tie.After-adjacency → tie.Start
 begin x = x .before .before .before .before .before .before .before .before .before .before
 
-abbrev laid : tie.After-turns → tie.After-lay-out
+abbrev laid : tie.After-turns → tie.After-adjacency
 laid t = t .before .before .before .before .before .before .before .before .before .before .before .before .before .before .before
 
-slice-aggregate-lay-out : tie.Need-slice-aggregate-lay-out
-slice-aggregate-lay-out c = search needs
+slice-aggregate-adjacency : tie.Need-slice-aggregate-adjacency
+slice-aggregate-adjacency c = search needs
 
-slice-aggregate-lay-out-2 : tie.Need-slice-aggregate-lay-out-2
-slice-aggregate-lay-out-2 c = search needs
+slice-aggregate-adjacency-2 : tie.Need-slice-aggregate-adjacency-2
+slice-aggregate-adjacency-2 c = search needs
 
-slice-aggregate-lay-out-3 : tie.Need-slice-aggregate-lay-out-3
-slice-aggregate-lay-out-3 c = search needs
+slice-aggregate-adjacency-3 : tie.Need-slice-aggregate-adjacency-3
+slice-aggregate-adjacency-3 c = search needs
 
-slice-aggregate-lay-out-4 : tie.Need-slice-aggregate-lay-out-4
-slice-aggregate-lay-out-4 c = search needs
+slice-aggregate-adjacency-4 : tie.Need-slice-aggregate-adjacency-4
+slice-aggregate-adjacency-4 c = search needs
 
-lay-out-requires : tie.Need-lay-out-requires
-lay-out-requires c κs =
+adjacency-requires : tie.Need-adjacency-requires
+adjacency-requires c κs =
     let h = c .before .before .before .before .before .before .before .before .before .pre .0 in
     let n = few-modules _ _ _ _ (h .listed) in (
       h,
@@ -61,8 +61,8 @@ build-requires c κs =
     let a = s .args in
     let few = few-modules _ _ _ _ (s .pre .0 .listed) in (
       ranked-buildable (a .n) (a .m) (a .ends .now) (a .weights .now) (s .pre .0) _
-          (laid-degrees (s .pre .0) (x .lay-out .ensures))
-          (omega (arith, x .lay-out .kept .1 .1 .1 .1 .1 .1 .1 .0)),
+          (adjacency-degrees (s .pre .0) (x .adjacency .ensures))
+          (omega (arith, x .adjacency .kept .1 .1 .1 .1 .1 .1 .1 .0)),
       refl,
     )
 
@@ -87,7 +87,7 @@ turns-requires c κs =
     let x = b .before .before .before .before .before .before .before in
     let s = begin x in
     let a = s .args in
-    let d = x .lay-out .ensures in (
+    let d = x .adjacency .ensures in (
       s .pre .0,
       (
         d .rows-are,
@@ -95,7 +95,7 @@ turns-requires c κs =
           d .chains-are,
           (
             ranked-built (a .n) (a .m) (a .ends .now) (a .weights .now) (s .pre .0) _
-                (laid-degrees (s .pre .0) d) _ (b .build .ensures),
+                (adjacency-degrees (s .pre .0) d) _ (b .build .ensures),
             (s .pre .1 .order-long, few-modules (a .n) (a .m) (a .ends .now) (a .weights .now) (s .pre .0 .listed)),
           ),
         ),
@@ -125,7 +125,7 @@ densest-requires c κs =
     let s = begin (laid t) in
     let a = s .args in
     let b = s .pre .1 in
-    answer-pickable (list-in (a .n) (a .m) (a .ends .now) (a .weights .now)) (s .pre .0 .listed) _ _ _ _ (t .turns .ensures)
+    answer-comparable (list-in (a .n) (a .m) (a .ends .now) (a .weights .now)) (s .pre .0 .listed) _ _ _ _ (t .turns .ensures)
     (a .least) (b .some) (b .few)
     (few-modules (a .n) (a .m) (a .ends .now) (a .weights .now) (s .pre .0 .listed))
     (all-light (a .n) (a .m) (a .ends .now) (a .weights .now) (s .pre .0 .listed) (everyone (list-in (a .n) (a .m) (a .ends .now) (a .weights .now))))
@@ -155,11 +155,11 @@ pub peel-spec : {M : Type 1} → statement M
 peel-spec =
     tie.close
     (tie.spec
-    slice-aggregate-lay-out
-    slice-aggregate-lay-out-2
-    slice-aggregate-lay-out-3
-    slice-aggregate-lay-out-4
-    lay-out-requires
+    slice-aggregate-adjacency
+    slice-aggregate-adjacency-2
+    slice-aggregate-adjacency-3
+    slice-aggregate-adjacency-4
+    adjacency-requires
     slice-aggregate-build
     slice-aggregate-build-2
     build-requires

@@ -4,15 +4,15 @@ use Prim.Native.Nat.{_+_, _-_, _≤_}
 use native.Mathlib.Omega.{arith}
 use Rattle.slots.specs.Slots.{total}
 use Rattle.slots.proofs.Totals.{total-next, total-upto}
-use Rattle.peel.specs.Steps.{entry}
+use Rattle.slots.specs.Buffers.{entry}
 use Rattle.peel.proofs.total.Statement.{statement}
 use Rattle.peel.proofs.total.Tie as tie
 
 abbrev Inv-loop : tie.InvT-loop
-Inv-loop n falls sum₀ i₀ sum i = (sum ≡ total i (entry falls)) × (i ≤ n)
+Inv-loop n finals sum₀ i₀ sum i = (sum ≡ total i (entry finals)) × (i ≤ n)
 
 abbrev μ-loop : tie.MeasureT-loop
-μ-loop n falls sum₀ i₀ sum i = n - i
+μ-loop n finals sum₀ i₀ sum i = n - i
 
 loop-holds : tie.Need-loop-holds Inv-loop μ-loop
 unfolding total
@@ -29,7 +29,7 @@ unfolding entry
 add-sum c =
     let a = c .before .before .before .args in
     let l = c .before .before .loop in
-    omega (arith, l .inv .0, total-next (l .i) (entry (a .falls .now)), total-upto (l .i + 1) (a .n) (entry (a .falls .now)) (omega arith))
+    omega (arith, l .inv .0, total-next (l .i) (entry (a .finals .now)), total-upto (l .i + 1) (a .n) (entry (a .finals .now)) (omega arith))
 
 add-i : tie.Need-add-i Inv-loop μ-loop
 add-i c = omega arith
@@ -42,7 +42,7 @@ unfolding entry
 loop-again c =
     let a = c .before .before .before .args in
     let l = c .before .before .loop in
-    (omega (arith, l .inv .0, total-next (l .i) (entry (a .falls .now))), omega arith)
+    (omega (arith, l .inv .0, total-next (l .i) (entry (a .finals .now))), omega arith)
 
 returns : tie.Need-returns Inv-loop μ-loop
 returns c =

@@ -5,23 +5,23 @@ use native.Mathlib.Omega.{arith}
 use lib.ListN.{length}
 use Rattle.theory.specs.Words.{list-in}
 use Rattle.ranking.proofs.Order.{has-below}
-use Rattle.peel.proofs.Orders.{Turning, turning-start, turn-someone, turn-loosable, turn-next}
+use Rattle.peel.proofs.Orders.{Turns-done, turns-start, turn-some, turn-lowerable, turn-next}
 use Rattle.peel.proofs.turns.Statement.{statement}
 use Rattle.peel.proofs.turns.Tie as tie
 
 abbrev Inv-loop : tie.InvT-loop
-Inv-loop n m ends weights rows first next work₀ order₀ falls₀ i₀ work order falls i =
-    Turning (list-in n m ends weights) i order₀ falls₀ work order falls × (i ≤ n) × (length work ≡ length work₀)
+Inv-loop n m ends weights rows first next work₀ order₀ finals₀ i₀ work order finals i =
+    Turns-done (list-in n m ends weights) i order₀ finals₀ work order finals × (i ≤ n) × (length work ≡ length work₀)
 
 abbrev μ-loop : tie.MeasureT-loop
-μ-loop n m ends weights rows first next work₀ order₀ falls₀ i₀ work order falls i = n - i
+μ-loop n m ends weights rows first next work₀ order₀ finals₀ i₀ work order finals i = n - i
 
 -- the function's entry
 abbrev begin : tie.At-loop Inv-loop μ-loop → tie.Start Inv-loop μ-loop
 begin l = l .before .before .before .before .before .before .before .before .before
 
 loop-holds : tie.Need-loop-holds Inv-loop μ-loop
-loop-holds c = (turning-start _ _ _ _ (c .before .before .before .before .before .before .before .before .pre .1 .1 .1 .0), omega arith, refl)
+loop-holds c = (turns-start _ _ _ _ (c .before .before .before .before .before .before .before .before .pre .1 .1 .1 .0), omega arith, refl)
 
 take-requires : tie.Need-take-requires Inv-loop μ-loop
 take-requires c κs =
@@ -29,8 +29,8 @@ take-requires c κs =
     let s = begin l in
     let a = s .args in (
       l .loop .inv .0 .ranked .ranking,
-      turn-someone (a .n) (a .m) (a .ends .now) (a .weights .now) (s .pre .0) (l .loop .i) (omega arith) (a .order .now) (a .falls .now)
-          (l .loop .work) (l .loop .order) (l .loop .falls) (l .loop .inv .0),
+      turn-some (a .n) (a .m) (a .ends .now) (a .weights .now) (s .pre .0) (l .loop .i) (omega arith) (a .order .now) (a .finals .now)
+          (l .loop .work) (l .loop .order) (l .loop .finals) (l .loop .inv .0),
     )
 
 cast-order : tie.Need-cast-order Inv-loop μ-loop
@@ -40,21 +40,21 @@ mul-order : tie.Need-mul-order Inv-loop μ-loop
 mul-order c = omega arith
 
 slice-write-order : tie.Need-slice-write-order Inv-loop μ-loop
-slice-write-order c = omega (arith, c .before .before .before .before .before .loop .inv .0 .turned .order-is .long)
+slice-write-order c = omega (arith, c .before .before .before .before .before .loop .inv .0 .written .order-is .long)
 
-mul-falls : tie.Need-mul-falls Inv-loop μ-loop
-mul-falls c = omega arith
+mul-finals : tie.Need-mul-finals Inv-loop μ-loop
+mul-finals c = omega arith
 
-slice-write-falls : tie.Need-slice-write-falls Inv-loop μ-loop
-slice-write-falls c = omega (arith, c .before .before .before .before .before .loop .inv .0 .turned .falls-are .long)
+slice-write-finals : tie.Need-slice-write-finals Inv-loop μ-loop
+slice-write-finals c = omega (arith, c .before .before .before .before .before .loop .inv .0 .written .finals-are .long)
 
-loosen-requires : tie.Need-loosen-requires Inv-loop μ-loop
-loosen-requires c κs =
+lower-neighbours-requires : tie.Need-lower-neighbours-requires Inv-loop μ-loop
+lower-neighbours-requires c κs =
     let l = c .before .before .before .before .before .before in
     let s = begin l in
     let a = s .args in (
-      turn-loosable (a .n) (a .m) (a .ends .now) (a .weights .now) (s .pre .0) (l .loop .i) (omega arith) (a .order .now) (a .falls .now)
-          (l .loop .work) (l .loop .order) (l .loop .falls) (l .loop .inv .0) _ _ (c .before .before .before .take .ensures),
+      turn-lowerable (a .n) (a .m) (a .ends .now) (a .weights .now) (s .pre .0) (l .loop .i) (omega arith) (a .order .now) (a .finals .now)
+          (l .loop .work) (l .loop .order) (l .loop .finals) (l .loop .inv .0) _ _ (c .before .before .before .take .ensures),
       (s .pre .1 .0, s .pre .1 .1 .0),
     )
 
@@ -71,27 +71,27 @@ loop-again c =
     let s = begin l in
     let a = s .args in
     let o = c .before .before in (
-      turn-next (a .n) (a .m) (a .ends .now) (a .weights .now) (s .pre .0) (l .loop .i) (omega arith) (a .order .now) (a .falls .now)
-          (l .loop .work) (l .loop .order) (l .loop .falls) (l .loop .inv .0)
-          _ _ (k .take .ensures) _ (o .loosen .ensures) (s .pre .1 .1 .1 .1 .0) (s .pre .1 .1 .1 .1 .1),
+      turn-next (a .n) (a .m) (a .ends .now) (a .weights .now) (s .pre .0) (l .loop .i) (omega arith) (a .order .now) (a .finals .now)
+          (l .loop .work) (l .loop .order) (l .loop .finals) (l .loop .inv .0)
+          _ _ (k .take .ensures) _ (o .lower-neighbours .ensures) (s .pre .1 .1 .1 .1 .0) (s .pre .1 .1 .1 .1 .1),
       omega arith,
-      o .loosen .kept .1 .1 .1 .1 .1 .1 .1 .1 .0 ∙ k .take .kept .0 ∙ l .loop .inv .2,
+      o .lower-neighbours .kept .1 .1 .1 .1 .1 .1 .1 .1 .0 ∙ k .take .kept .0 ∙ l .loop .inv .2,
     )
 
 same-length : tie.Need-same-length Inv-loop μ-loop
 same-length c = c .before .loop .inv .2
 
 same-length-2 : tie.Need-same-length-2 Inv-loop μ-loop
-same-length-2 c = c .before .loop .inv .0 .turned .order-is .long
+same-length-2 c = c .before .loop .inv .0 .written .order-is .long
 
 same-length-3 : tie.Need-same-length-3 Inv-loop μ-loop
-same-length-3 c = c .before .loop .inv .0 .turned .falls-are .long
+same-length-3 c = c .before .loop .inv .0 .written .finals-are .long
 
 returns : tie.Need-returns Inv-loop μ-loop
 returns c =
     let l = c .before in
     let all : l .loop .i ≡ begin l .args .n = omega arith in
-    rw all at (l .loop .inv .0 .turned)
+    rw all at (l .loop .inv .0 .written)
 
 pub turns-spec : {M : Type 1} → statement M
 turns-spec =
@@ -104,9 +104,9 @@ turns-spec =
     cast-order
     mul-order
     slice-write-order
-    mul-falls
-    slice-write-falls
-    loosen-requires
+    mul-finals
+    slice-write-finals
+    lower-neighbours-requires
     add-i
     loop-less
     loop-again

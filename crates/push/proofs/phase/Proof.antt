@@ -1,4 +1,4 @@
--- `push::phase` meets its contract: units move in `serve` alone. Assumes nothing.
+-- `push::phase` meets its contract: units move in `discharge_all` alone. Assumes nothing.
 use native.Mathlib.Omega.{arith}
 use borrow.Author.Needs.{needs}
 use Rattle.push.proofs.phase.Statement.{statement}
@@ -15,14 +15,14 @@ label-all-requires c κs =
     let q = c .before .before .before .before .before .before .before .before .before .before .pre in
     (q .0, (q .1 .0, ((q .1 .1 .0 .0, q .1 .1 .1 .1 .long), ((q .1 .1 .0 .1, q .1 .1 .0 .2, q .1 .1 .1 .0 .long), q .0))))
 
-slice-aggregate-line-up : tie.Need-slice-aggregate-line-up
-slice-aggregate-line-up c = search needs
+slice-aggregate-queue-active : tie.Need-slice-aggregate-queue-active
+slice-aggregate-queue-active c = search needs
 
-slice-aggregate-line-up-2 : tie.Need-slice-aggregate-line-up-2
-slice-aggregate-line-up-2 c = search needs
+slice-aggregate-queue-active-2 : tie.Need-slice-aggregate-queue-active-2
+slice-aggregate-queue-active-2 c = search needs
 
-line-up-requires : tie.Need-line-up-requires
-line-up-requires c κs = search needs
+queue-active-requires : tie.Need-queue-active-requires
+queue-active-requires c κs = search needs
 
 slice-aggregate-copy : tie.Need-slice-aggregate-copy
 slice-aggregate-copy c = search needs
@@ -30,20 +30,21 @@ slice-aggregate-copy c = search needs
 copy-requires : tie.Need-copy-requires
 copy-requires c κs = search needs
 
-slice-aggregate-serve : tie.Need-slice-aggregate-serve
-slice-aggregate-serve c = search needs
+slice-aggregate-discharge-all : tie.Need-slice-aggregate-discharge-all
+slice-aggregate-discharge-all c = search needs
 
-slice-aggregate-serve-2 : tie.Need-slice-aggregate-serve-2
-slice-aggregate-serve-2 c = search needs
+slice-aggregate-discharge-all-2 : tie.Need-slice-aggregate-discharge-all-2
+slice-aggregate-discharge-all-2 c = search needs
 
-slice-aggregate-serve-3 : tie.Need-slice-aggregate-serve-3
-slice-aggregate-serve-3 c = search needs
+slice-aggregate-discharge-all-3 : tie.Need-slice-aggregate-discharge-all-3
+slice-aggregate-discharge-all-3 c = search needs
 
-serve-requires : tie.Need-serve-requires
-serve-requires c κs =
-    let l = c .before .before .before .before .before .before .before .before .before .before .before .before .before .before .before .label-all in
-    let u = c .before .before .before .before .before .before .before .before .before .line-up in
-    let q = c .before .before .before .before .before .before .before .before .before .before .before .before .before .before .before .before .before .before .before .before .before .before .before .before .before .before .pre in (
+discharge-all-requires : tie.Need-discharge-all-requires
+discharge-all-requires c κs =
+    let a = c .before .before .before .before .before .before .before .before .before .before .before .before .before .before .before in
+    let l = a .label-all in
+    let u = c .before .before .before .before .before .before .before .before .before .queue-active in
+    let q = a .before .before .before .before .before .before .before .before .before .before .before .pre in (
       q .0,
       (
         q .1 .0,
@@ -80,15 +81,15 @@ phase-spec =
     slice-aggregate-label-all
     slice-aggregate-label-all-2
     label-all-requires
-    slice-aggregate-line-up
-    slice-aggregate-line-up-2
-    line-up-requires
+    slice-aggregate-queue-active
+    slice-aggregate-queue-active-2
+    queue-active-requires
     slice-aggregate-copy
     copy-requires
-    slice-aggregate-serve
-    slice-aggregate-serve-2
-    slice-aggregate-serve-3
-    serve-requires
+    slice-aggregate-discharge-all
+    slice-aggregate-discharge-all-2
+    slice-aggregate-discharge-all-3
+    discharge-all-requires
     same-length
     same-length-2
     returns)

@@ -27,8 +27,8 @@ loop-holds c = kept-none _ _ _ _ _
 sub-left : tie.Need-sub-left Inv-loop μ-loop
 sub-left c = omega arith
 
-strained-requires : tie.Need-strained-requires Inv-loop μ-loop
-strained-requires c κs = let q = begin (c .before .before) .pre in omega (arith, c .before .before .loop .inv .load-long, q .1 .1 .1 .1 .long)
+any-active-requires : tie.Need-any-active-requires Inv-loop μ-loop
+any-active-requires c κs = let q = begin (c .before .before) .pre in omega (arith, c .before .before .loop .inv .load-long, q .1 .1 .1 .1 .long)
 
 same-length : tie.Need-same-length Inv-loop μ-loop
 same-length c = c .before .before .before .before .loop .inv .hold-long
@@ -40,7 +40,11 @@ returns : tie.Need-returns Inv-loop μ-loop
 returns c = c .before .before .before .before .loop .inv
 
 phase-requires : tie.Need-phase-requires Inv-loop μ-loop
-phase-requires c κs = let q = begin (c .before .before .before .before .before .before) .pre in let k = c .before .before .before .before .before .before .loop .inv in (q .0, (q .1 .0, (q .1 .1 .0, (kept-room k (q .1 .1 .1 .0), kept-covers k (q .1 .1 .1 .1)))))
+phase-requires c κs =
+    let l = c .before .before .before .before .before .before in
+    let q = begin l .pre in
+    let k = l .loop .inv in
+    (q .0, (q .1 .0, (q .1 .1 .0, (kept-room k (q .1 .1 .1 .0), kept-covers k (q .1 .1 .1 .1)))))
 
 same-length-3 : tie.Need-same-length-3 Inv-loop μ-loop
 same-length-3 c = so-far (c .before .before .before .before .before) .hold-long
@@ -74,7 +78,7 @@ phases-spec =
     μ-loop
     loop-holds
     sub-left
-    strained-requires
+    any-active-requires
     same-length
     same-length-2
     returns

@@ -4,12 +4,13 @@ use Prim.Native.Nat.{_+_, _*_, _-_, _<_}
 use lib.ListN.{length-set}
 use Rattle.slots.specs.Slots.{Ends}
 use Rattle.slots.specs.Split.{Weights}
-use Rattle.slots.proofs.Spreading.{Laid, laid-start, laid-next, laid-end}
+use Rattle.slots.specs.Rows.{first-end, second-end}
+use Rattle.slots.proofs.Spreading.{Split-upto, split-start, split-next, split-end}
 use Rattle.slots.proofs.spread.Statement.{statement}
 use Rattle.slots.proofs.spread.Tie as tie
 
 abbrev Inv-loop : tie.InvT-loop
-Inv-loop n m q old ends weights scope hold₀ j₀ hold j = Ends n m ends × Weights m weights × Laid m q j ends weights scope hold₀ hold
+Inv-loop n m q old ends weights scope hold₀ j₀ hold j = Ends n m ends × Weights m weights × Split-upto m q j ends weights scope hold₀ hold
 
 abbrev μ-loop : tie.MeasureT-loop
 μ-loop n m q old ends weights scope hold₀ j₀ hold j = m - j
@@ -19,48 +20,28 @@ abbrev begin : tie.At-loop Inv-loop μ-loop → tie.Start Inv-loop μ-loop
 begin c = c .before .before .before .before .before
 
 -- the modules of the pair at hand
-modules-low : (c : tie.After-wide2 Inv-loop μ-loop) →
-    let a = begin (c .before .before .before .before .before) .args in (c .before .before .wide .result < a .n) × (c .wide2 .result < a .n)
+modules-low : (c : tie.After-second-end Inv-loop μ-loop) →
+    let a = begin (c .before .before .before) .args in (c .before .first-end .result < a .n) × (c .second-end .result < a .n)
+unfolding first-end second-end
 modules-low c =
-    let e = c .before .before .before .before .before .loop .inv .0 in
-    let j = c .before .before .before .before .before .loop .j in (
-      omega (arith, e .below (2 * j) (omega arith), c .before .before .wide .ensures),
-      omega (arith, e .below (2 * j + 1) (omega arith), c .wide2 .ensures),
+    let e = c .before .before .before .loop .inv .0 in
+    let j = c .before .before .before .loop .j in (
+      omega (arith, e .below (2 * j) (omega arith), c .before .first-end .ensures),
+      omega (arith, e .below (2 * j + 1) (omega arith), c .second-end .ensures),
     )
 
 loop-holds : tie.Need-loop-holds Inv-loop μ-loop
 loop-holds c = (
   c .before .before .before .before .pre .0,
   c .before .before .before .before .pre .1 .0,
-  laid-start (c .before .before .before .before .pre .1 .1 .1 .1 .long),
+  split-start (c .before .before .before .before .pre .1 .1 .1 .1 .long),
 )
 
-mul-wide : tie.Need-mul-wide Inv-loop μ-loop
-mul-wide c = omega arith
+first-end-requires : tie.Need-first-end-requires Inv-loop μ-loop
+first-end-requires c κs = omega arith
 
-mul-wide-2 : tie.Need-mul-wide-2 Inv-loop μ-loop
-mul-wide-2 c = omega arith
-
-shared-slice-read-wide : tie.Need-shared-slice-read-wide Inv-loop μ-loop
-shared-slice-read-wide c = omega arith
-
-wide-requires : tie.Need-wide-requires Inv-loop μ-loop
-wide-requires c κs = tt
-
-mul-wide-3 : tie.Need-mul-wide-3 Inv-loop μ-loop
-mul-wide-3 c = omega arith
-
-add-wide : tie.Need-add-wide Inv-loop μ-loop
-add-wide c = omega arith
-
-mul-wide-4 : tie.Need-mul-wide-4 Inv-loop μ-loop
-mul-wide-4 c = omega arith
-
-shared-slice-read-wide-2 : tie.Need-shared-slice-read-wide-2 Inv-loop μ-loop
-shared-slice-read-wide-2 c = omega arith
-
-wide-requires-2 : tie.Need-wide-requires-2 Inv-loop μ-loop
-wide-requires-2 c κs = tt
+second-end-requires : tie.Need-second-end-requires Inv-loop μ-loop
+second-end-requires c κs = omega arith
 
 mul-pair-units : tie.Need-mul-pair-units Inv-loop μ-loop
 mul-pair-units c = omega arith
@@ -76,9 +57,8 @@ shared-slice-read-pair-units-3 c = let l = modules-low (c .before .before .befor
 
 pair-units-requires : tie.Need-pair-units-requires Inv-loop μ-loop
 pair-units-requires c κs = (
-  c .before .before .before .before .before .before .before .before .loop .inv .1 .small
-      (c .before .before .before .before .before .before .before .before .loop .j) (omega arith),
-  begin (c .before .before .before .before .before .before .before .before) .pre .1 .1 .1 .0,
+  c .before .before .before .before .before .before .loop .inv .1 .small (c .before .before .before .before .before .before .loop .j) (omega arith),
+  begin (c .before .before .before .before .before .before) .pre .1 .1 .1 .0,
 )
 
 mul-first-part : tie.Need-mul-first-part Inv-loop μ-loop
@@ -92,12 +72,12 @@ slice-read-first-part c = omega arith
 
 first-part-requires : tie.Need-first-part-requires Inv-loop μ-loop
 first-part-requires c κs =
-    let s = 2 * c .before .before .before .before .before .before .before .before .before .before .loop .j in (
-      begin (c .before .before .before .before .before .before .before .before .before .before) .pre .1 .1 .1 .0,
+    let s = 2 * c .before .before .before .before .before .before .before .before .loop .j in (
+      begin (c .before .before .before .before .before .before .before .before) .pre .1 .1 .1 .0,
       omega (
         arith,
-        c .before .before .before .before .before .before .before .before .before .before .loop .inv .2 .rest s (omega arith),
-        begin (c .before .before .before .before .before .before .before .before .before .before) .pre .1 .1 .1 .1 .small s (omega arith),
+        c .before .before .before .before .before .before .before .before .loop .inv .2 .rest s (omega arith),
+        begin (c .before .before .before .before .before .before .before .before) .pre .1 .1 .1 .1 .small s (omega arith),
       ),
     )
 
@@ -132,19 +112,20 @@ loop-less : tie.Need-loop-less Inv-loop μ-loop
 loop-less c = omega arith
 
 loop-again : tie.Need-loop-again Inv-loop μ-loop
+unfolding first-end second-end
 loop-again c =
-    let i = c .before .before .before .before .before .before .before .before .before .before .before .loop .inv in (
+    let i = c .before .before .before .before .before .before .before .before .before .loop .inv in (
       i .0,
       i .1,
-      laid-next _ _ _ _ (i .2) (omega arith) (c .before .before .before .before .before .before .before .before .wide .ensures)
-          (c .before .before .before .before .before .before .wide2 .ensures) (c .before .before .pair-units .ensures) (c .first-part .ensures),
+      split-next _ _ _ _ (i .2) (omega arith) (c .before .before .before .before .before .before .before .first-end .ensures)
+          (c .before .before .before .before .before .before .second-end .ensures) (c .before .before .pair-units .ensures) (c .first-part .ensures),
     )
 
 same-length : tie.Need-same-length Inv-loop μ-loop
 same-length c = c .before .loop .inv .2 .long
 
 returns : tie.Need-returns Inv-loop μ-loop
-returns c = laid-end (c .before .loop .inv .2) (omega arith)
+returns c = split-end (c .before .loop .inv .2) (omega arith)
 
 pub spread-spec : {M : Type 1} → statement M
 spread-spec =
@@ -153,15 +134,8 @@ spread-spec =
     Inv-loop
     μ-loop
     loop-holds
-    mul-wide
-    mul-wide-2
-    shared-slice-read-wide
-    wide-requires
-    mul-wide-3
-    add-wide
-    mul-wide-4
-    shared-slice-read-wide-2
-    wide-requires-2
+    first-end-requires
+    second-end-requires
     mul-pair-units
     shared-slice-read-pair-units
     shared-slice-read-pair-units-2

@@ -1,0 +1,372 @@
+-- `flow::search::search` meets its contract. The measures: the modules not yet looked at and those not reached; the link. Assumes nothing.
+use borrow.Author.Needs.{needs}
+use native.Mathlib.Omega.{arith}
+use mathlib.Core.Path.{_≡_, refl, sym, _∙_}
+use Prim.Native.Nat.{_+_, _*_, _-_, _≤_, _<_}
+use lib.ListN.{length, length-set}
+use Rattle.flow.proofs.Leads.{Leads-out, leads-out}
+use Rattle.flow.proofs.Visiting.{Search-input, Scan, scan-start, visit-room, scan-on, scan-found, scan-shut}
+use Rattle.flow.proofs.search.search.Statement.{statement}
+use Rattle.flow.proofs.search.search.Tie as tie
+
+abbrev Inv-loop : tie.InvT-loop
+Inv-loop n m p root ends first next hold load rank₀ from₀ slots queue₀ at tail₀ u s₀ rank from queue tail s =
+    Scan n m p root ends hold load rank from queue tail × Search-input n m ends first next hold load × (n ≤ length rank) × (n ≤ length from)
+    × (at ≤ tail) × (tail₀ ≤ tail) × (s ≤ 2 * m) × (length rank ≡ length rank₀) × (length from ≡ length from₀)
+
+abbrev μ-loop : tie.MeasureT-loop
+μ-loop n m p root ends first next hold load rank₀ from₀ slots queue₀ at tail₀ u s₀ rank from queue tail s = s
+
+abbrev Inv-scan : tie.InvT-scan
+Inv-scan n m p root ends first next hold load rank₀ from₀ slots queue₀ at₀ tail₀ rank from queue at tail =
+    Scan n m p root ends hold load rank from queue tail × Search-input n m ends first next hold load × (n ≤ length rank) × (n ≤ length from)
+    × (at ≤ tail) × (slots ≡ 2 * m) × (length rank ≡ length rank₀) × (length from ≡ length from₀)
+
+abbrev μ-scan : tie.MeasureT-scan
+μ-scan n m p root ends first next hold load rank₀ from₀ slots queue₀ at₀ tail₀ rank from queue at tail = (n - at) + (n - tail)
+
+-- the function's entry
+abbrev begin : tie.At-scan Inv-loop μ-loop Inv-scan μ-scan → tie.Start Inv-loop μ-loop Inv-scan μ-scan
+begin c = c .before .before .before .before .before .before .before .before .before .before .before .before
+
+-- from a slot that leads out, and from a module that is reached, back to the loops
+abbrev scan-of : tie.Else2 Inv-loop μ-loop Inv-scan μ-scan → tie.At-scan Inv-loop μ-loop Inv-scan μ-scan
+scan-of c = c .before .before .before .before
+
+abbrev exit-of : tie.After-visit Inv-loop μ-loop Inv-scan μ-scan → tie.Else2 Inv-loop μ-loop Inv-scan μ-scan
+exit-of c = c .before .before .before .before
+
+abbrev loop-of : tie.Then4 Inv-loop μ-loop Inv-scan μ-scan → tie.At-loop Inv-loop μ-loop Inv-scan μ-scan
+loop-of c = c .before .before .before .before .before .before
+
+abbrev link-of : tie.After-visit2 Inv-loop μ-loop Inv-scan μ-scan → tie.Then4 Inv-loop μ-loop Inv-scan μ-scan
+link-of c = c .before .before .before .before
+
+abbrev outer : tie.At-loop Inv-loop μ-loop Inv-scan μ-scan → tie.At-scan Inv-loop μ-loop Inv-scan μ-scan
+outer c = c .before .before .before .before .before
+
+-- the slot that the scan over all slots found
+exit-way : (c : tie.Else2 Inv-loop μ-loop Inv-scan μ-scan) → let l = scan-of c in let a = begin l .args in
+    Leads-out (a .n) (a .m) (a .ends .now) (a .hold .now) (l .scan .rank) (c .before .exit .result)
+exit-way c =
+    let i = scan-of c .scan .inv in
+    let x = c .before .exit .ensures in
+    let l : c .before .exit .result < 2 * begin (scan-of c) .args .m = omega (arith, x .within) in
+    leads-out (i .1 .pairs) (i .2) l (x .found l)
+
+exit-room : (c : tie.Else2 Inv-loop μ-loop Inv-scan μ-scan) → scan-of c .scan .tail < begin (scan-of c) .args .n
+exit-room c = visit-room (scan-of c .scan .inv .0) (exit-way c)
+
+-- the module that it leads to
+exit-low : (c : tie.After-visit Inv-loop μ-loop Inv-scan μ-scan) → c .visit .result < begin (scan-of (exit-of c)) .args .n
+exit-low c = omega (arith, c .visit .ensures .at, exit-way (exit-of c) .mate-low)
+
+-- the slot of the link
+link-way : (c : tie.Then4 Inv-loop μ-loop Inv-scan μ-scan) → let l = loop-of c in let a = begin (outer l) .args in
+    Leads-out (a .n) (a .m) (a .ends .now) (a .hold .now) (l .loop .rank) (l .loop .s - 1)
+link-way c =
+    let i = loop-of c .loop .inv in
+    leads-out (i .1 .pairs) (i .2) (omega arith) (sym (c .before .leading .ensures) ∙ c .if4 .taken)
+
+link-room : (c : tie.Then4 Inv-loop μ-loop Inv-scan μ-scan) → loop-of c .loop .tail < begin (outer (loop-of c)) .args .n
+link-room c = visit-room (loop-of c .loop .inv .0) (link-way c)
+
+link-low : (c : tie.After-visit2 Inv-loop μ-loop Inv-scan μ-scan) → c .visit2 .result < begin (outer (loop-of (link-of c))) .args .n
+link-low c = omega (arith, c .visit2 .ensures .at, link-way (link-of c) .mate-low)
+
+-- the module taken from the queue
+module-low : (c : tie.After-wide Inv-loop μ-loop Inv-scan μ-scan) → c .wide .result < begin (c .before .before) .args .n
+module-low c = omega (arith, c .wide .ensures, c .before .before .scan .inv .0 .queued (c .before .before .scan .at) (omega arith))
+
+-- the ranks' buffer keeps its length
+rank-start : (c : tie.At-scan Inv-loop μ-loop Inv-scan μ-scan) → length (c .scan .rank) ≡ length (begin c .args .rank .now)
+rank-start c = (simp length-set at (c .scan .inv .6)) ∙ c .before .before .before .clear .kept .1 .0
+
+-- the root is a module with a rank
+root-low : (c : tie.After-slice-known3 Inv-loop μ-loop Inv-scan μ-scan) →
+    c .before .before .before .before .before .before .before .before .before .before .before .args .root < length
+    (c .before .before .clear .last .1 .0)
+root-low c =
+    let q = c .before .before .before .before .before .before .before .before .before .before .before .pre .1 .1 .1 .1 in
+    omega (arith, c .before .before .clear .kept .1 .0, q .0 .0, q .1 .0)
+
+mul-slots : tie.Need-mul-slots Inv-loop μ-loop Inv-scan μ-scan
+mul-slots c = omega (arith, c .before .before .before .before .before .before .before .pre .1 .0 .few)
+
+clear-requires : tie.Need-clear-requires Inv-loop μ-loop Inv-scan μ-scan
+clear-requires c κs = c .before .before .before .before .before .before .before .before .pre .1 .1 .1 .1 .0 .0
+
+mul-rank : tie.Need-mul-rank Inv-loop μ-loop Inv-scan μ-scan
+mul-rank c = omega (arith, root-low c)
+
+slice-write-rank : tie.Need-slice-write-rank Inv-loop μ-loop Inv-scan μ-scan
+slice-write-rank c = omega (arith, root-low c)
+
+cast-queue : tie.Need-cast-queue Inv-loop μ-loop Inv-scan μ-scan
+cast-queue c = omega arith
+
+array-write-queue : tie.Need-array-write-queue Inv-loop μ-loop Inv-scan μ-scan
+array-write-queue c = search needs
+
+scan-holds : tie.Need-scan-holds Inv-loop μ-loop Inv-scan μ-scan
+scan-holds c =
+    let s = c .before .before .before .before .before .before .before .before .before .before .before in
+    let q = s .pre in
+    let r = q .1 .1 .1 .1 in
+    let ranks = c .before .before .clear .last .1 .0 in
+    let l : s .args .n ≤ length ranks = omega (arith, c .before .before .clear .kept .1 .0, r .0 .0) in (
+      scan-start _ _ ranks (r .1 .0) l (c .before .before .clear .ensures) (r .0 .1) (r .1 .1) refl refl,
+      record {
+        small = q .0;
+        pairs = q .1 .0;
+        first-long = q .1 .1 .0 .0;
+        next-long = q .1 .1 .0 .1;
+        hold-long = q .1 .1 .1 .0 .0;
+        load-long = q .1 .1 .1 .0 .1;
+      },
+      simp length-set l,
+      r .0 .1,
+      omega arith,
+      refl,
+      refl,
+      refl,
+    )
+
+exit-requires : tie.Need-exit-requires Inv-loop μ-loop Inv-scan μ-scan
+exit-requires c κs = let i = c .before .before .scan .inv in (i .1 .pairs, (i .1 .hold-long, i .2))
+
+slice-aggregate-visit : tie.Need-slice-aggregate-visit Inv-loop μ-loop Inv-scan μ-scan
+slice-aggregate-visit c = sym (c .before .before .before .before .before .before .before .scan .inv .0 .queue-long)
+
+visit-requires : tie.Need-visit-requires Inv-loop μ-loop Inv-scan μ-scan
+visit-requires c κs =
+    let i = c .before .before .before .before .before .before .before .scan .inv in (
+      i .1 .pairs,
+      (exit-way (c .before .before .before) .slot, (i .2, (i .3, (omega (arith, exit-room (c .before .before .before)), i .0 .queue-long)))),
+    )
+
+add-tail : tie.Need-add-tail Inv-loop μ-loop Inv-scan μ-scan
+add-tail c = omega (arith, exit-room (c .before .before .before .before .before .before .before .before .before))
+
+mul-if3 : tie.Need-mul-if3 Inv-loop μ-loop Inv-scan μ-scan
+mul-if3 c = omega (arith, exit-low (c .before .before .before .before .before))
+
+shared-slice-read-if3 : tie.Need-shared-slice-read-if3 Inv-loop μ-loop Inv-scan μ-scan
+shared-slice-read-if3 c = omega (arith, exit-low (c .before .before .before .before .before .before))
+
+scan-less : tie.Need-scan-less Inv-loop μ-loop Inv-scan μ-scan
+scan-less c = omega (arith, exit-room (exit-of (c .before .before .before .before .before .before .before)))
+
+scan-again : tie.Need-scan-again Inv-loop μ-loop Inv-scan μ-scan
+scan-again c =
+    let r = c .before .before .before .before .before .before .before in
+    let e = exit-of r in
+    let i = scan-of e .scan .inv in
+    let k = r .visit .kept .1 .1 .1 .1 .1 in (
+      scan-on (i .0) (exit-way e) (i .1 .small) (r .visit .ensures) (c .if3 .left),
+      i .1,
+      omega (arith, k .0),
+      omega (arith, k .1 .0),
+      omega arith,
+      refl,
+      k .0 ∙ i .6,
+      k .1 .0 ∙ i .7,
+    )
+
+mul-wide : tie.Need-mul-wide Inv-loop μ-loop Inv-scan μ-scan
+mul-wide c = omega arith
+
+array-read-wide : tie.Need-array-read-wide Inv-loop μ-loop Inv-scan μ-scan
+array-read-wide c = omega arith
+
+wide-requires : tie.Need-wide-requires Inv-loop μ-loop Inv-scan μ-scan
+wide-requires c κs = tt
+
+add-at : tie.Need-add-at Inv-loop μ-loop Inv-scan μ-scan
+add-at c = omega arith
+
+mul-capped : tie.Need-mul-capped Inv-loop μ-loop Inv-scan μ-scan
+mul-capped c = omega (arith, module-low c)
+
+shared-slice-read-capped : tie.Need-shared-slice-read-capped Inv-loop μ-loop Inv-scan μ-scan
+shared-slice-read-capped c = omega (arith, module-low (c .before))
+
+capped-requires : tie.Need-capped-requires Inv-loop μ-loop Inv-scan μ-scan
+capped-requires c κs = tt
+
+loop-holds : tie.Need-loop-holds Inv-loop μ-loop Inv-scan μ-scan
+loop-holds c =
+    let i = c .before .before .before .before .scan .inv in
+    (i .0, i .1, i .2, i .3, omega arith, omega arith, omega (arith, c .capped .ensures .0), refl, refl)
+
+scan-less-2 : tie.Need-scan-less-2 Inv-loop μ-loop Inv-scan μ-scan
+scan-less-2 c = omega arith
+
+scan-again-2 : tie.Need-scan-again-2 Inv-loop μ-loop Inv-scan μ-scan
+scan-again-2 c =
+    let i = c .before .loop .inv in
+    let j = c .before .before .before .before .before .before .scan .inv in
+    (i .0, i .1, i .2, i .3, i .4, refl, i .7 ∙ j .6, i .8 ∙ j .7)
+
+sub-k : tie.Need-sub-k Inv-loop μ-loop Inv-scan μ-scan
+sub-k c = omega arith
+
+mul-capped-2 : tie.Need-mul-capped-2 Inv-loop μ-loop Inv-scan μ-scan
+mul-capped-2 c = omega arith
+
+shared-slice-read-capped-2 : tie.Need-shared-slice-read-capped-2 Inv-loop μ-loop Inv-scan μ-scan
+shared-slice-read-capped-2 c = omega arith
+
+capped-requires-2 : tie.Need-capped-requires-2 Inv-loop μ-loop Inv-scan μ-scan
+capped-requires-2 c κs = tt
+
+leading-requires : tie.Need-leading-requires Inv-loop μ-loop Inv-scan μ-scan
+leading-requires c κs = let i = c .before .before .before .before .loop .inv in (i .1 .pairs, (omega arith, (i .1 .hold-long, i .2)))
+
+slice-aggregate-visit-2 : tie.Need-slice-aggregate-visit-2 Inv-loop μ-loop Inv-scan μ-scan
+slice-aggregate-visit-2 c = sym (c .before .before .before .before .before .before .before .before .before .loop .inv .0 .queue-long)
+
+visit-requires-2 : tie.Need-visit-requires-2 Inv-loop μ-loop Inv-scan μ-scan
+visit-requires-2 c κs =
+    let i = c .before .before .before .before .before .before .before .before .before .loop .inv in (
+      i .1 .pairs,
+      (link-way (c .before .before .before) .slot, (i .2, (i .3, (omega (arith, link-room (c .before .before .before)), i .0 .queue-long)))),
+    )
+
+add-tail-2 : tie.Need-add-tail-2 Inv-loop μ-loop Inv-scan μ-scan
+add-tail-2 c = omega (arith, link-room (c .before .before .before .before .before .before .before .before .before))
+
+mul-if5 : tie.Need-mul-if5 Inv-loop μ-loop Inv-scan μ-scan
+mul-if5 c = omega (arith, link-low (c .before .before .before .before .before))
+
+shared-slice-read-if5 : tie.Need-shared-slice-read-if5 Inv-loop μ-loop Inv-scan μ-scan
+shared-slice-read-if5 c = omega (arith, link-low (c .before .before .before .before .before .before))
+
+loop-less : tie.Need-loop-less Inv-loop μ-loop Inv-scan μ-scan
+loop-less c =
+    let e = link-of (c .before .before .before .before .before .before .before) in omega (arith, e .before .before .before .capped2 .ensures .0)
+
+loop-again : tie.Need-loop-again Inv-loop μ-loop Inv-scan μ-scan
+loop-again c =
+    let r = c .before .before .before .before .before .before .before in
+    let e = link-of r in
+    let i = loop-of e .loop .inv in
+    let k = r .visit2 .kept .1 .1 .1 .1 .1 in (
+      scan-on (i .0) (link-way e) (i .1 .small) (r .visit2 .ensures) (c .if5 .left),
+      i .1,
+      omega (arith, k .0),
+      omega (arith, k .1 .0),
+      omega arith,
+      omega arith,
+      omega (arith, e .before .before .before .capped2 .ensures .0),
+      k .0 ∙ i .7,
+      k .1 .0 ∙ i .8,
+    )
+
+loop-less-2 : tie.Need-loop-less-2 Inv-loop μ-loop Inv-scan μ-scan
+loop-less-2 c = omega (arith, c .before .before .before .capped2 .ensures .0)
+
+loop-again-2 : tie.Need-loop-again-2 Inv-loop μ-loop Inv-scan μ-scan
+loop-again-2 c =
+    let i = c .before .before .before .before .before .before .loop .inv in
+    (i .0, i .1, i .2, i .3, i .4, i .5, omega (arith, c .before .before .before .capped2 .ensures .0), i .7, i .8)
+
+same-length : tie.Need-same-length Inv-loop μ-loop Inv-scan μ-scan
+same-length c = rank-start (c .before .before .before .before)
+
+same-length-2 : tie.Need-same-length-2 Inv-loop μ-loop Inv-scan μ-scan
+same-length-2 c = c .before .before .before .before .scan .inv .7
+
+returns : tie.Need-returns Inv-loop μ-loop Inv-scan μ-scan
+returns c = scan-shut (c .before .before .before .before .scan .inv .0) (c .before .exit .ensures) (c .if2 .taken)
+
+same-length-3 : tie.Need-same-length-3 Inv-loop μ-loop Inv-scan μ-scan
+same-length-3 c =
+    let r = c .before .before .before .before .before .before .before in r .visit .kept .1 .1 .1 .1 .1 .0 ∙ rank-start (scan-of (exit-of r))
+
+same-length-4 : tie.Need-same-length-4 Inv-loop μ-loop Inv-scan μ-scan
+same-length-4 c =
+    let r = c .before .before .before .before .before .before .before in r .visit .kept .1 .1 .1 .1 .1 .1 .0 ∙ scan-of (exit-of r) .scan .inv .7
+
+returns-2 : tie.Need-returns-2 Inv-loop μ-loop Inv-scan μ-scan
+returns-2 c =
+    let r = c .before .before .before .before .before .before .before in
+    let e = exit-of r in
+    let i = scan-of e .scan .inv in
+    scan-found (i .0) (exit-way e) (i .1 .small) (r .visit .ensures) (c .if3 .taken)
+
+same-length-5 : tie.Need-same-length-5 Inv-loop μ-loop Inv-scan μ-scan
+same-length-5 c =
+    let r = c .before .before .before .before .before .before .before in
+    let l = loop-of (link-of r) in
+    r .visit2 .kept .1 .1 .1 .1 .1 .0 ∙ l .loop .inv .7 ∙ rank-start (outer l)
+
+same-length-6 : tie.Need-same-length-6 Inv-loop μ-loop Inv-scan μ-scan
+same-length-6 c =
+    let r = c .before .before .before .before .before .before .before in
+    let l = loop-of (link-of r) in
+    r .visit2 .kept .1 .1 .1 .1 .1 .1 .0 ∙ l .loop .inv .8 ∙ outer l .scan .inv .7
+
+returns-3 : tie.Need-returns-3 Inv-loop μ-loop Inv-scan μ-scan
+returns-3 c =
+    let r = c .before .before .before .before .before .before .before in
+    let e = link-of r in
+    let i = loop-of e .loop .inv in
+    scan-found (i .0) (link-way e) (i .1 .small) (r .visit2 .ensures) (c .if5 .taken)
+
+pub search-spec : {M : Type 1} → statement M
+search-spec =
+    tie.close
+    (tie.spec
+    Inv-loop
+    μ-loop
+    Inv-scan
+    μ-scan
+    mul-slots
+    clear-requires
+    mul-rank
+    slice-write-rank
+    cast-queue
+    array-write-queue
+    scan-holds
+    exit-requires
+    slice-aggregate-visit
+    visit-requires
+    add-tail
+    mul-if3
+    shared-slice-read-if3
+    scan-less
+    scan-again
+    mul-wide
+    array-read-wide
+    wide-requires
+    add-at
+    mul-capped
+    shared-slice-read-capped
+    capped-requires
+    loop-holds
+    scan-less-2
+    scan-again-2
+    sub-k
+    mul-capped-2
+    shared-slice-read-capped-2
+    capped-requires-2
+    leading-requires
+    slice-aggregate-visit-2
+    visit-requires-2
+    add-tail-2
+    mul-if5
+    shared-slice-read-if5
+    loop-less
+    loop-again
+    loop-less-2
+    loop-again-2
+    same-length
+    same-length-2
+    returns
+    same-length-3
+    same-length-4
+    returns-2
+    same-length-5
+    same-length-6
+    returns-3)

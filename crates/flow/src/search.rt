@@ -1,0 +1,188 @@
+// Searches for chains (augmenting paths): breadth first from a module loaded above p along slots that hold units, to the first module loaded below p;
+// then units are pulled along the chain.
+use crate::exits::exit;
+use crate::exits::leading;
+use numbers::lesser;
+use slots::capped;
+use slots::clear;
+use slots::other;
+use slots::shift;
+use slots::wide;
+ghost use mathlib.Core.Path.{_≡_};
+ghost use Prim.Native.Nat.{_*_, _≤_, _<_};
+ghost use lib.ListN.{length, getD};
+ghost use Rattle.slots.specs.Slots.{Ends, Room, Covers};
+ghost use Rattle.flow.specs.Search.{Visited, Tree, Chain-found, Pulled, Settled};
+
+// The module that slot k leads to is visited, as number `tail` of the queue.
+fn visit(
+    n: usize,
+    m: usize,
+    k: usize,
+    tail: usize,
+    ends: &[u32],
+    rank: &mut [u32],
+    from: &mut [u32],
+    queue: &mut [u32],
+) -> usize
+    requires { ⌜ Ends n m (now ends) ⌝ }
+    requires { ⌜ k < 2 * m ⌝ }
+    requires { ⌜ n ≤ length (now rank) ⌝ }
+    requires { ⌜ n ≤ length (now from) ⌝ }
+    requires { ⌜ (tail < 512) × (length (now queue) ≡ 512) ⌝ }
+    ensures { λ r. ⌜ Visited (now (ends .entry)) k tail (now (rank .entry)) (now (from .entry)) (now (queue .entry)) (now (rank .exit))
+        (now (from .exit)) (now (queue .exit)) r ⌝ }
+{
+    let e = ends[other(k)];
+    let v = wide(e);
+    rank[v] = (tail + 1) as u32;
+    from[v] = k as u32;
+    queue[tail] = e;
+    v
+}
+
+// Breadth first from the root along slots that hold units: the first module found that is loaded below p, or n.
+fn search(
+    n: usize,
+    m: usize,
+    p: u32,
+    root: usize,
+    ends: &[u32],
+    first: &[u32],
+    next: &[u32],
+    hold: &[u32],
+    load: &[u32],
+    rank: &mut [u32],
+    from: &mut [u32],
+) -> usize
+    requires { ⌜ n ≤ 512 ⌝ }
+    requires { ⌜ Ends n m (now ends) ⌝ }
+    requires { ⌜ (n ≤ length (now first)) × (2 * m ≤ length (now next)) ⌝ }
+    requires { ⌜ (2 * m ≤ length (now hold)) × (n ≤ length (now load)) ⌝ }
+    requires { ⌜ (n ≤ length (now rank)) × (n ≤ length (now from)) ⌝ }
+    requires { ⌜ (root < n) × (p ≤ getD (now load) root 0) ⌝ }
+    ensures { λ r. ⌜ Chain-found n m p root (now (ends .entry)) (now (hold .entry)) (now (load .entry)) (now (rank .exit)) (now (from .exit)) r ⌝ }
+{
+    let slots = 2 * m;
+    let mut queue = [0u32; 512];
+    clear(n, rank);
+    rank[root] = 1;
+    queue[0] = root as u32;
+    let mut at = 0;
+    let mut tail = 1;
+    let found = 'scan: loop {
+        if tail <= at {
+            let k = exit(n, m, ends, hold, rank);
+            if k == slots {
+                break 'scan n;
+            }
+            let v = visit(n, m, k, tail, ends, rank, from, &mut queue);
+            tail = tail + 1;
+            if load[v] < p {
+                break 'scan v;
+            }
+        } else {
+            let u = wide(queue[at]);
+            at = at + 1;
+            let mut s = capped(first[u], slots);
+            while s > 0 {
+                let k = s - 1;
+                let t = capped(next[k], k);
+                if leading(n, m, k, ends, hold, rank) {
+                    let v = visit(n, m, k, tail, ends, rank, from, &mut queue);
+                    tail = tail + 1;
+                    if load[v] < p {
+                        break 'scan v;
+                    }
+                }
+                s = t;
+            }
+        }
+    };
+    found
+}
+
+// Units move towards `found` along the chain by which it was reached, from its end backward, until a module on it keeps p or more.
+fn pull(
+    n: usize,
+    m: usize,
+    p: u32,
+    root: usize,
+    found: usize,
+    ends: &[u32],
+    rank: &[u32],
+    from: &[u32],
+    hold: &mut [u32],
+    load: &mut [u32],
+)
+    requires { ⌜ Ends n m (now ends) ⌝ }
+    requires { ⌜ Room m (now hold) ⌝ }
+    requires { ⌜ Covers n m (now ends) (now hold) (now load) ⌝ }
+    requires { ⌜ Tree n m root (getD (now rank) found 0) (now ends) (now hold) (now rank) (now from) ⌝ }
+    requires { ⌜ (root < n) × (p < getD (now load) root 0) ⌝ }
+    requires { ⌜ (found < n) × (0 < getD (now rank) found 0) × (getD (now load) found 0 < p) ⌝ }
+    ensures { λ r. ⌜ Pulled n m p (now (ends .entry)) (now (hold .entry)) (now (load .entry)) (now (hold .exit)) (now (load .exit)) ⌝ }
+{
+    let mut c = found;
+    loop {
+        let k = wide(from[c]);
+        let u = wide(ends[k]);
+        let d = lesser(p - load[c], hold[k]);
+        shift(n, m, k, d, ends, hold, load);
+        if p <= load[u] {
+            return;
+        }
+        if u == root {
+            return;
+        }
+        c = u;
+    }
+}
+
+// Searches and pulls until no load is above p. False: the last search reached a set that no unit can leave.
+pub(crate) fn settle(
+    n: usize,
+    m: usize,
+    p: u32,
+    ends: &[u32],
+    first: &[u32],
+    next: &[u32],
+    hold: &mut [u32],
+    load: &mut [u32],
+    rank: &mut [u32],
+) -> bool
+    requires { ⌜ n ≤ 512 ⌝ }
+    requires { ⌜ Ends n m (now ends) ⌝ }
+    requires { ⌜ Room m (now hold) ⌝ }
+    requires { ⌜ Covers n m (now ends) (now hold) (now load) ⌝ }
+    requires { ⌜ (n ≤ length (now first)) × (2 * m ≤ length (now next)) × (n ≤ length (now rank)) ⌝ }
+    ensures { λ r. ⌜ Settled n m p (now (ends .entry)) (now (hold .entry)) (now (load .entry)) (now (hold .exit)) (now (load .exit))
+        (now (rank .exit)) r ⌝ }
+{
+    let mut from = [0u32; 512];
+    let mut root = 0;
+    while root < n {
+        if load[root] <= p {
+            root = root + 1;
+        } else {
+            let v = search(
+                n,
+                m,
+                p,
+                root,
+                ends,
+                first,
+                next,
+                hold,
+                load,
+                rank,
+                &mut from,
+            );
+            if v == n {
+                return false;
+            }
+            pull(n, m, p, root, v, ends, rank, &from, hold, load);
+        }
+    }
+    true
+}

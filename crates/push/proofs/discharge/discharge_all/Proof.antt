@@ -1,0 +1,117 @@
+-- `push::discharge::discharge_all` meets its contract: each turn keeps what those before it kept. Assumes nothing.
+use native.Mathlib.Omega.{arith}
+use mathlib.Core.Path.{_≡_, refl}
+use Prim.Native.Nat.{_-_, _≤_}
+use lib.ListN.{length}
+use Rattle.slots.specs.Slots.{Kept}
+use Rattle.slots.proofs.Moves.{kept-none, kept-more, kept-room, kept-covers}
+use Rattle.push.proofs.discharge.discharge_all.Statement.{statement}
+use Rattle.push.proofs.discharge.discharge_all.Tie as tie
+
+abbrev Inv-loop : tie.InvT-loop
+Inv-loop n m p count ends first next hold₀ load₀ label₀ arc₀ queue₀ at₀ tail₀ hold load label arc queue at tail =
+    Kept n m ends hold₀ load₀ hold load × (at ≤ length queue) × (tail ≤ length queue)
+    × (length queue ≡ length queue₀) × (length label ≡ length label₀) × (length arc ≡ length arc₀)
+
+abbrev μ-loop : tie.MeasureT-loop
+μ-loop n m p count ends first next hold₀ load₀ label₀ arc₀ queue₀ at₀ tail₀ hold load label arc queue at tail = length queue - at
+
+-- the function's entry
+abbrev begin : tie.At-loop Inv-loop μ-loop → tie.Start Inv-loop μ-loop
+begin c = c .before .before .before .before .before .before .before .before .before
+
+loop-holds : tie.Need-loop-holds Inv-loop μ-loop
+loop-holds c =
+    let q = c .before .before .before .before .before .before .before .before .pre in
+    (kept-none _ _ _ _ _, omega arith, q .1 .1 .1 .1 .1 .2, refl, refl, refl)
+
+mul-wide : tie.Need-mul-wide Inv-loop μ-loop
+mul-wide c = omega arith
+
+slice-read-wide : tie.Need-slice-read-wide Inv-loop μ-loop
+slice-read-wide c = omega arith
+
+wide-requires : tie.Need-wide-requires Inv-loop μ-loop
+wide-requires c κs = omega arith
+
+add-at : tie.Need-add-at Inv-loop μ-loop
+add-at c = omega arith
+
+discharge-requires : tie.Need-discharge-requires Inv-loop μ-loop
+discharge-requires c κs =
+    let a = c .before .before .before .before .before .before .before .before .before in
+    let q = begin a .pre in
+    let i = a .loop .inv in
+    let b = q .1 .1 .1 .1 .1 in (
+      q .0,
+      (
+        q .1 .0,
+        (
+          (c .before .before .before .before .before .if1 .taken, q .1 .1 .0 .0, q .1 .1 .0 .1),
+          (kept-room (i .0) (q .1 .1 .1 .0), (kept-covers (i .0) (q .1 .1 .1 .1 .0), (omega (arith, b .0, i .4), omega (arith, b .1, i .5), i .2))),
+        ),
+      ),
+    )
+
+loop-less : tie.Need-loop-less Inv-loop μ-loop
+loop-less c = omega arith
+
+loop-again : tie.Need-loop-again Inv-loop μ-loop
+loop-again c =
+    let d = c .before .before .before .before .before .before .before .before .before .before in
+    let i = d .before .before .before .before .before .before .before .before .before .before .loop .inv in
+    let k = d .discharge .kept .1 .1 .1 .1 .1 .1 .1 .1 .1 .1 in (
+      kept-more (i .0) (d .discharge .ensures .1),
+      omega (arith, k .1 .1 .0),
+      omega (arith, d .discharge .ensures .0, k .1 .1 .0),
+      omega (arith, k .1 .1 .0),
+      omega (arith, k .0),
+      omega (arith, k .1 .0),
+    )
+
+loop-less-2 : tie.Need-loop-less-2 Inv-loop μ-loop
+loop-less-2 c = omega arith
+
+loop-again-2 : tie.Need-loop-again-2 Inv-loop μ-loop
+loop-again-2 c = let i = c .before .before .before .before .loop .inv in (i .0, omega arith, i .2, i .3, i .4, i .5)
+
+same-length : tie.Need-same-length Inv-loop μ-loop
+same-length c = omega arith
+
+same-length-2 : tie.Need-same-length-2 Inv-loop μ-loop
+same-length-2 c = omega arith
+
+same-length-3 : tie.Need-same-length-3 Inv-loop μ-loop
+same-length-3 c = omega arith
+
+same-length-4 : tie.Need-same-length-4 Inv-loop μ-loop
+same-length-4 c = omega arith
+
+same-length-5 : tie.Need-same-length-5 Inv-loop μ-loop
+same-length-5 c = omega arith
+
+returns : tie.Need-returns Inv-loop μ-loop
+returns c = c .before .loop .inv .0
+
+pub discharge-all-spec : {M : Type 1} → statement M
+discharge-all-spec =
+    tie.close
+    (tie.spec
+    Inv-loop
+    μ-loop
+    loop-holds
+    mul-wide
+    slice-read-wide
+    wide-requires
+    add-at
+    discharge-requires
+    loop-less
+    loop-again
+    loop-less-2
+    loop-again-2
+    same-length
+    same-length-2
+    same-length-3
+    same-length-4
+    same-length-5
+    returns)
