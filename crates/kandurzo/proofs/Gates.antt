@@ -1,4 +1,5 @@
 -- The gate, 13 and 12, and the work buffer once the records are in it.
+--   Long-enough, none-short    where no buffer is short each is as long as stated
 --   gate-open            where the gate is open, head and list agree and no buffer is short
 --   work-in              the work buffer after the records went out
 --   work-in-list         it holds the list
@@ -9,17 +10,18 @@
 -- Assumes nothing.
 use mathlib.Core.Path.{_≡_, refl, sym, ap, _∙_}
 use mathlib.Core.Bool.{Bool, true, false, _||_, not, cond}
-use mathlib.Core.List.{List, _++_}
+use mathlib.Core.List.{List, [], _∷_, _++_}
 use Prim.Native.Nat.{ℕ, _+_, _*_, _-_, _≤_}
 use native.Mathlib.Omega.{arith}
 use lib.Dec.{eqb}
 use lib.ListN.{length, take, drop, replicate, length-replicate}
 use lib.Seq.{drop-drop, length-take-le, drop-append-add}
-use borrow.Author.Tests.{eqb-true, eqb-false, ne-eqb, not-false}
+use borrow.Author.Tests.{eqb-true, eqb-false, ne-eqb, not-false, ltb-false}
 use denote.Builtin.{u32}
 use denote.Slice.{Room}
 use Rattle.theory.specs.Lists as Lists
 use Rattle.theory.specs.Refusals.{cause, refusal, if-taken}
+use Rattle.theory.proofs.Tests.{no}
 use Rattle.theory.proofs.Refusals.{refusal-none}
 use Rattle.theory.proofs.Lists.{listed}
 use Rattle.pairs.specs.Located.{ones-in}
@@ -32,11 +34,27 @@ use Rattle.records.proofs.Records.{room-as}
 use Rattle.records.proofs.Steps.{Enough}
 use Rattle.records.proofs.Copies.{length-ends-of, length-laid-out, laid-out-none, pairs-laid-out}
 use Rattle.kandurzo.specs.Edits.{word-list}
-use Rattle.kandurzo.specs.Buffers.{in-front, work-words, work-left}
+use Rattle.kandurzo.specs.Buffers.{Buffer, any-short, in-front, work-words, work-left}
 use Rattle.kandurzo.specs.declared.Gate.{Gate}
 use Rattle.kandurzo.specs.Gate.{gate-causes, gate-number, records-through, gate-of, On-words}
 use Rattle.kandurzo.proofs.Filling.{work-zeros}
 use Rattle.kandurzo.proofs.Taken.{held-few, held-is-list, length-held}
+
+-- every buffer is as long as stated
+abbrev pub Long-enough : List Buffer → Type 0
+Long-enough [] = Unit {0}
+Long-enough (b ∷ []) = b .needs ≤ b .has
+Long-enough (b ∷ c ∷ bs) = (b .needs ≤ b .has) × Long-enough (c ∷ bs)
+
+or-none : (a b : Bool) → (a || b) ≡ false → (a ≡ false) × (b ≡ false)
+or-none true b e = no (sym e)
+or-none false b e = (refl, e)
+
+pub none-short : (bs : List Buffer) → any-short bs ≡ false → Long-enough bs
+unfolding any-short
+none-short [] e = tt
+none-short (b ∷ []) e = ltb-false _ _ (or-none _ _ e .0)
+none-short (b ∷ c ∷ bs) e = let x = or-none _ _ e in (ltb-false _ _ (x .0), none-short (c ∷ bs) (x .1))
 
 module _ (h : Head) (ps : List Pair) (short : Bool) where
   pub gate-open : gate-number h ps short ≡ 0 → (agrees h ps ≡ true) × (short ≡ false)

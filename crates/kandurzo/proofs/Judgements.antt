@@ -4,13 +4,13 @@
 --   check-call, surplus-call  the calls' promises
 -- Assumes nothing.
 use mathlib.Core.Path.{_≡_, refl, sym, _∙_}
-use mathlib.Core.Bool.{Bool, true, false, _||_, not, cond}
+use mathlib.Core.Bool.{Bool, true, false, not, cond}
 use mathlib.Core.List.{List, _++_}
 use Prim.Native.Nat.{ℕ, _≤_, _<_}
 use native.Mathlib.Omega.{arith}
 use lib.Dec.{eqb}
 use lib.ListN.{length, take}
-use borrow.Author.Tests.{ltb-false, eqb-true, eqb-false}
+use borrow.Author.Tests.{eqb-true, eqb-false}
 use Rattle.theory.specs.Lists.{Pairs}
 use Rattle.theory.specs.Groups.{is-group, size}
 use Rattle.theory.specs.Splits.{shares-good}
@@ -24,12 +24,12 @@ use Rattle.verify.specs.Answers.{Check-says, Surplus-says}
 use Rattle.records.specs.declared.Pair.{Pair}
 use Rattle.records.specs.declared.Head.{Head}
 use Rattle.records.specs.Records.{held-list, agrees}
-use Rattle.kandurzo.specs.Buffers.{work-words}
+use Rattle.kandurzo.specs.Buffers.{buffer, any-short, work-words}
 use Rattle.kandurzo.specs.Gate.{gate-causes, gate-number}
-use Rattle.kandurzo.specs.Judging.{check-short, check-order, Check-call, surplus-short, surplus-order, Surplus-call, Check-on, Surplus-on}
+use Rattle.kandurzo.specs.Judging.{check-buffers, check-call-causes, Check-call, surplus-buffers, surplus-call-causes, Surplus-call, Check-on, Surplus-on}
 use Rattle.pairs.proofs.General.{by-test}
 use Rattle.kandurzo.proofs.Filling.{work-zeros}
-use Rattle.kandurzo.proofs.Gates.{work-in, work-in-list, work-in-left}
+use Rattle.kandurzo.proofs.Gates.{none-short, work-in, work-in-list, work-in-left}
 
 -- ---- the gate stands first
 
@@ -46,10 +46,6 @@ module _ (d short : Bool) (rest : List Cause) where
       go false true e = absurd (omega arith)
       go false false e = refl
 
-pub or-none : (a b : Bool) → (a || b) ≡ false → (a ≡ false) × (b ≡ false)
-or-none true b e = (e, absurd (let z : _≡_ {A = ℕ} 0 1 = cc in omega arith))
-or-none false b e = (refl, e)
-
 -- 7, 8, 9 or none
 check-few : (g : Pairs) (s xs : List ℕ) → check-number g s xs < 10
 unfolding check-number check-causes refusal cause
@@ -65,14 +61,11 @@ check-few g s xs = go (not (is-group g s)) (not (shares-good (size s) (g .pairs)
 
 module _ (h : Head) (ps : List Pair) (members shares work : List ℕ) where
   abbrev short : Bool
-  short = check-short h (length members) (length shares) (length work)
+  short = any-short (check-buffers h (length members) (length shares) (length work))
 
   pub check-enough : short ≡ false → (h .n ≤ length members) × (h .m ≤ length shares) × (16384 ≤ length work)
-  unfolding check-short work-words
-  check-enough e =
-      let x = or-none _ _ e in
-      let y = or-none _ _ (x .1) in
-      (ltb-false _ _ (x .0), ltb-false _ _ (y .0), ltb-false _ _ (y .1))
+  unfolding check-buffers buffer work-words
+  check-enough e = let x = none-short _ e in (x .0, x .1 .0, x .1 .1)
 
   abbrev gate : ℕ
   gate = gate-number h ps short
@@ -85,7 +78,7 @@ module _ (h : Head) (ps : List Pair) (members shares work : List ℕ) where
 
   module _ {v : Verdict} {work′ : List ℕ} (on : Check-on h gate members shares (work-in h ps short work) v work′) where
     pub check-call : Check-call h ps members shares work v work′
-    unfolding check-number check-order gate-number if-taken rest
+    unfolding check-number check-call-causes gate-number gate-causes if-taken rest
     check-call =
         by-test (eqb gate 0)
         (λ e.
@@ -116,11 +109,11 @@ module _ (h : Head) (ps : List Pair) (members shares work : List ℕ) where
 
 module _ (h : Head) (ps : List Pair) (t s words : List ℕ) where
   abbrev too-short : Bool
-  too-short = surplus-short h (length t) (length s)
+  too-short = any-short (surplus-buffers h (length t) (length s))
 
   pub surplus-enough : too-short ≡ false → (h .n ≤ length t) × (h .n ≤ length s)
-  unfolding surplus-short
-  surplus-enough e = let x = or-none _ _ e in (ltb-false _ _ (x .0), ltb-false _ _ (x .1))
+  unfolding surplus-buffers buffer
+  surplus-enough e = none-short _ e
 
   abbrev gate′ : ℕ
   gate′ = gate-number h ps too-short
@@ -130,7 +123,7 @@ module _ (h : Head) (ps : List Pair) (t s words : List ℕ) where
 
   module _ (long : too-short ≡ false → 16384 ≤ length words) {d : Difference} (on : Surplus-on h gate′ t s (work-in h ps too-short words) d) where
     pub surplus-call : Surplus-call h ps t s d
-    unfolding surplus-number surplus-order gate-number if-taken rest′
+    unfolding surplus-number surplus-call-causes gate-number gate-causes if-taken rest′
     surplus-call =
         by-test (eqb gate′ 0)
         (λ e.

@@ -12,7 +12,7 @@ use native.Mathlib.Omega.{arith}
 use lib.Dec.{eqb}
 use lib.ListN.{length, getD, take, drop, replicate, length-append, List·getD-append}
 use lib.Seq.{take-at}
-use borrow.Author.Tests.{ltb-false, eqb-true}
+use borrow.Author.Tests.{eqb-true}
 use Rattle.theory.specs.Lists as Lists
 use Rattle.theory.specs.Cores.{core-number, core-numbers}
 use Rattle.theory.specs.Words.{word-pair, pairs-in}
@@ -26,11 +26,10 @@ use Rattle.records.specs.declared.Pair.{Pair}
 use Rattle.records.specs.declared.Head.{Head}
 use Rattle.pairs.proofs.General.{by-test}
 use Rattle.kandurzo.specs.Edits.{word-list}
-use Rattle.kandurzo.specs.Buffers.{in-front, work-words}
-use Rattle.kandurzo.specs.Gate.{gate-number}
-use Rattle.kandurzo.specs.Peeling.{peel-short, peel-number, Peel-call, Peel-on}
-use Rattle.kandurzo.proofs.Gates.{work-in, work-in-list, work-in-left}
-use Rattle.kandurzo.proofs.Judgements.{or-none}
+use Rattle.kandurzo.specs.Buffers.{buffer, any-short, in-front, work-words}
+use Rattle.kandurzo.specs.Gate.{gate-causes, gate-number}
+use Rattle.kandurzo.specs.Peeling.{peel-buffers, peel-call-causes, Peel-call, Peel-on}
+use Rattle.kandurzo.proofs.Gates.{none-short, work-in, work-in-list, work-in-left}
 
 -- ---- narrowing
 
@@ -89,18 +88,15 @@ core-numbers-few h work v few = omega (arith, core-number-le (word-list h work) 
 
 module _ (h : Head) (ps : List Pair) (order cores work : List ℕ) where
   abbrev short : Bool
-  short = peel-short h (length order) (length cores) (length work)
+  short = any-short (peel-buffers h (length order) (length cores) (length work))
 
   pub peel-enough : short ≡ false → (h .n ≤ length order) × (h .n ≤ length cores) × (16384 ≤ length work)
-  unfolding peel-short work-words
-  peel-enough e =
-      let x = or-none _ _ e in
-      let y = or-none _ _ (x .1) in
-      (ltb-false _ _ (x .0), ltb-false _ _ (y .0), ltb-false _ _ (y .1))
+  unfolding peel-buffers buffer work-words
+  peel-enough e = let x = none-short _ e in (x .0, x .1 .0, x .1 .1)
 
   pub peel-call : {order′ cores′ work′ : List ℕ} → Peel-on h (gate-number h ps short) order cores (work-in h ps short work) order′ cores′ work′ →
       Peel-call h ps order cores work (gate-number h ps short) order′ cores′ work′
-  unfolding peel-number if-taken
+  unfolding peel-call-causes gate-number gate-causes if-taken
   peel-call on =
       let left = on .left ∙ work-in-left h ps short work (λ f. peel-enough f .2) in
       by-test (eqb (gate-number h ps short) 0)

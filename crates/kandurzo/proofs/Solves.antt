@@ -13,7 +13,7 @@ use native.Mathlib.Omega.{arith}
 use native.Mathlib.Nat.{mul-le-mul-right}
 use lib.Dec.{eqb}
 use lib.ListN.{length, getD, replicate}
-use borrow.Author.Tests.{ltb-false, eqb-true, eqb-false}
+use borrow.Author.Tests.{eqb-true, eqb-false}
 use Rattle.theory.specs.Basics.{table}
 use Rattle.theory.specs.Lists.{Pairs, is-list}
 use Rattle.theory.specs.Lists as Lists
@@ -29,11 +29,10 @@ use Rattle.records.specs.declared.Head.{Head}
 use Rattle.records.specs.Records.{held-list}
 use Rattle.kandurzo.specs.declared.Solved.{Solved}
 use Rattle.kandurzo.specs.Edits.{word-list}
-use Rattle.kandurzo.specs.Buffers.{work-words, work-left}
-use Rattle.kandurzo.specs.Gate.{gate-number}
-use Rattle.kandurzo.specs.Solving.{solve-short, No-split, Unsplit, declined, Fits-16-bits, Solve-call, Solve-on, Records-in-order}
-use Rattle.kandurzo.proofs.Gates.{gate-open, work-in, work-in-list, work-in-left}
-use Rattle.kandurzo.proofs.Judgements.{or-none}
+use Rattle.kandurzo.specs.Buffers.{buffer, any-short, work-words, work-left}
+use Rattle.kandurzo.specs.Gate.{gate-causes, gate-number}
+use Rattle.kandurzo.specs.Solving.{solve-buffers, solve-call-causes, No-split, Unsplit, declined, Fits-16-bits, Solve-call, Solve-on, Records-in-order}
+use Rattle.kandurzo.proofs.Gates.{none-short, gate-open, work-in, work-in-list, work-in-left}
 use Rattle.kandurzo.proofs.Taken.{held-is-list}
 use Rattle.kandurzo.proofs.Peels.{core-numbers-few}
 
@@ -44,15 +43,11 @@ unsplit-never g l u = let s = split-densest g (u .group) l (u .densest) in let e
 
 module _ (h : Head) (ps : List Pair) (members cores shares work : List ℕ) where
   abbrev short : Bool
-  short = solve-short h (length members) (length cores) (length shares) (length work)
+  short = any-short (solve-buffers h (length members) (length cores) (length shares) (length work))
 
   pub solve-enough : short ≡ false → (h .n ≤ length members) × (h .n ≤ length cores) × (h .m ≤ length shares) × (16384 ≤ length work)
-  unfolding solve-short work-words
-  solve-enough e =
-      let x = or-none _ _ e in
-      let y = or-none _ _ (x .1) in
-      let z = or-none _ _ (y .1) in
-      (ltb-false _ _ (x .0), ltb-false _ _ (y .0), ltb-false _ _ (z .0), ltb-false _ _ (z .1))
+  unfolding solve-buffers buffer work-words
+  solve-enough e = let x = none-short _ e in (x .0, x .1 .0, x .1 .1 .0, x .1 .1 .1)
 
   abbrev gate : ℕ
   gate = gate-number h ps short
@@ -63,6 +58,7 @@ module _ (h : Head) (ps : List Pair) (members cores shares work : List ℕ) wher
   module _ {r : Solved} {members′ cores′ shares′ work′ : List ℕ}
       (on : Solve-on h gate members cores shares (work-in h ps short work) r members′ cores′ shares′ work′) where
     pub solve-call : Solve-call h ps members cores shares work r members′ cores′ shares′ work′
+    unfolding solve-call-causes gate-number gate-causes
     solve-call =
         let left = on .left ∙ work-in-left h ps short work long ∙ ap (λ (k : ℕ). work-left k work) (sym (on .number)) in
         by-test (eqb gate 0)
@@ -95,6 +91,7 @@ module _ (h : Head) (ps : List Pair) (members cores shares work : List ℕ) wher
 -- a call that refuses nothing has a list as it is held
 module _ (h : Head) (ps : List Pair) (ms cs xs ws : List ℕ) {r : Solved} {ms′ cs′ xs′ ws′ : List ℕ} (call : Solve-call h ps ms cs xs ws r ms′ cs′ xs′ ws′) (z : r .number ≡ 0) where
   taken-list : is-list (held-list h ps) ≡ true
+  unfolding solve-call-causes gate-number gate-causes
   taken-list = held-is-list h ps (gate-open h ps (short h ps ms cs xs ws) (sym (call .number .outright) ∙ z) .0)
 
 -- the floats that two such calls return are in the order of their ratios

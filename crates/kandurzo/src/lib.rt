@@ -52,15 +52,15 @@ pub struct Solved {
     pub ratio: f64,
 }
 
-// Not part of the calls. A change of the words: the number, the head after it, and how many records come back to the list.
-pub struct Edit {
+// A change of the words: the number, the head after it, and how many records come back to the list.
+pub(crate) struct Edit {
     pub number: u32,
     pub head: Head,
     pub count: usize,
 }
 
-// Not part of the calls. What the first two refusals say: 13, 12 or 0, and how many records go out to the work buffer.
-pub struct Gate {
+// What the first two refusals say: 13, 12 or 0, and how many records go out to the work buffer.
+pub(crate) struct Gate {
     pub number: u32,
     pub out: usize,
 }

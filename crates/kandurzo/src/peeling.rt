@@ -4,33 +4,21 @@ ghost use Prim.Native.Nat.{ℕ, _≤_, _<_};
 ghost use lib.ListN.{length};
 ghost use Rattle.theory.specs.Leaving.{leaving};
 ghost use Rattle.theory.specs.Cores.{core-number, core-numbers};
-ghost use Rattle.kandurzo.specs.Buffers.{in-front};
+ghost use Rattle.kandurzo.specs.Buffers.{in-front, any-short};
 ghost use Rattle.kandurzo.specs.Gate.{gate-of, list-in-parts, In-parts, On-words};
-ghost use Rattle.kandurzo.specs.Peeling.{peel-short, Peel-on};
+ghost use Rattle.kandurzo.specs.Peeling.{peel-buffers, Peel-on};
 use crate::Gate;
 use crate::buffers::fill;
+use crate::buffers::gate;
 use crate::buffers::narrow;
-use crate::judging::gate;
 use peel::peel;
 use records::Head;
 
-fn peel_short(head: Head, order: usize, cores: usize, work: usize) -> bool
-    ensures { λ r. ⌜ r ≡ peel-short head order cores work ⌝ }
+pub(crate) fn peel_gate(head: Head, agreed: bool, order: usize, cores: usize, work: usize) -> Gate
+    ensures { λ r. ⌜ r ≡ gate-of head agreed (any-short (peel-buffers head order cores work)) ⌝ }
 {
     let n = head.n as usize;
-    if order < n {
-        return true;
-    }
-    if cores < n {
-        return true;
-    }
-    work < 16384
-}
-
-pub(crate) fn peel_gate(head: Head, agreed: bool, order: usize, cores: usize, work: usize) -> Gate
-    ensures { λ r. ⌜ r ≡ gate-of head agreed (peel-short head order cores work) ⌝ }
-{
-    gate(head, agreed, peel_short(head, order, cores, work))
+    gate(head, agreed, (order < n) | (cores < n) | (work < 16384))
 }
 
 // Peel of the list in the words' parts; its 32-bit numbers are narrowed to the buffers' 16.

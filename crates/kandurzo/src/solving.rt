@@ -4,32 +4,17 @@ ghost use Prim.Native.Nat.{_≤_};
 ghost use lib.ListN.{length};
 ghost use Rattle.theory.specs.Ratio.{float-ratio};
 ghost use Rattle.densest.specs.Solve.{Solves};
+ghost use Rattle.kandurzo.specs.Buffers.{any-short};
 ghost use Rattle.kandurzo.specs.Gate.{gate-of, list-in-parts, In-parts, On-words};
-ghost use Rattle.kandurzo.specs.Solving.{solve-short, declined, Fits-16-bits, Solve-on};
+ghost use Rattle.kandurzo.specs.Solving.{solve-buffers, declined, Fits-16-bits, Solve-on};
 use crate::Gate;
 use crate::Solved;
 use crate::buffers::fill;
+use crate::buffers::gate;
 use crate::buffers::narrow;
-use crate::judging::gate;
 use densest::Solution;
 use densest::solve;
 use records::Head;
-
-fn solve_short(head: Head, members: usize, cores: usize, shares: usize, work: usize) -> bool
-    ensures { λ r. ⌜ r ≡ solve-short head members cores shares work ⌝ }
-{
-    let n = head.n as usize;
-    if members < n {
-        return true;
-    }
-    if cores < n {
-        return true;
-    }
-    if shares < head.m as usize {
-        return true;
-    }
-    work < 16384
-}
 
 pub(crate) fn solve_gate(
     head: Head,
@@ -39,12 +24,14 @@ pub(crate) fn solve_gate(
     shares: usize,
     work: usize,
 ) -> Gate
-    ensures { λ r. ⌜ r ≡ gate-of head agreed (solve-short head members cores shares work) ⌝ }
+    ensures { λ r. ⌜ r ≡ gate-of head agreed (any-short (solve-buffers head members cores shares work)) ⌝ }
 {
+    let n = head.n as usize;
+    let m = head.m as usize;
     gate(
         head,
         agreed,
-        solve_short(head, members, cores, shares, work),
+        (members < n) | (cores < n) | (shares < m) | (work < 16384),
     )
 }
 
