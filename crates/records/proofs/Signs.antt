@@ -4,6 +4,7 @@
 --   mut-kind, shr-kind, ref-kind     a `&mut [T]`, a `&[T]` and a `&mut T` that the function still owns on exit
 --   stays            what is had of the parameters on exit
 --   meets-by         a function meets its contract, from a walk of its MIR
+--   states-by        so in the table of calls that its statement speaks of
 -- Assumes `Given`.
 use mathlib.Core.Path.{_≡_, refl}
 use Prim.Native.Nat.{ℕ}
@@ -13,9 +14,12 @@ use mir.Syntax.{Width, w16, w32, w64, named, Fn}
 use mir.Val.{Val, vint, vbool}
 use base.Logic.{SProp, ent, sep}
 use base.Fml.{ftrue}
-use prog.Wp.{Heap, WpFn, Tables}
+use prog.Model.{Model}
+use prog.Routine.{Name, Env}
+use prog.Wp.{Heap, WpFn, Tables, Closed}
 use ghost.Atoms.{Atoms}
 use contract.Lifetimes.{Lfts, Shares, Within, lftAt, AllOutlive}
+use contract.Running.{GhostRules, Running, tables, tablesOf, givenOf}
 use types.Kit.{Given}
 use sound.WpLaws.{WpFn-mono}
 use denote.RattleType.{RattleType, flat}
@@ -27,7 +31,8 @@ use denote.Signature.{Slot, plain, mutRefTo, mutSliceOf, shrSliceOf, typesAt}
 use denote.Struct.Declared.{Declared, row}
 use denote.Struct.Laws as Struct
 use denote.Triple.Entry.{Args, onEntry}
-use denote.Triple.Spec.{Meets}
+use denote.Triple.Spec.{Meets, tripleOf}
+use denote.Triple.Table.{entered}
 use denote.Triple.End.{Kepts}
 use denote.Triple.Clauses.{Ended, Clauses, closing}
 use denote.Triple.Walked.{Stay, Stays, stay-none, stay-none-slice, stay-slice, stay-ref, Goes, AllGo, goes-none, goes-none-slice, goes-slice, goes-ref, walkOf, walked, walk-meets}
@@ -111,3 +116,19 @@ module _ (T : Ended) (ds : Kinds (T .signature .params) (T .kept)) where
       → Meets 𝓤 H A (T .signature) (WpFn 𝓤 H (𝓣 .C) (𝓣 .Λ) f) (closing 𝓤 H A T c)
   meets-by 𝓤 H A W c 𝓣 f walk = walk-meets 𝓤 H A T stays W (goes-of (T .signature .params) (T .kept) ds 𝓤 H A W) c (WpFn 𝓤 H (𝓣 .C) (𝓣 .Λ) f) (WpFn-mono 𝓤 H (W .laws) 𝓣 f)
       (walked 𝓤 H A T stays c (WpFn 𝓤 H (𝓣 .C) (𝓣 .Λ) f) spelled (tells-of (T .signature .params) (T .kept) ds) walk)
+
+-- and so has its statement, where the table of calls has its code
+module _ {M : Type 1} (𝓤 : URA M) (H : Heap 𝓤) (𝓜 : Model 𝓤 H) (𝓖 : GhostRules 𝓤 H) (𝓡 : Running 𝓤 H 𝓜) (γ : Env)
+    (T : Ended) (ds : Kinds (T .signature .params) (T .kept)) (c : Clauses 𝓤 T) where
+  pub states-by : (k : Name) (f : Fn) → Closed 𝓤 H (tables 𝓤 H 𝓜 𝓡 γ .C) (tables 𝓤 H 𝓜 𝓡 γ .Λ) k f
+      → ((κs : Lfts (T .signature .lifetimes)) (qs : Shares (T .signature .lifetimes)) (bounds : AllOutlive (T .signature .lifetimes) (T .signature .outlives) κs)
+      (a : Args (T .signature) κs) (g : c κs a .ghost)
+      → Are (typesAt (T .signature .params) κs) (Ises (typesAt (T .signature .params) κs)) a (valss (typesAt (T .signature .params) κs) (spelled T ds κs) a)
+      → ent 𝓤 (sep 𝓤 (onEntry 𝓤 H (𝓖 .A) (T .signature) κs qs a (valss (typesAt (T .signature .params) κs) (spelled T ds κs) a)) (c κs a .requires g))
+      (WpFn 𝓤 H (tables 𝓤 H 𝓜 𝓡 γ .C) (tables 𝓤 H 𝓜 𝓡 γ .Λ) f (flat (typesAt (T .signature .params) κs) (valss (typesAt (T .signature .params) κs) (spelled T ds κs) a))
+      (walkOf 𝓤 H (𝓖 .A) T (stays T ds) c .post ((κs, qs, bounds, a, valss (typesAt (T .signature .params) κs) (spelled T ds κs) a), g))))
+      → Meets 𝓤 H (𝓖 .A) (T .signature) (tables 𝓤 H 𝓜 𝓡 γ .C k) (closing 𝓤 H (𝓖 .A) T c)
+  unfolding tablesOf
+  states-by k f closed walk =
+      entered 𝓤 H (tripleOf 𝓤 H (𝓖 .A) (T .signature) (closing 𝓤 H (𝓖 .A) T c)) (tables 𝓤 H 𝓜 𝓡 γ .C) (tables 𝓤 H 𝓜 𝓡 γ .Λ) k f closed
+      (meets-by T ds 𝓤 H (𝓖 .A) (givenOf 𝓤 H 𝓜 𝓖) c (tablesOf 𝓤 H 𝓜 (tables 𝓤 H 𝓜 𝓡 γ)) f walk)

@@ -1,7 +1,7 @@
 -- The test of the held records, one record at a time. Only the private functions of this crate cite these; `agrees` is what callers read.
 --   fits        what the head and the list's length show by themselves
 --   begin-of    what is known before the first record
---   reach-of    how many records are tested
+--   tested-of   how many records are tested
 --   step-of     one record more
 --   scan        a list of records
 -- Assumes nothing: these are definitions.
@@ -23,14 +23,18 @@ unfoldable pub begin-of : Head → (len : ℕ) → Seen
 begin-of h len = record { ok = fits h len; a = 0; b = 0 }
 
 -- how many records are tested: none where the head alone is refused
-unfoldable pub reach-of : Head → (ok : Bool) → ℕ
-reach-of h ok = cond ok (h .m) 0
+unfoldable pub tested-of : Head → (ok : Bool) → ℕ
+tested-of h ok = cond ok (h .m) 0
 
 -- one record more: below N, the smaller number first, after the record before it
-unfoldable pub step-of : (n : ℕ) → Seen → (a b : ℕ) → Seen
-step-of n s a b = record { ok = s .ok && (ltb b n && (ltb a b && stands-before (pair (s .a) (s .b)) (pair a b))); a = a; b = b }
+unfoldable pub step-of : (n : ℕ) → Seen → Pair → Seen
+step-of n s p = record {
+  ok = s .ok && (ltb (p .b) n && (ltb (p .a) (p .b) && stands-before (pair (s .a) (s .b)) (pair (p .a) (p .b))));
+  a = p .a;
+  b = p .b;
+}
 
 -- one after the other
 unfoldable pub scan : (n : ℕ) → Seen → List Pair → Seen
 scan n s [] = s
-scan n s (p ∷ ps) = scan n (step-of n s (p .a) (p .b)) ps
+scan n s (p ∷ ps) = scan n (step-of n s p) ps
