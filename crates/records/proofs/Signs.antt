@@ -52,7 +52,7 @@ module _ {n : ℕ} where
   abbrev pub data-kind : (R : RattleType) (val : R .Denot → Val) → Tells R (Is R) (λ x. val x ∷ []) → Still R → Kind {n = n} (plain (λ _. R)) yes
   data-kind R val tells still = record { stay = stay-none (λ _. R) yes; goes = λ 𝓤 H A W. goes-none 𝓤 H A W n (λ _. R) yes (λ κs. still); spell = λ κs x. val x ∷ []; tells = λ κs. tells }
 
-  abbrev number-kind : (w : Width) → Kind {n = n} (plain (λ _. UInt w)) yes
+  abbrev pub number-kind : (w : Width) → Kind {n = n} (plain (λ _. UInt w)) yes
   number-kind w = data-kind (UInt w) (vint w) (uint-tells w) (λ x f. refl)
 
   abbrev pub half-kind : Kind {n = n} (plain (λ _. UInt w16)) yes
@@ -88,7 +88,7 @@ module _ {n : ℕ} where
   stays-of [] ks ds = tt
   stays-of (s ∷ ss) ks ds = (ds .0 .stay, stays-of ss (ks .1) (ds .1))
 
-  abbrev spells-of : (ss : List (Slot n)) (ks : Kepts ss) → Kinds ss ks → (κs : Lfts n) → Spells (typesAt ss κs)
+  abbrev pub spells-of : (ss : List (Slot n)) (ks : Kepts ss) → Kinds ss ks → (κs : Lfts n) → Spells (typesAt ss κs)
   spells-of [] ks ds κs = tt
   spells-of (s ∷ ss) ks ds κs = (ds .0 .spell κs, spells-of ss (ks .1) (ds .1) κs)
 
