@@ -14,7 +14,6 @@ use mathlib.Core.List.{List, [], _∷_, _++_, map, append-assoc}
 use lib.ListN.{length, getD, set, take, drop, length-append, length-drop, length-map, length-set, take-append-drop}
 use lib.Seq.{length-take-le, getD-take, getD-drop, take-suc, drop-cons, append-snoc, set-at, set-append-left, take-set-lt, drop-set-lt}
 use Rattle.theory.specs.Basics.{table}
-use Rattle.theory.specs.Lists as Lists
 use Rattle.theory.specs.Lists.{pair}
 use Rattle.theory.specs.Words.{word-pair, pairs-in, counts-of, laid-pairs, put-at}
 use Rattle.theory.proofs.Tables.{length-table, table-ext}
@@ -35,26 +34,27 @@ use Rattle.records.specs.Records.{
 use Rattle.records.specs.declared.Pair.{Pair}
 
 -- ---- one entry more of new ones, and one before them
-module _ (k : ℕ) (new old : List ℕ) (v : ℕ) where
-  put-more : k + length new < length old → set (put-at k new old) (k + length new) v ≡ put-at k (new ++ (v ∷ [])) old
+module _ (k : ℕ) (new old : List ℕ) (v j : ℕ) where
+  put-more : j ≡ k + length new → j < length old → set (put-at k new old) j v ≡ put-at k (new ++ (v ∷ [])) old
   unfolding put-at
-  put-more room =
-      let n : ℕ = k + length new in
-      let front : length (take k old ++ new) ≡ n = length-append (take k old) new ∙ omega (arith, length-take-le k old (omega (arith, room))) in
-      let next : suc n ≡ k + length (new ++ (v ∷ [])) = omega (arith, length-append new (v ∷ [])) in
-      ap {B = List ℕ} (λ (xs : List ℕ). set (take k old ++ (new ++ xs)) n v) (drop-cons old n 0 room)
-      ∙ ap {B = List ℕ} (λ (xs : List ℕ). set xs n v) (sym (append-assoc (take k old) new (getD old n 0 ∷ drop (suc n) old)))
-      ∙ set-at (take k old ++ new) (getD old n 0) (drop (suc n) old) v n front
-      ∙ append-assoc (take k old) new (v ∷ drop (suc n) old)
-      ∙ ap {B = List ℕ} (λ (xs : List ℕ). take k old ++ xs) (sym (append-snoc new v (drop (suc n) old)))
-      ∙ ap {B = List ℕ} (λ (j : ℕ). take k old ++ ((new ++ (v ∷ [])) ++ drop j old)) next
+  put-more at room =
+      let front : length (take k old ++ new) ≡ j = length-append (take k old) new ∙ omega (arith, at, length-take-le k old (omega (arith, at, room))) in
+      let next : k + length (new ++ (v ∷ [])) ≡ suc j = omega (arith, at, length-append new (v ∷ [])) in
+      cc (
+        at,
+        next,
+        drop-cons old j 0 room,
+        append-assoc (take k old) new (getD old j 0 ∷ drop (suc j) old),
+        set-at (take k old ++ new) (getD old j 0) (drop (suc j) old) v j front,
+        append-assoc (take k old) new (v ∷ drop (suc j) old),
+        append-snoc new v (drop (suc j) old),
+      )
 
-  put-set : (j : ℕ) → j < k → k ≤ length old → set (put-at k new old) j v ≡ put-at k new (set old j v)
+  put-set : j < k → k ≤ length old → set (put-at k new old) j v ≡ put-at k new (set old j v)
   unfolding put-at
-  put-set j l room =
-      set-append-left (take k old) (new ++ drop (k + length new) old) j v (omega (arith, l, length-take-le k old room))
-      ∙ ap {B = List ℕ} (λ (xs : List ℕ). xs ++ (new ++ drop (k + length new) old)) (sym (take-set-lt k old j v l))
-      ∙ ap {B = List ℕ} (λ (xs : List ℕ). take k (set old j v) ++ (new ++ xs)) (sym (drop-set-lt (k + length new) old j v (omega (arith, l))))
+  put-set l room =
+      let left = set-append-left (take k old) (new ++ drop (k + length new) old) j v (omega (arith, l, length-take-le k old room)) in
+      cc (left, take-set-lt k old j v l, drop-set-lt (k + length new) old j v (omega (arith, l)))
 
 -- ---- records to words
 pub length-ends-of : (ps : List Pair) → length (ends-of ps) ≡ 2 * length ps
@@ -157,48 +157,39 @@ module _ (ps : List Pair) (ws : List ℕ) (m : ℕ) (enough : m ≤ length ps) (
         ∙ weights-at (take m ps) j in-take ∙ ap {B = ℕ} (λ (p : Pair). as-pair p .w) same
 
 -- one record more
-pub laid-out-more : (ps : List Pair) (ws : List ℕ) (i : ℕ) → i < length ps → i < 4096 → 12288 ≤ length ws
-    → laid-record (laid-out ps ws i) i (getD ps i blank) ≡ laid-out ps ws (suc i)
-unfolding laid-record laid-out
-laid-out-more ps ws i l few long =
-    let p : Pair = getD ps i blank in
-    let w : ℕ = as-pair p .w in
-    let es : List ℕ = ends-of (take i ps) in
-    let cs : List ℕ = weights-of (take i ps) in
-    let fs : List ℕ = es ++ (p .a ∷ []) in
-    let es-long : length es ≡ 2 * i = length-es ps ws i (omega (arith, l)) (omega (arith, few)) long in
-    let cs-long : length cs ≡ i = length-cs ps ws i (omega (arith, l)) (omega (arith, few)) long in
-    let first : 2 * i ≡ 0 + length es = omega (arith, es-long) in
-    let second : 2 * i + 1 ≡ 0 + length fs = omega (arith, es-long, length-append es (p .a ∷ [])) in
-    let third : 8192 + i ≡ 8192 + length cs = omega (arith, cs-long) in
-    let more : take (suc i) ps ≡ take i ps ++ (p ∷ []) = take-suc ps i blank l in
-    let inner : length (put-at 0 es ws) ≡ length ws = length-put 0 es ws (omega (arith, es-long, few, long)) in
-    let ends : set (set (put-at 0 es ws) (2 * i) (p .a)) (2 * i + 1) (p .b) ≡ put-at 0 (fs ++ (p .b ∷ [])) ws =
-    ap {B = List ℕ} (λ (j : ℕ). set (set (put-at 0 es ws) j (p .a)) (2 * i + 1) (p .b)) first
-    ∙ ap {B = List ℕ} (λ (xs : List ℕ). set xs (2 * i + 1) (p .b)) (put-more 0 es ws (p .a) (omega (arith, es-long, few, long)))
-    ∙ ap {B = List ℕ} (λ (j : ℕ). set (put-at 0 fs ws) j (p .b)) second
-    ∙ put-more 0 fs ws (p .b) (omega (arith, second, few, long)) in
-    let outer : length (put-at 0 (fs ++ (p .b ∷ [])) ws) ≡ length ws =
-    length-put 0 (fs ++ (p .b ∷ [])) ws (omega (arith, second, length-append fs (p .b ∷ []), few, long)) in
-    ap {B = List ℕ} (λ (xs : List ℕ). set (set xs (2 * i + 1) (p .b)) (8192 + i) w)
-    (put-set 8192 cs (put-at 0 es ws) (p .a) (2 * i) (omega (arith, few)) (omega (arith, inner, long)))
-    ∙ ap {B = List ℕ} (λ (xs : List ℕ). set xs (8192 + i) w)
-    (put-set 8192 cs (set (put-at 0 es ws) (2 * i) (p .a)) (p .b) (2 * i + 1) (omega (arith, few))
-    (omega (arith, inner, long, length-set (put-at 0 es ws) (2 * i) (p .a))))
-    ∙ ap {B = List ℕ} (λ (xs : List ℕ). set (put-at 8192 cs xs) (8192 + i) w) ends
-    ∙ ap {B = List ℕ} (λ (j : ℕ). set (put-at 8192 cs (put-at 0 (fs ++ (p .b ∷ [])) ws)) j w) third
-    ∙ put-more 8192 cs (put-at 0 (fs ++ (p .b ∷ [])) ws) w (omega (arith, third, few, outer, long))
-    ∙ ap {B = List ℕ} (λ (xs : List ℕ). put-at 8192 xs (put-at 0 (fs ++ (p .b ∷ [])) ws)) (sym (weights-of-more (take i ps) p))
-    ∙ ap {B = List ℕ} (λ (xs : List ℕ). put-at 8192 (weights-of (take i ps ++ (p ∷ []))) (put-at 0 xs ws)) (sym (ends-of-more (take i ps) p))
-    ∙ ap {B = List ℕ} (λ (qs : List Pair). put-at 8192 (weights-of qs) (put-at 0 (ends-of qs) ws)) (sym more)
+module _ (ps : List Pair) (ws : List ℕ) (i : ℕ) (l : i < length ps) (few : i < 4096) (long : 12288 ≤ length ws) where
+  pub laid-out-more : laid-record (laid-out ps ws i) i (getD ps i blank) ≡ laid-out ps ws (suc i)
+  unfolding laid-record laid-out
+  laid-out-more =
+      let p : Pair = getD ps i blank in
+      let es : List ℕ = ends-of (take i ps) in
+      let fs : List ℕ = es ++ (p .a ∷ []) in
+      let gs : List ℕ = fs ++ (p .b ∷ []) in
+      let cs : List ℕ = weights-of (take i ps) in
+      let xs : List ℕ = put-at 0 es ws in
+      let es-long : length es ≡ 2 * i = length-es ps ws i (omega (arith, l)) (omega (arith, few)) long in
+      let fs-long : length fs ≡ 2 * i + 1 = omega (arith, es-long, length-append es (p .a ∷ [])) in
+      let cs-long : length cs ≡ i = length-cs ps ws i (omega (arith, l)) (omega (arith, few)) long in
+      let xs-long : length xs ≡ length ws = length-put 0 es ws (omega (arith, es-long, few, long)) in
+      let ys-long : length (put-at 0 gs ws) ≡ length ws = length-put 0 gs ws (omega (arith, fs-long, length-append fs (p .b ∷ []), few, long)) in
+      cc (
+        put-set 8192 cs xs (p .a) (2 * i) (omega (arith, few)) (omega (arith, xs-long, long)),
+        put-set 8192 cs (set xs (2 * i) (p .a)) (p .b) (2 * i + 1) (omega (arith, few)) (omega (arith, xs-long, long, length-set xs (2 * i) (p .a))),
+        put-more 0 es ws (p .a) (2 * i) (omega (arith, es-long)) (omega (arith, few, long)),
+        put-more 0 fs ws (p .b) (2 * i + 1) (omega (arith, fs-long)) (omega (arith, few, long)),
+        put-more 8192 cs (put-at 0 gs ws) (as-pair p .w) (8192 + i) (omega (arith, cs-long)) (omega (arith, few, ys-long, long)),
+        ends-of-more (take i ps) p,
+        weights-of-more (take i ps) p,
+        take-suc ps i blank l,
+      )
 
 -- a buffer keeps its length
-pub length-laid-out : (ps : List Pair) (ws : List ℕ) (m : ℕ) → Room-out m ps ws → length (laid-out ps ws m) ≡ length ws
+pub length-laid-out : (ps : List Pair) (ws : List ℕ) (m : ℕ) → Room-out ps ws m → length (laid-out ps ws m) ≡ length ws
 length-laid-out ps ws zero r = ap {B = ℕ} (λ (xs : List ℕ). length xs) (laid-out-none ps ws)
 length-laid-out ps ws (suc m) r = length-laid ps ws (suc m) (r .enough) (r .few) (r .long (omega arith))
 
 -- and what lies past the places
-pub laid-out-past : (ps : List Pair) (ws : List ℕ) (m : ℕ) → Room-out m ps ws → drop 12288 (laid-out ps ws m) ≡ drop 12288 ws
+pub laid-out-past : (ps : List Pair) (ws : List ℕ) (m : ℕ) → Room-out ps ws m → drop 12288 (laid-out ps ws m) ≡ drop 12288 ws
 laid-out-past ps ws zero r = ap {B = List ℕ} (λ (xs : List ℕ). drop 12288 xs) (laid-out-none ps ws)
 laid-out-past ps ws (suc m) r = past-laid ps ws (suc m) (r .enough) (r .few) (r .long (omega arith))
 
@@ -236,7 +227,7 @@ unfolding table
 table-map f g zero = refl
 table-map f g (suc m) = ap {B = List _} (λ r. g (f 0) ∷ r) (table-map (λ j. f (suc j)) g m)
 
-module _ (ps : List Pair) (ws : List ℕ) (m : ℕ) (r : Room-out m ps ws) where
+module _ (ps : List Pair) (ws : List ℕ) (m : ℕ) (r : Room-out ps ws m) where
   some-long : (j : ℕ) → j < m → 12288 ≤ length ws
   some-long j l = r .long (omega (arith, l))
 
@@ -253,7 +244,7 @@ module _ (ps : List Pair) (ws : List ℕ) (m : ℕ) (r : Room-out m ps ws) where
 
   -- words read back are the records
   pub records-laid-out : records-in m (laid-out ps ws m) ≡ take m ps
-  unfolding records-in word-record
+  unfolding records-in
   records-laid-out =
       table-ext m (word-record (laid-out ps ws m)) (λ j. getD ps j blank) (λ j l. λ i. record {
         a = first-laid ps ws m (r .enough) (r .few) (some-long j l) j l i;

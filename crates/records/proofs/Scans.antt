@@ -4,12 +4,11 @@
 --   scan-agrees      what the scan says is `agrees`
 --   agrees-count     where head and list agree, M records are there, and they are few
 -- Assumes nothing.
-use mathlib.Core.Path.{_≡_, refl, sym, ap, _∙_, subst}
-use mathlib.Core.Bool.{Bool, true, false, _&&_, cond}
+use mathlib.Core.Path.{_≡_, refl, sym, _∙_, subst}
+use mathlib.Core.Bool.{Bool, true, false, cond}
 use mathlib.Core.List.{List, [], _∷_}
 use Prim.Native.Nat.{ℕ, zero, suc, _≤_, _<_}
 use native.Mathlib.Omega.{arith}
-use lib.Dec.{leb, ltb}
 use lib.ListN.{length, getD, take, length-map}
 use lib.Seq.{length-take-le}
 use Rattle.theory.specs.Basics.{all}
@@ -40,7 +39,7 @@ record Good (n : ℕ) (s : Seen) (ps : List Pair) : Type 0 where
   before : s .ok ≡ true
   ends : all (ends-in-range n) (as-pairs ps) ≡ true
   first : all smaller-first (as-pairs ps) ≡ true
-  next : before-first (pair (s .a) (s .b)) (as-pairs ps) ≡ true
+  next : before-first (as-pair (s .last)) (as-pairs ps) ≡ true
   rises : rising (as-pairs ps) ≡ true
 
 scan-good : (n : ℕ) (s : Seen) (ps : List Pair) → scan n s ps .ok ≡ true → Good n s ps
@@ -79,7 +78,7 @@ weights-good [] = refl
 weights-good (p ∷ ps) = weights-good ps
 
 -- 0,0 stands before every record whose smaller number is first
-zero-before : (ps : List Pair) → all smaller-first (as-pairs ps) ≡ true → before-first (pair 0 0) (as-pairs ps) ≡ true
+zero-before : (ps : List Pair) → all smaller-first (as-pairs ps) ≡ true → before-first (as-pair blank) (as-pairs ps) ≡ true
 unfolding as-pairs as-pair all smaller-first before-first stands-before pair
 zero-before [] e = refl
 zero-before (p ∷ ps) e = let l : p .a < p .b = (simp tests at e) .0 in go (p .a) (p .b) l
@@ -109,7 +108,8 @@ module _ (h : Head) (ps : List Pair) where
       simp tests (k .1 .1, ((k .0, short), (g .ends, (g .first, (weights-good held, g .rises)))))
 
   -- and where they agree, both are so
-  parts-agree : agrees h ps ≡ true → (fits h (length ps) ≡ true) × (all (ends-in-range (h .n)) (as-pairs held) ≡ true) × (all smaller-first (as-pairs held) ≡ true) × (rising (as-pairs held) ≡ true)
+  parts-agree : agrees h ps ≡ true → (fits h (length ps) ≡ true) × (all (ends-in-range (h .n)) (as-pairs held) ≡ true) ×
+      (all smaller-first (as-pairs held) ≡ true) × (rising (as-pairs held) ≡ true)
   unfolding agrees held-list is-list size-in-range as-pairs fits
   parts-agree e =
       let k = simp tests at e in

@@ -7,8 +7,8 @@
 --   laid-record, laid-out   a buffer of words after one record, and after the first records, were copied to it
 --   word-record, records-in records read from words
 --   put-back                a list after the first records were copied back to it
---   Room-at, Fits-record    words have a place for a record, and what lies there fits one
---   Room-out, Room-back     what the copies ask; Fits-records: the words of the first records fit records
+--   Room-at, Fits-at        words have a place for a record, and what lies there fits one; Fits-records: so at the first places
+--   Room-out, Room-back     what the copies ask
 -- Assumes nothing: these are definitions.
 use mathlib.Core.Bool.{Bool, _&&_}
 use mathlib.Core.List.{List, [], _∷_, _++_, map}
@@ -60,7 +60,7 @@ unfoldable pub laid-out : List Pair → List ℕ → ℕ → List ℕ
 laid-out ps ws m = put-at 8192 (weights-of (take m ps)) (put-at 0 (ends-of (take m ps)) ws)
 
 -- the record that lies in words at place j
-unfoldable pub word-record : List ℕ → ℕ → Pair
+abbrev pub word-record : List ℕ → ℕ → Pair
 word-record ws j = record { a = getD ws (2 * j) 0; b = getD ws (2 * j + 1) 0 }
 
 -- the first m of them
@@ -76,23 +76,21 @@ pub record Room-at (i : ℕ) (words : List ℕ) : Type 0 where
   pub few : i < 4096
   pub long : 12288 ≤ length words
 
--- and what lies there fits the 16 bits of a record's numbers
-pub record Fits-record (i : ℕ) (words : List ℕ) : Type 0 where
-  pub room : Room-at i words
-  pub first-fits : getD words (2 * i) 0 < 65536
-  pub second-fits : getD words (2 * i + 1) 0 < 65536
+-- what lies at place i fits the 16 bits of a record's numbers
+abbrev pub Fits-at : ℕ → List ℕ → Type 0
+Fits-at i ws = (getD ws (2 * i) 0 < 65536) × (getD ws (2 * i + 1) 0 < 65536)
 
 -- m records are there, and the words have places for them; where m is 0 any words do
-pub record Room-out (m : ℕ) (list : List Pair) (words : List ℕ) : Type 0 where
+pub record Room-out (list : List Pair) (words : List ℕ) (m : ℕ) : Type 0 where
   pub enough : m ≤ length list
   pub few : m ≤ 4096
   pub long : 0 < m → 12288 ≤ length words
 
--- the first m places hold numbers of 16 bits
+-- what lies at the first m places fits
 unfoldable pub Fits-records : ℕ → List ℕ → Type 0
-Fits-records m ws = (j : ℕ) → j < m → (getD ws (2 * j) 0 < 65536) × (getD ws (2 * j + 1) 0 < 65536)
+Fits-records m ws = (j : ℕ) → j < m → Fits-at j ws
 
 -- there is room for m records, and those in the words fit
-pub record Room-back (m : ℕ) (list : List Pair) (words : List ℕ) : Type 0 where
-  pub room : Room-out m list words
+pub record Room-back (list : List Pair) (words : List ℕ) (m : ℕ) : Type 0 where
+  pub room : Room-out list words m
   pub fits : Fits-records m words

@@ -4,7 +4,7 @@
 //   agree      whether head and list agree (document 01, number 13)
 // Each is one pass over the records that it names, and blind to what is in a record: lay, record_at and step know that.
 ghost use mathlib.Core.Path.{_≡_};
-ghost use Rattle.records.specs.Records.{laid-record, word-record, laid-out, put-back, Room-at, Fits-record, Room-out, Room-back, agrees};
+ghost use Rattle.records.specs.Records.{laid-record, word-record, laid-out, put-back, Room-at, Fits-at, Room-out, Room-back, agrees};
 ghost use Rattle.records.specs.Scan.{begin-of, tested-of, step-of};
 
 // A record: two module numbers, the smaller first.
@@ -33,7 +33,7 @@ fn lay(words: &mut [u32], i: usize, p: Pair)
 
 // One record from words.
 fn record_at(words: &[u32], i: usize) -> Pair
-    requires { ⌜ Fits-record i (now words) ⌝ }
+    requires { ⌜ Room-at i (now words) × Fits-at i (now words) ⌝ }
     ensures { λ r. ⌜ r ≡ word-record (now (words .entry)) i ⌝ }
 {
     Pair {
@@ -44,7 +44,7 @@ fn record_at(words: &[u32], i: usize) -> Pair
 
 // The first m records to words. The other words stay.
 pub fn copy_out(list: &[Pair], words: &mut [u32], m: usize)
-    requires { ⌜ Room-out m (now list) (now words) ⌝ }
+    requires { ⌜ Room-out (now list) (now words) m ⌝ }
     ensures { λ _. ⌜ now (words .exit) ≡ laid-out (now (list .entry)) (now (words .entry)) m ⌝ }
 {
     let mut i = 0;
@@ -56,7 +56,7 @@ pub fn copy_out(list: &[Pair], words: &mut [u32], m: usize)
 
 // The first m records from words. The records after them stay.
 pub fn copy_in(list: &mut [Pair], words: &[u32], m: usize)
-    requires { ⌜ Room-back m (now list) (now words) ⌝ }
+    requires { ⌜ Room-back (now list) (now words) m ⌝ }
     ensures { λ _. ⌜ now (list .exit) ≡ put-back (now (list .entry)) (now (words .entry)) m ⌝ }
 {
     let mut i = 0;
@@ -69,8 +69,7 @@ pub fn copy_in(list: &mut [Pair], words: &[u32], m: usize)
 // What the test of the records keeps: whether all so far are good, and the last one.
 struct Seen {
     ok: bool,
-    a: u16,
-    b: u16,
+    last: Pair,
 }
 
 // What head and length show before the first record.
@@ -78,31 +77,28 @@ fn begin(head: Head, len: usize) -> Seen
     ensures { λ r. ⌜ r ≡ begin-of head len ⌝ }
 {
     let m = head.m as usize;
+    let none = Pair { a: 0, b: 0 };
     if head.n < 1 {
         return Seen {
             ok: false,
-            a: 0,
-            b: 0,
+            last: none,
         };
     }
     if 512 < head.n {
         return Seen {
             ok: false,
-            a: 0,
-            b: 0,
+            last: none,
         };
     }
     if 4096 < m {
         return Seen {
             ok: false,
-            a: 0,
-            b: 0,
+            last: none,
         };
     }
     Seen {
         ok: m <= len,
-        a: 0,
-        b: 0,
+        last: none,
     }
 }
 
@@ -121,37 +117,23 @@ fn step(n: u32, seen: Seen, p: Pair) -> Seen
     ensures { λ r. ⌜ r ≡ step-of n seen p ⌝ }
 {
     if !seen.ok {
-        return Seen {
-            ok: false,
-            a: p.a,
-            b: p.b,
-        };
+        return Seen { ok: false, last: p };
     }
     if n <= p.b as u32 {
-        return Seen {
-            ok: false,
-            a: p.a,
-            b: p.b,
-        };
+        return Seen { ok: false, last: p };
     }
     if p.b <= p.a {
-        return Seen {
-            ok: false,
-            a: p.a,
-            b: p.b,
-        };
+        return Seen { ok: false, last: p };
     }
-    if seen.a == p.a {
+    if seen.last.a == p.a {
         return Seen {
-            ok: seen.b < p.b,
-            a: p.a,
-            b: p.b,
+            ok: seen.last.b < p.b,
+            last: p,
         };
     }
     Seen {
-        ok: seen.a < p.a,
-        a: p.a,
-        b: p.b,
+        ok: seen.last.a < p.a,
+        last: p,
     }
 }
 

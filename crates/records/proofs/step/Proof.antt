@@ -4,9 +4,10 @@ use mathlib.Core.Path.{_≡_, refl, ap}
 use mathlib.Core.Bool.{Bool, true, false, not, _||_}
 use Prim.Native.Nat.{ℕ, _≤_, _<_}
 use native.Mathlib.Omega.{arith}
-use lib.Dec.{ltb, eqb}
+use lib.Dec.{ltb}
 use borrow.Author.Tests.{le-ltb, lt-ltb, eq-eqb, ne-eqb, not-true, not-false}
 use Rattle.theory.specs.Lists.{pair, stands-before}
+use Rattle.records.specs.Records.{as-pair}
 use Rattle.records.specs.Scan.{step-of}
 use Rattle.records.specs.declared.Pair.{Pair}
 use Rattle.records.specs.declared.Seen.{Seen}
@@ -17,7 +18,7 @@ use Rattle.records.proofs.step.Lts as lts
 
 module _ (n : ℕ) (s : Seen) (p : Pair) where
   abbrev now-seen : Bool → Seen
-  now-seen t = record { ok = t; a = p .a; b = p .b }
+  now-seen t = record { ok = t; last = p }
 
   failed-before : not (s .ok) ≡ true → now-seen false ≡ step-of n s p
   unfolding step-of
@@ -33,15 +34,15 @@ module _ (n : ℕ) (s : Seen) (p : Pair) where
     turned k l = simp (not-false (s .ok) ok, lt-ltb (p .b) n k, le-ltb (p .a) (p .b) l)
 
     module _ (k : p .b < n) (l : p .a < p .b) where
-      same-first : s .a ≡ p .a → now-seen (ltb (s .b) (p .b)) ≡ step-of n s p
-      unfolding step-of stands-before pair
+      same-first : s .last .a ≡ p .a → now-seen (ltb (s .last .b) (p .b)) ≡ step-of n s p
+      unfolding step-of stands-before as-pair pair
       same-first e =
-          simp (not-false (s .ok) ok, lt-ltb (p .b) n k, lt-ltb (p .a) (p .b) l, le-ltb (s .a) (p .a) (omega (arith, e)), eq-eqb (s .a) (p .a) e)
+          simp (not-false (s .ok) ok, lt-ltb (p .b) n k, lt-ltb (p .a) (p .b) l, le-ltb (s .last .a) (p .a) (omega (arith, e)), eq-eqb (s .last .a) (p .a) e)
 
-      other-first : (s .a ≡ p .a → ⊥) → now-seen (ltb (s .a) (p .a)) ≡ step-of n s p
-      unfolding step-of stands-before pair
+      other-first : (s .last .a ≡ p .a → ⊥) → now-seen (ltb (s .last .a) (p .a)) ≡ step-of n s p
+      unfolding step-of stands-before as-pair pair
       other-first e =
-          simp (not-false (s .ok) ok, lt-ltb (p .b) n k, lt-ltb (p .a) (p .b) l, ne-eqb (s .a) (p .a) e) (ap now-seen (or-false (ltb (s .a) (p .a))))
+          simp (not-false (s .ok) ok, lt-ltb (p .b) n k, lt-ltb (p .a) (p .b) l, ne-eqb (s .last .a) (p .a) e) (ap now-seen (or-false (ltb (s .last .a) (p .a))))
         where
           or-false : (t : Bool) → t ≡ (t || false)
           or-false true = refl
@@ -58,14 +59,14 @@ cast-if2 : tie.Need-cast-if2
 cast-if2 c = search needs
 
 returns-2 : tie.Need-returns-2
-returns-2 c = let e = c .before .before in let a = passed e in outside (a .n) (a .seen) (a .p) (e .if1 .left) (c .if2 .taken)
+returns-2 c = let e = c .before .before in let a = passed e in outside (a .n) (a .seen) (a .p) (e .if1 .left) (omega (arith, c .if2 .taken))
 
 returns-3 : tie.Need-returns-3
 returns-3 c =
     let f = c .before .before in
     let e = f .before .before in
     let a = passed e in
-    turned (a .n) (a .seen) (a .p) (e .if1 .left) (f .if2 .left) (c .if3 .taken)
+    turned (a .n) (a .seen) (a .p) (e .if1 .left) (omega (arith, f .if2 .left)) (omega (arith, c .if3 .taken))
 
 returns-4 : tie.Need-returns-4
 returns-4 c =
@@ -73,7 +74,7 @@ returns-4 c =
     let f = g .before .before in
     let e = f .before .before in
     let a = passed e in
-    same-first (a .n) (a .seen) (a .p) (e .if1 .left) (f .if2 .left) (g .if3 .left) (c .before .before .if4 .taken)
+    same-first (a .n) (a .seen) (a .p) (e .if1 .left) (omega (arith, f .if2 .left)) (omega (arith, g .if3 .left)) (c .before .before .if4 .taken)
 
 returns-5 : tie.Need-returns-5
 returns-5 c =
@@ -81,7 +82,7 @@ returns-5 c =
     let f = g .before .before in
     let e = f .before .before in
     let a = passed e in
-    other-first (a .n) (a .seen) (a .p) (e .if1 .left) (f .if2 .left) (g .if3 .left) (c .before .before .if4 .left)
+    other-first (a .n) (a .seen) (a .p) (e .if1 .left) (omega (arith, f .if2 .left)) (omega (arith, g .if3 .left)) (c .before .before .if4 .left)
 
 pub step-spec : {M : Type 1} → statement M
 step-spec = tie.close (tie.spec returns cast-if2 returns-2 returns-3 returns-4 returns-5)
