@@ -1,6 +1,6 @@
 -- From the records to the words: what check and surplus say of the words is what they say of the lent records.
 --   gate-first, gate-then     a number of the gate is the call's; where it is open the causes behind it decide
---   check-enough, surplus-enough    where the gate is open the buffers are long enough
+--   check-enough, check-long, surplus-enough    where the gate is open the buffers are long enough
 --   check-call, surplus-call  the calls' promises
 -- Assumes nothing.
 use mathlib.Core.Path.{_≡_, refl, sym, _∙_}
@@ -59,19 +59,20 @@ check-few g s xs = go (not (is-group g s)) (not (shares-good (size s) (g .pairs)
 
 -- ---- check
 
+module _ (h : Head) (members shares work : ℕ) (none : any-short (check-buffers h members shares work) ≡ false) where
+  pub check-enough : (h .n ≤ members) × (h .m ≤ shares) × (16384 ≤ work)
+  unfolding check-buffers buffer work-words
+  check-enough = let x = none-short _ none in (x .0, x .1 .0, x .1 .1)
+
+  pub check-long : 12288 ≤ work
+  check-long = omega (arith, check-enough .2)
+
 module _ (h : Head) (ps : List Pair) (members shares work : List ℕ) where
   abbrev short : Bool
   short = any-short (check-buffers h (length members) (length shares) (length work))
 
-  pub check-enough : short ≡ false → (h .n ≤ length members) × (h .m ≤ length shares) × (16384 ≤ length work)
-  unfolding check-buffers buffer work-words
-  check-enough e = let x = none-short _ e in (x .0, x .1 .0, x .1 .1)
-
   abbrev gate : ℕ
   gate = gate-number h ps short
-
-  long : short ≡ false → 16384 ≤ length work
-  long e = check-enough e .2
 
   rest : List Cause
   rest = check-causes (held-list h ps) (take (h .n) members) (take (h .m) shares)
@@ -83,14 +84,14 @@ module _ (h : Head) (ps : List Pair) (members shares work : List ℕ) where
         by-test (eqb gate 0)
         (λ e.
         let z : gate ≡ 0 = eqb-true _ 0 e in
-        let says : Check-says (held-list h ps) (take (h .n) members) (take (h .m) shares) v = rw (work-in-list h ps short work long z) at (on .judged z) in
+        let says : Check-says (held-list h ps) (take (h .n) members) (take (h .m) shares) v = rw (work-in-list h ps short work (check-long h _ _ _) z) at (on .judged z) in
         let low = check-few (held-list h ps) (take (h .n) members) (take (h .m) shares) in
         record {
           number = says .number ∙ sym (gate-then (not (agrees h ps)) short rest z);
           p = rw (says .number) (says .p);
           q = rw (says .number) (says .q);
           optimal = says .optimal;
-          left = on .left ∙ work-in-left h ps short work long
+          left = on .left ∙ work-in-left h ps short work (check-long h _ _ _)
               ∙ work-zeros gate work (λ x. omega (arith, z, x)) (λ x. omega (arith, z, x))
               ∙ sym (work-zeros (v .number) work (λ x. omega (arith, says .number, low)) (λ x. omega (arith, says .number, low)));
         })
@@ -102,18 +103,18 @@ module _ (h : Head) (ps : List Pair) (members shares work : List ℕ) where
           p = sym (rw e);
           q = sym (rw e);
           optimal = λ x. absurd (n x);
-          left = on .left ∙ work-in-left h ps short work long;
+          left = on .left ∙ work-in-left h ps short work (check-long h _ _ _);
         }))
 
 -- ---- surplus
 
+pub surplus-enough : (h : Head) (first second : ℕ) → any-short (surplus-buffers h first second) ≡ false → (h .n ≤ first) × (h .n ≤ second)
+unfolding surplus-buffers buffer
+surplus-enough h first second e = none-short _ e
+
 module _ (h : Head) (ps : List Pair) (t s words : List ℕ) where
   abbrev too-short : Bool
   too-short = any-short (surplus-buffers h (length t) (length s))
-
-  pub surplus-enough : too-short ≡ false → (h .n ≤ length t) × (h .n ≤ length s)
-  unfolding surplus-buffers buffer
-  surplus-enough e = none-short _ e
 
   abbrev gate′ : ℕ
   gate′ = gate-number h ps too-short
@@ -121,7 +122,7 @@ module _ (h : Head) (ps : List Pair) (t s words : List ℕ) where
   rest′ : List Cause
   rest′ = surplus-causes (held-list h ps) (take (h .n) t) (take (h .n) s)
 
-  module _ (long : too-short ≡ false → 16384 ≤ length words) {d : Difference} (on : Surplus-on h gate′ t s (work-in h ps too-short words) d) where
+  module _ (long : too-short ≡ false → 12288 ≤ length words) {d : Difference} (on : Surplus-on h gate′ t s (work-in h ps too-short words) d) where
     pub surplus-call : Surplus-call h ps t s d
     unfolding surplus-number surplus-call-causes gate-number gate-causes if-taken rest′
     surplus-call =

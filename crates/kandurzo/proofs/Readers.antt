@@ -25,7 +25,7 @@ use types.Kit.{Given}
 use denote.Builtin.{u32, usize, unit}
 use denote.Slice.{sliceVal}
 use Rattle.records.specs.declared.Pair.{Pair}
-use Rattle.records.specs.Records.{put-back}
+use Rattle.records.specs.Records.{put-back, Room-back}
 use Rattle.records.proofs.Plain.{plain-word, plain-count, plain-none}
 use Rattle.records.proofs.Rows.{lend-mut, lend-shr}
 use Rattle.records.proofs.Calls.{Arg, plain as by-value, loan, Keys, values, Asks, Answers, bound}
@@ -33,7 +33,6 @@ use Rattle.records.proofs.Frame.{Blocks, env, fit-slice}
 use Rattle.records.proofs.Entry as Entry
 use Rattle.records.proofs.Entry.{Par}
 use Rattle.records.proofs.Records.{word-row, byte-row, room-as}
-use Rattle.records.proofs.Steps.{Enough-back}
 use Rattle.records.proofs.Copies.{length-put-back}
 use Rattle.records.proofs.Cited.{cites-in}
 use Rattle.records.proofs.Straight.{Plan, calls, gives, Runs, ahead, room, filled, params-typed}
@@ -91,8 +90,8 @@ module _ {M : Type 1} (𝓤 : URA M) (H : Heap 𝓤) (𝓜 : Model 𝓤 H) (𝓖
   -- Said: what the function on words says of the words and of its answer; what copy_in and clear_words ask, and what the call says, come from that
   module _ (#on : Name) {ρ : Routine} (is-on : γ #on ≡ ρ) (is-in : γ copy-in.name ≡ copy-in.routine) (is-clear : γ clear.name ≡ clear.routine) (Said : List ℕ → Edit → Type 0)
       (met : (s : Share) (ks : Keys (read-args s)) → ent 𝓤 (Asks (read-args s) (emp 𝓤) ks) (𝓡 .run ρ (values (read-args s)) (Answers (read-args s) G.the-row (λ e zs. Said (zs .1 .1 .0) e) ks)))
-      (enough : (us : List ℕ) (e : Edit) → Said us e → length us ≡ length ws → Enough-back ps us (e .count))
-      (long : (us : List ℕ) (e : Edit) → Said us e → length us ≡ length ws → (e .number < 13) × ((e .number ≡ 12 → ⊥) → 16384 ≤ length us))
+      (enough : (us : List ℕ) (e : Edit) → Said us e → length us ≡ length ws → Room-back ps us (e .count))
+      (long : (us : List ℕ) (e : Edit) → Said us e → length us ≡ length ws → (e .number ≡ 12 → ⊥) → (e .number ≡ 13 → ⊥) → 16384 ≤ length us)
       (X : Val → SProp 𝓤) {Says : Changed → Entry.Lasts pars → Type 0}
       (fin : (r : Changed) (zs : Entry.Lasts pars) → Entry.Fit pars zs
       → ent 𝓤 (sep 𝓤 (sep 𝓤 (sem 𝓤 H (𝓖 .A) (Entry.toks pars)) (sep 𝓤 (sem 𝓤 H (𝓖 .A) (Entry.has pars zs)) (sem 𝓤 H (𝓖 .A) (D.the-row .own r (plain-changed W .val r ∷ []))))) (fact 𝓤 (Says r zs)))
@@ -117,5 +116,5 @@ module _ {M : Type 1} (𝓤 : URA M) (H : Heap 𝓤) (𝓜 : Model 𝓤 H) (𝓖
         (λ ks. by-name W 𝓜 𝓡 γ is-clear (clear-thm.met 𝓤 H 𝓜 𝓖 𝓡 (bound (clear-args e (parts .0) us same) ks, tt))) (λ _ left.
         -- Changed { .. }
         let end : Entry.Lasts pars = (tt, (put-back ps us (e .count), (work-left (e .number) us, tt))) in
-        let fit : Entry.Fit pars end = (tt, (length-put-back ps us (e .count) (back .0), (left .0 ∙ same, tt))) in
+        let fit : Entry.Fit pars end = (tt, (length-put-back ps us (e .count) (back .room .enough), (left .0 ∙ same, tt))) in
         returns-at W 𝓜 𝓡 γ f pars X bs os end fit D.the-row (plain-changed W) (answer e) (answer-fits W e e-fits) (says us e said) (fin (answer e) end fit)))))

@@ -17,10 +17,10 @@ use Rattle.theory.specs.Promise.{Optimal}
 use Rattle.verify.specs.declared.Verdict.{Verdict}
 use Rattle.verify.specs.declared.Difference.{Difference}
 use Rattle.verify.specs.Answers.{refused-by, Check-says, Surplus-says}
+use Rattle.theory.specs.Words.{laid-list}
 use Rattle.records.specs.declared.Pair.{Pair}
 use Rattle.records.specs.declared.Head.{Head}
 use Rattle.records.specs.Records.{held-list, agrees}
-use Rattle.kandurzo.specs.Edits.{word-list}
 use Rattle.kandurzo.specs.Buffers.{Buffer, buffer, any-short, work-words, work-left}
 
 -- ---- check
@@ -71,11 +71,11 @@ pub record Surplus-call (h : Head) (ps : List Pair) (t s : List ℕ) (d : Differ
 
 -- check behind the gate, with the work buffer cleared
 pub record Check-on (h : Head) (gate : ℕ) (members shares work : List ℕ) (v : Verdict) (work′ : List ℕ) : Type 0 where
-  pub judged : gate ≡ 0 → Check-says (word-list h work) (take (h .n) members) (take (h .m) shares) v
+  pub judged : gate ≡ 0 → Check-says (laid-list (h .n) (h .m) work) (take (h .n) members) (take (h .m) shares) v
   pub refused : (gate ≡ 0 → ⊥) → v ≡ refused-by gate
   pub left : work′ ≡ work-left gate work
 
 -- surplus behind the gate
 pub record Surplus-on (h : Head) (gate : ℕ) (t s words : List ℕ) (d : Difference) : Type 0 where
-  pub judged : gate ≡ 0 → Surplus-says (word-list h words) (take (h .n) t) (take (h .n) s) d
+  pub judged : gate ≡ 0 → Surplus-says (laid-list (h .n) (h .m) words) (take (h .n) t) (take (h .n) s) d
   pub refused : (gate ≡ 0 → ⊥) → d ≡ record { number = gate; value = pos 0 }

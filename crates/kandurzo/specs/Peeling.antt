@@ -11,10 +11,10 @@ use lib.ListN.{length}
 use Rattle.theory.specs.Refusals.{Cause, cause, refusal, if-taken}
 use Rattle.theory.specs.Leaving.{leaving}
 use Rattle.theory.specs.Cores.{core-numbers}
+use Rattle.theory.specs.Words.{laid-list}
 use Rattle.records.specs.declared.Pair.{Pair}
 use Rattle.records.specs.declared.Head.{Head}
 use Rattle.records.specs.Records.{held-list, agrees}
-use Rattle.kandurzo.specs.Edits.{word-list}
 use Rattle.kandurzo.specs.Buffers.{Buffer, buffer, any-short, in-front, work-words, work-left}
 
 -- N entries of order and of cores, 16,384 of work
@@ -38,6 +38,6 @@ pub record Peel-call (h : Head) (ps : List Pair) (order cores work : List ℕ) (
 
 -- on words: behind the gate, with the work buffer cleared
 pub record Peel-on (h : Head) (gate : ℕ) (order cores work order′ cores′ work′ : List ℕ) : Type 0 where
-  pub order-is : order′ ≡ if-taken gate (in-front (leaving (word-list h work)) order) order
-  pub cores-are : cores′ ≡ if-taken gate (in-front (core-numbers (word-list h work)) cores) cores
+  pub order-is : order′ ≡ if-taken gate (in-front (leaving (laid-list (h .n) (h .m) work)) order) order
+  pub cores-are : cores′ ≡ if-taken gate (in-front (core-numbers (laid-list (h .n) (h .m) work)) cores) cores
   pub left : work′ ≡ work-left gate work

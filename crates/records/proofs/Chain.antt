@@ -28,7 +28,7 @@ use types.Run.{Opds}
 use sound.WpLaws.{FmC, fmOf}
 use denote.RattleType.{RattleType}
 use denote.Slice.{sliceVal}
-use Rattle.records.specs.Records.{laid-out, put-back, agrees}
+use Rattle.records.specs.Records.{laid-out, put-back, Room-out, Room-back, agrees}
 use Rattle.records.specs.declared.Pair.{Pair}
 use Rattle.records.specs.declared.Head.{Head}
 use Rattle.records.proofs.Plain.{Plain, Fits, typed-as}
@@ -38,7 +38,7 @@ use Rattle.records.proofs.Frame.{Places, Blocks, env, frees}
 use Rattle.records.proofs.Entry as Entry
 use Rattle.records.proofs.Entry.{Par}
 use Rattle.records.proofs.Records.{plain-head, pair-row, word-row}
-use Rattle.records.proofs.Steps.{CopiesOut, CopiesIn, Agrees, Enough, Enough-back, copies-out, copies-in, asks-agree}
+use Rattle.records.proofs.Steps.{CopiesOut, CopiesIn, Agrees, copies-out, copies-in, asks-agree}
 use Rattle.records.proofs.Straight.{Plan, calls, gives, Runs, ahead, room, filled, laid, Walk-of, walks, meets-call, meets-return, shifts, All-fit, params-typed, typed-params}
 use Rattle.records.proofs.Lent.{calls-lent}
 use Rattle.records.proofs.Head as N
@@ -155,7 +155,7 @@ module _ {M : Type 1} {𝓤 : URA M} {H : Heap 𝓤} {A : Atoms 𝓤} (W : Given
 
         -- the words' length is told as len
         module _ (i j : ℕ) (at : ℕ × ℕ) (ps : List Pair) (at′ : ℕ × ℕ) (ws : List ℕ) (m : ℕ) {len : ℕ} (sized : length ws ≡ len) (fits : m < 2 ^ 64) where
-          pub out-at : (s : Share) → CopiesOut 𝓤 H A (𝓜 .mem) (𝓡 .run) table → Room-for (pair-row W s (at .0) (at .1)) ps → Room-for (word-row W fullShare (at′ .0) (at′ .1)) ws → Enough ps ws m
+          pub out-at : (s : Share) → CopiesOut 𝓤 H A (𝓜 .mem) (𝓡 .run) table → Room-for (pair-row W s (at .0) (at .1)) ps → Room-for (word-row W fullShare (at′ .0) (at′ .1)) ws → Room-out ps ws m
               → picked 𝓤 H A (i ∷ j ∷ []) Δ ≡ holds (pair-row W s (at .0) (at .1)) ps ∷ holds (word-row W fullShare (at′ .0) (at′ .1)) ws ∷ []
               → On (with-back (i ∷ j ∷ []) (holds (pair-row W s (at .0) (at .1)) ps ∷ holds (word-row W fullShare (at′ .0) (at′ .1)) (laid-out ps ws m) ∷ []) Δ) next
               → On Δ (calls #copy-out (sliceVal at (length ps) ∷ sliceVal at′ len ∷ vint w64 m ∷ []) (Unit {0}) (λ _. vunit) (λ _. next))
@@ -165,7 +165,7 @@ module _ {M : Type 1} {𝓤 : URA M} {H : Heap 𝓤} {A : Atoms 𝓤} (W : Given
               (opds (‵ ftrue ∷ ‵ ftrue ∷ left (i ∷ j ∷ []) Δ))) $
               land (holds (pair-row W s (at .0) (at .1)) ps ∷ holds (word-row W fullShare (at′ .0) (at′ .1)) (laid-out ps ws m) ∷ left (i ∷ j ∷ []) Δ) tt tt (backs (i ∷ j ∷ []) Δ (_ ∷ _ ∷ []) k)))
 
-          pub in-at : (s : Share) → CopiesIn 𝓤 H A (𝓜 .mem) (𝓡 .run) table → Room-for (pair-row W fullShare (at .0) (at .1)) ps → Room-for (word-row W s (at′ .0) (at′ .1)) ws → Enough-back ps ws m
+          pub in-at : (s : Share) → CopiesIn 𝓤 H A (𝓜 .mem) (𝓡 .run) table → Room-for (pair-row W fullShare (at .0) (at .1)) ps → Room-for (word-row W s (at′ .0) (at′ .1)) ws → Room-back ps ws m
               → picked 𝓤 H A (i ∷ j ∷ []) Δ ≡ holds (pair-row W fullShare (at .0) (at .1)) ps ∷ holds (word-row W s (at′ .0) (at′ .1)) ws ∷ []
               → On (with-back (i ∷ j ∷ []) (holds (pair-row W fullShare (at .0) (at .1)) (put-back ps ws m) ∷ holds (word-row W s (at′ .0) (at′ .1)) ws ∷ []) Δ) next
               → On Δ (calls #copy-in (sliceVal at (length ps) ∷ sliceVal at′ len ∷ vint w64 m ∷ []) (Unit {0}) (λ _. vunit) (λ _. next))

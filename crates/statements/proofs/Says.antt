@@ -113,7 +113,7 @@ module _ (h : Head) (ps : List Pair) (order cores work : List ℕ) (r : ℕ) (or
   peel-agreed z = gate-open h ps _ (sym (call .number) ∙ z) .0
 
   peel-as : Peel-says (h .n) (h .m) (ends-of ps) r order order′ cores cores′ work work′
-  unfolding Peel-says kept-or work-left in-front ours.work-left ours.work-words ours.in-front if-taken
+  unfolding Peel-says kept-or work-left in-front ours.work-left ours.cleared ours.work-words ours.in-front if-taken
   peel-as =
       rw (← peel-order) (
         refl,
@@ -151,13 +151,13 @@ module _ (h : Head) (ps : List Pair) (members shares work : List ℕ) (v : Verdi
   check-order-as =
       call .number ∙ ap (λ (b : Bool). refusal (gate-causes (not (agrees h ps)) b ++ causes)) same-short
       ∙ sym (turned (eqb (refused h ps) 0) 13 _ ∙ orders h ps short _ causes (λ e s.
-      let n = check-enough h ps members shares work (same-short ∙ s) in
+      let n = check-enough h _ _ _ (same-short ∙ s) in
       let z : refused h ps ≡ 0 = refused-none h ps e in
       let l = check-plain (h .n) (h .m) (ends-of ps) members shares (length work) z (n .0) (n .1) (n .2) in
       sym (rw (← (same-list h ps e), z, s) at l)))
 
   check-as : Check-says (h .n) (h .m) (ends-of ps) members shares v work work′
-  unfolding Check-says work-left in-front ours.work-left ours.work-words ours.in-front if-taken
+  unfolding Check-says work-left in-front ours.work-left ours.cleared ours.work-words ours.in-front if-taken
   check-as =
       rw (← check-order-as) (
         refl,
@@ -195,7 +195,7 @@ module _ (h : Head) (ps : List Pair) (t s : List ℕ) (d : Difference) (call : S
   surplus-order-as =
       call .number ∙ ap (λ (b : Bool). refusal (gate-causes (not (agrees h ps)) b ++ both)) same-either
       ∙ sym (turned (eqb (refused h ps) 0) 13 _ ∙ orders h ps either-short _ both (λ e l.
-      let n = surplus-enough h ps t s [] (same-either ∙ l) in
+      let n = surplus-enough h _ _ (same-either ∙ l) in
       rw (same-list h ps e, members-plain (g h ps) t (n .0), members-plain (g h ps) s (n .1))
       (two-sets (is-group (weighted (g h ps)) (take (h .n) t)) (is-group (weighted (g h ps)) (take (h .n) s)))))
 
@@ -246,7 +246,7 @@ module _ (h : Head) (ps : List Pair) (members cores shares work : List ℕ) (r :
       declined-as (suc k) members members′ cores cores′ shares shares′ r (no .0 ∙ ap declined e) (no .1, no .2, no .3)
 
   solve-states : Solve-says (h .n) (h .m) (ends-of ps) r members members′ cores cores′ shares shares′ work work′
-  unfolding Solve-says work-left in-front ours.work-left ours.work-words ours.in-front
+  unfolding Solve-says work-left in-front ours.work-left ours.cleared ours.work-words ours.in-front
   solve-states = rw (← solve-order) (solve-as (r .number) refl, call .left)
 
 pub solve-says : Solve-stated
