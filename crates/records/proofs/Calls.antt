@@ -236,8 +236,8 @@ module _ {M : Type 1} {𝓤 : URA M} {H : Heap 𝓤} {A : Atoms 𝓤} {W : Given
         calls-from t fm (‵ (lent ps ks)) (values ps) (λ v. sep 𝓤 (Answers ps R Said ks v) (sem 𝓤 H A (kept ps ks))) (enters ks)
         (opds-behind ps (‵ (lent ps ks)) opds) (λ v.
         use1 W (raw (Answers ps R Said ks v) ⊛ ‵ (kept ps ks)) (id⊢ 𝓤 _) $ split t $
-        use1 W (later (some (λ (r : R .Denot). (‵ (toks ps ks) ⊛ ‵ (R .own r (v ∷ []))) ⊛ some
-        (λ (ws : Lasts ps). ‵ (lefts ps ks ws) ⊛ raw (fact 𝓤 (Said r ws)))))) (id⊢ 𝓤 _) $ await t tt $ pick t (λ r.
+        use1 W (later (some (λ (r : R .Denot). (‵ (toks ps ks) ⊛ ‵ (R .own r (v ∷ [])))
+        ⊛ some (λ (ws : Lasts ps). ‵ (lefts ps ks ws) ⊛ raw (fact 𝓤 (Said r ws)))))) (id⊢ 𝓤 _) $ await t tt $ pick t (λ r.
         split t $ split t $ move t (1 ∷ []) $ facts t R (Is R) (shows 𝓤 H A R) r (v ∷ [])
         (λ is. move t (1 ∷ []) $ pick t (λ ws. split t $ move t (1 ∷ []) $ heard t (Said r ws) (λ said.
         -- [what is left; tokens; kept]

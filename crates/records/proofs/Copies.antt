@@ -2,7 +2,8 @@
 --   length-ends-of                   two words a record
 --   length-laid-out, laid-out-none, laid-out-more    a buffer's length stays; no record, and one record more
 --   laid-out-pairs                   what lies in the words are the pairs that the records stand for
---   laid-out-past                    the words past the places of records stay
+--   laid-out-drop, laid-out-past     the words past the places of records stay
+--   laid-out-list, agrees-room, laid-out-holds       where head and list agree, words that are long enough then hold the list
 --   length-put-back, put-back-none, put-back-more    a list's length stays; no record, and one record more
 --   records-laid-out                 words read back are the records
 --   put-back-laid-out                records copied out and back are as they were
@@ -10,28 +11,22 @@
 use mathlib.Core.Path.{_≡_, refl, sym, ap, _∙_, subst}
 use Prim.Native.Nat.{ℕ, zero, suc, _+_, _*_, _≤_, _<_}
 use native.Mathlib.Omega.{arith}
-use mathlib.Core.List.{List, [], _∷_, _++_, map, append-assoc}
+use mathlib.Core.Bool.{true}
+use mathlib.Core.List.{List, [], _∷_, _++_, map, map-append, append-assoc}
 use lib.ListN.{length, getD, set, take, drop, length-append, length-drop, length-map, length-set, take-append-drop}
 use lib.Seq.{length-take-le, getD-take, getD-drop, take-suc, drop-cons, append-snoc, set-at, set-append-left, take-set-lt, drop-set-lt}
 use Rattle.theory.specs.Basics.{table}
+use Rattle.theory.specs.Lists as Lists
 use Rattle.theory.specs.Lists.{pair}
-use Rattle.theory.specs.Words.{word-pair, pairs-in, counts-of, laid-pairs, put-at}
+use Rattle.theory.specs.Words.{word-pair, pairs-in, counts-of, laid-pairs, laid-list, Holds-list, put-at}
+use Rattle.theory.proofs.Tests.{tests}
 use Rattle.theory.proofs.Tables.{length-table, table-ext}
 use Rattle.theory.proofs.Words.{length-put, put-below, put-in, put-drop}
-use Rattle.records.specs.Records.{
-  as-pair,
-  as-pairs,
-  blank,
-  ends-of,
-  weights-of,
-  laid-record,
-  laid-out,
-  word-record,
-  records-in,
-  put-back,
-  Room-out,
-}
+use Rattle.records.specs.Records.{as-pair, as-pairs, held-list, agrees, blank, ends-of, weights-of, laid-record, laid-out, word-record, records-in}
+use Rattle.records.specs.Records.{put-back, Room-out}
 use Rattle.records.specs.declared.Pair.{Pair}
+use Rattle.records.specs.declared.Head.{Head}
+use Rattle.records.proofs.Scans.{agrees-count}
 
 -- ---- one entry more of new ones, and one before them
 module _ (k : ℕ) (new old : List ℕ) (v j : ℕ) where
@@ -69,8 +64,7 @@ ends-of-more (q ∷ ps) p = ap {B = List ℕ} (λ (xs : List ℕ). q .a ∷ q .b
 
 weights-of-more : (ps : List Pair) (p : Pair) → weights-of (ps ++ (p ∷ [])) ≡ weights-of ps ++ (as-pair p .w ∷ [])
 unfolding weights-of
-weights-of-more [] p = refl
-weights-of-more (q ∷ ps) p = ap {B = List ℕ} (λ (xs : List ℕ). as-pair q .w ∷ xs) (weights-of-more ps p)
+weights-of-more ps p = map-append (λ q. as-pair q .w) ps (p ∷ [])
 
 -- the words of record j
 double-suc : (j : ℕ) → 2 * suc j ≡ suc (suc (2 * j))
@@ -121,40 +115,35 @@ module _ (ps : List Pair) (ws : List ℕ) (m : ℕ) (enough : m ≤ length ps) (
   unfolding laid-out
   length-laid = length-put 8192 cs (put-at 0 es ws) room-cs ∙ length-put 0 es ws room-es
 
-  past-laid : drop 12288 (laid-out ps ws m) ≡ drop 12288 ws
+  past-laid : (k : ℕ) → 12288 ≤ k → drop k (laid-out ps ws m) ≡ drop k ws
   unfolding laid-out
-  past-laid =
-      put-drop 8192 cs (put-at 0 es ws) room-cs 12288 (omega (arith, length-cs, few)) ∙ put-drop 0 es ws room-es 12288 (omega (arith, length-es, few))
+  past-laid k l =
+      put-drop 8192 cs (put-at 0 es ws) room-cs k (omega (arith, length-cs, few, l)) ∙ put-drop 0 es ws room-es k (omega (arith, length-es, few, l))
 
   -- a word of the ends
   end-laid : (k : ℕ) → k < 2 * m → getD (laid-out ps ws m) k 0 ≡ getD es k 0
   unfolding laid-out
   end-laid k l =
       let e : k ≡ 0 + k = omega arith in
-      put-below 8192 cs (put-at 0 es ws) room-cs k (omega (arith, l, few)) ∙ ap {B = ℕ} (λ (i : ℕ). getD (put-at 0 es ws) i 0) e
-      ∙ put-in 0 es ws room-es k (omega (arith, l, length-es))
+      cc (e, put-below 8192 cs (put-at 0 es ws) room-cs k (omega (arith, l, few)), put-in 0 es ws room-es k (omega (arith, l, length-es)))
 
   module _ (j : ℕ) (l : j < m) where
-    same : getD (take m ps) j blank ≡ getD ps j blank
-    same = getD-take m ps j blank l
-
     in-take : j < length (take m ps)
     in-take = omega (arith, l, length-take-le m ps enough)
 
     first-laid : getD (laid-out ps ws m) (2 * j) 0 ≡ getD ps j blank .a
-    first-laid = end-laid (2 * j) (omega (arith, l)) ∙ ends-at (take m ps) j in-take .0 ∙ ap {B = ℕ} (λ (p : Pair). p .a) same
+    first-laid = cc (end-laid (2 * j) (omega (arith, l)), ends-at (take m ps) j in-take .0, getD-take m ps j blank l)
 
     second-laid : getD (laid-out ps ws m) (2 * j + 1) 0 ≡ getD ps j blank .b
     second-laid =
         let e : 2 * j + 1 ≡ suc (2 * j) = omega arith in
-        ap {B = ℕ} (λ (i : ℕ). getD (laid-out ps ws m) i 0) e ∙ end-laid (suc (2 * j)) (omega (arith, l)) ∙ ends-at (take m ps) j in-take .1
-        ∙ ap {B = ℕ} (λ (p : Pair). p .b) same
+        cc (e, end-laid (2 * j + 1) (omega (arith, l)), ends-at (take m ps) j in-take .1, getD-take m ps j blank l)
 
     weight-laid : getD (counts-of (laid-out ps ws m)) j 0 ≡ as-pair (getD ps j blank) .w
     unfolding laid-out counts-of
     weight-laid =
-        getD-drop 8192 (laid-out ps ws m) j 0 ∙ put-in 8192 cs (put-at 0 es ws) room-cs j (omega (arith, l, length-cs))
-        ∙ weights-at (take m ps) j in-take ∙ ap {B = ℕ} (λ (p : Pair). as-pair p .w) same
+        let there = put-in 8192 cs (put-at 0 es ws) room-cs j (omega (arith, l, length-cs)) in
+        cc (getD-drop 8192 (laid-out ps ws m) j 0, there, weights-at (take m ps) j in-take, getD-take m ps j blank l)
 
 -- one record more
 module _ (ps : List Pair) (ws : List ℕ) (i : ℕ) (l : i < length ps) (few : i < 4096) (long : 12288 ≤ length ws) where
@@ -189,9 +178,12 @@ length-laid-out ps ws zero r = ap {B = ℕ} (λ (xs : List ℕ). length xs) (lai
 length-laid-out ps ws (suc m) r = length-laid ps ws (suc m) (r .enough) (r .few) (r .long (omega arith))
 
 -- and what lies past the places
+pub laid-out-drop : (ps : List Pair) (ws : List ℕ) (m : ℕ) → Room-out ps ws m → (k : ℕ) → 12288 ≤ k → drop k (laid-out ps ws m) ≡ drop k ws
+laid-out-drop ps ws zero r k l = ap {B = List ℕ} (λ (xs : List ℕ). drop k xs) (laid-out-none ps ws)
+laid-out-drop ps ws (suc m) r k l = past-laid ps ws (suc m) (r .enough) (r .few) (r .long (omega arith)) k l
+
 pub laid-out-past : (ps : List Pair) (ws : List ℕ) (m : ℕ) → Room-out ps ws m → drop 12288 (laid-out ps ws m) ≡ drop 12288 ws
-laid-out-past ps ws zero r = ap {B = List ℕ} (λ (xs : List ℕ). drop 12288 xs) (laid-out-none ps ws)
-laid-out-past ps ws (suc m) r = past-laid ps ws (suc m) (r .enough) (r .few) (r .long (omega arith))
+laid-out-past ps ws m r = laid-out-drop ps ws m r 12288 (omega arith)
 
 -- ---- words to records
 set-table : {A : Type 0} (f : ℕ → A) (xs : List A) (i : ℕ) → i < length xs → set (table i f ++ drop i xs) i (f i) ≡ table (suc i) f ++ drop (suc i) xs
@@ -228,31 +220,50 @@ table-map f g zero = refl
 table-map f g (suc m) = ap {B = List _} (λ r. g (f 0) ∷ r) (table-map (λ j. f (suc j)) g m)
 
 module _ (ps : List Pair) (ws : List ℕ) (m : ℕ) (r : Room-out ps ws m) where
-  some-long : (j : ℕ) → j < m → 12288 ≤ length ws
-  some-long j l = r .long (omega (arith, l))
+  module _ (j : ℕ) (l : j < m) where
+    there : 12288 ≤ length ws
+    there = r .long (omega (arith, l))
+
+    -- the record at place j
+    record-laid : word-record (laid-out ps ws m) j ≡ getD ps j blank
+    record-laid = λ i. record {
+      a = first-laid ps ws m (r .enough) (r .few) there j l i;
+      b = second-laid ps ws m (r .enough) (r .few) there j l i;
+    }
+
+    pair-laid : word-pair (laid-out ps ws m) (counts-of (laid-out ps ws m)) j ≡ as-pair (getD ps j blank)
+    unfolding word-pair as-pair pair
+    pair-laid = λ i. record { a = record-laid i .a; b = record-laid i .b; w = weight-laid ps ws m (r .enough) (r .few) there j l i }
 
   -- words stand for the pairs that the records stand for
   pub laid-out-pairs : laid-pairs m (laid-out ps ws m) ≡ as-pairs (take m ps)
-  unfolding laid-pairs pairs-in word-pair as-pairs as-pair pair
+  unfolding laid-pairs pairs-in as-pairs
   laid-out-pairs =
-      table-ext m (word-pair (laid-out ps ws m) (counts-of (laid-out ps ws m))) (λ j. as-pair (getD ps j blank)) (λ j l. λ i. record {
-        a = first-laid ps ws m (r .enough) (r .few) (some-long j l) j l i;
-        b = second-laid ps ws m (r .enough) (r .few) (some-long j l) j l i;
-        w = weight-laid ps ws m (r .enough) (r .few) (some-long j l) j l i;
-      })
-      ∙ table-map (λ j. getD ps j blank) as-pair m ∙ ap (map as-pair) (table-take blank ps m (r .enough))
+      table-ext m _ (λ j. as-pair (getD ps j blank)) pair-laid ∙ table-map (λ j. getD ps j blank) as-pair m
+      ∙ ap (map as-pair) (table-take blank ps m (r .enough))
 
   -- words read back are the records
   pub records-laid-out : records-in m (laid-out ps ws m) ≡ take m ps
   unfolding records-in
-  records-laid-out =
-      table-ext m (word-record (laid-out ps ws m)) (λ j. getD ps j blank) (λ j l. λ i. record {
-        a = first-laid ps ws m (r .enough) (r .few) (some-long j l) j l i;
-        b = second-laid ps ws m (r .enough) (r .few) (some-long j l) j l i;
-      })
-      ∙ table-take blank ps m (r .enough)
+  records-laid-out = table-ext m _ (λ j. getD ps j blank) record-laid ∙ table-take blank ps m (r .enough)
 
   -- records copied out and back are as they were
   pub put-back-laid-out : put-back ps (laid-out ps ws m) m ≡ ps
   unfolding put-back
   put-back-laid-out = ap {B = List Pair} (λ (qs : List Pair). qs ++ drop m ps) records-laid-out ∙ take-append-drop m ps
+
+-- ---- where head and list agree, words that are long enough then hold the list
+module _ (h : Head) (ps : List Pair) (ws : List ℕ) where
+  pub laid-out-list : Room-out ps ws (h .m) → laid-list (h .n) (h .m) (laid-out ps ws (h .m)) ≡ held-list h ps
+  unfolding laid-list held-list
+  laid-out-list r = ap (λ (qs : List Lists.Pair). record { n = h .n; pairs = qs }) (laid-out-pairs ps ws (h .m) r)
+
+  module _ (e : agrees h ps ≡ true) (long : 12288 ≤ length ws) where
+    pub agrees-room : Room-out ps ws (h .m)
+    agrees-room = record { enough = agrees-count h ps e .0; few = agrees-count h ps e .1; long = λ _. long }
+
+    pub laid-out-holds : Holds-list (h .n) (h .m) (laid-out ps ws (h .m))
+    unfolding agrees
+    laid-out-holds =
+        let e′ = simp tests at e in
+        record { listed = rw (laid-out-list agrees-room) (e′ .1); long = omega (arith, long, length-laid-out ps ws (h .m) agrees-room) }

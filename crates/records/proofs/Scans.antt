@@ -118,7 +118,7 @@ module _ (h : Head) (ps : List Pair) where
 
   -- what the scan says is whether head and list agree
   pub scan-agrees : scan (h .n) start (take (tested-of h (start .ok)) ps) .ok ≡ agrees h ps
-  unfolding begin-of tested-of scan
+  unfolding begin-of scan
   scan-agrees = same-test _ _ to from
     where
       by-fit : (t : Bool) → fits h (length ps) ≡ t → scan (h .n) start (take (cond t (h .m) 0) ps) .ok ≡ true → agrees h ps ≡ true
@@ -135,7 +135,7 @@ module _ (h : Head) (ps : List Pair) where
 
   -- no more records are tested than there are, and at most 4,096
   pub tested-le : (tested-of h (start .ok) ≤ length ps) × (tested-of h (start .ok) ≤ 4096)
-  unfolding begin-of tested-of
+  unfolding begin-of
   tested-le = by-fit (fits h (length ps)) refl
     where
       by-fit : (t : Bool) → fits h (length ps) ≡ t → (cond t (h .m) 0 ≤ length ps) × (cond t (h .m) 0 ≤ 4096)

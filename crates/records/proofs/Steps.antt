@@ -52,8 +52,8 @@ module _ {M : Type 1} (𝓤 : URA M) (H : Heap 𝓤) (A : Atoms 𝓤) (mem : Mem
   abbrev pub Agrees : Type 1
   Agrees = Triple 𝓤 (C #records·agree) (tripleOf 𝓤 H A agree.signature (agree.spec 𝓤 H A mem run))
 
-module _ {M : Type 1} {𝓤 : URA M} {H : Heap 𝓤} {A : Atoms 𝓤} {K : Type 0} {W : Given 𝓤 H A} {Γ : List
-    (Item 𝓤)} {E : Env 𝓤 H} {C : Calls 𝓤 H} {Λ : Loops 𝓤 H} {Q : Post 𝓤 H}
+module _ {M : Type 1} {𝓤 : URA M} {H : Heap 𝓤} {A : Atoms 𝓤} {K : Type 0} {W : Given 𝓤 H A}
+    {Γ : List (Item 𝓤)} {E : Env 𝓤 H} {C : Calls 𝓤 H} {Λ : Loops 𝓤 H} {Q : Post 𝓤 H}
     (mem : Memory → SProp 𝓤) (run : Routine → Fun 𝓤) where
   pub copies-out : K → FmC 𝓤 H (W .laws) C → CopiesOut 𝓤 H A mem run C → {xs : List Operand} {d : Place} {rest : Body}
       (s : Share) (b o : ℕ) (ps : List Pair) (b′ o′ : ℕ) (ws : List ℕ) (m : ℕ) → Room-for (pair-row W s b o) ps → Room-for (word-row W fullShare b′ o′) ws
@@ -62,8 +62,8 @@ module _ {M : Type 1} {𝓤 : URA M} {H : Heap 𝓤} {A : Atoms 𝓤} {K : Type 
       → Step K W (holds (pair-row W s b o) ps ∷ holds (word-row W fullShare b′ o′) (laid-out ps ws m) ∷ Γ) (lands C Λ E d vunit rest Q)
       (holds (pair-row W s b o) ps ∷ holds (word-row W fullShare b′ o′) ws ∷ Γ) (runs C Λ E (seq (call #records·copy-out xs d) rest) Q)
   copies-out t fm known s b o ps b′ o′ ws m room room′ m-fits asked opds = step (λ k.
-      let args : List (Arg W) = loan (lend-shr (pair-row W s b o) ps room) ∷ loan (lend-mut (word-row W fullShare b′ o′) ws room′) ∷ plain usize
-      (plain-count W) m (refl, m-fits) ∷ [] in
+      let args : List (Arg W) = loan (lend-shr (pair-row W s b o) ps room) ∷ loan (lend-mut (word-row W fullShare b′ o′) ws room′)
+      ∷ plain usize (plain-count W) m (refl, m-fits) ∷ [] in
       calls-outright t fm args unit (plain-none W) (fact 𝓤 (Room-out ps ws m)) (λ r zs. zs .1 .0 ≡ laid-out ps ws m) refl
       (factI 𝓤 (Room-out ps ws m) (emp 𝓤) asked) (λ ks. known (bound args ks, tt))
       tt (tt, (laid-out ps ws m, (tt, tt))) (λ r zs e. (refl, λ i. (tt, (e i, (tt, tt))))) opds (λ _ _. k))
@@ -75,8 +75,8 @@ module _ {M : Type 1} {𝓤 : URA M} {H : Heap 𝓤} {A : Atoms 𝓤} {K : Type 
       → Step K W (holds (pair-row W fullShare b o) (put-back ps ws m) ∷ holds (word-row W s b′ o′) ws ∷ Γ) (lands C Λ E d vunit rest Q)
       (holds (pair-row W fullShare b o) ps ∷ holds (word-row W s b′ o′) ws ∷ Γ) (runs C Λ E (seq (call #records·copy-in xs d) rest) Q)
   copies-in t fm known b o ps s b′ o′ ws m room room′ m-fits asked opds = step (λ k.
-      let args : List (Arg W) = loan (lend-mut (pair-row W fullShare b o) ps room) ∷ loan (lend-shr (word-row W s b′ o′) ws room′) ∷ plain usize
-      (plain-count W) m (refl, m-fits) ∷ [] in
+      let args : List (Arg W) = loan (lend-mut (pair-row W fullShare b o) ps room) ∷ loan (lend-shr (word-row W s b′ o′) ws room′)
+      ∷ plain usize (plain-count W) m (refl, m-fits) ∷ [] in
       calls-outright t fm args unit (plain-none W) (fact 𝓤 (Room-back ps ws m)) (λ r zs. zs .0 ≡ put-back ps ws m) refl
       (factI 𝓤 (Room-back ps ws m) (emp 𝓤) asked) (λ ks. known (bound args ks, tt))
       tt (put-back ps ws m, (tt, (tt, tt))) (λ r zs e. (refl, λ i. (e i, (tt, (tt, tt))))) opds (λ _ _. k))

@@ -24,7 +24,7 @@ unfoldable pub begin-of : Head → (len : ℕ) → Seen
 begin-of h len = record { ok = fits h len; last = blank }
 
 -- how many records are tested: none where the head alone is refused
-unfoldable pub tested-of : Head → (ok : Bool) → ℕ
+abbrev pub tested-of : Head → (ok : Bool) → ℕ
 tested-of h ok = cond ok (h .m) 0
 
 -- one record more: below N, the smaller number first, after the record before it

@@ -70,13 +70,13 @@ abbrev kinds : Kinds (f.ended .signature .params) (f.ended .kept)
 kinds = (record-kind N.the-type N′.the-laws (λ x w. refl), (shr-kind 0 tt P.the-row, tt))
 
 -- the contracts that the walk cites
-record Cited {M : Type 1} (𝓤 : URA M) (H : Heap 𝓤) (A : Atoms 𝓤) (mem : Memory → SProp 𝓤) (run : Routine → Fun 𝓤) (C : Calls 𝓤 H) : Type 1 where
+record Known {M : Type 1} (𝓤 : URA M) (H : Heap 𝓤) (A : Atoms 𝓤) (mem : Memory → SProp 𝓤) (run : Routine → Fun 𝓤) (C : Calls 𝓤 H) : Type 1 where
   begins : Triple 𝓤 (C begin-def.name) (tripleOf 𝓤 H A begin.signature (begin.spec 𝓤 H A mem run))
   tests : Triple 𝓤 (C tested-def.name) (tripleOf 𝓤 H A tested.signature (tested.spec 𝓤 H A mem run))
   steps : Triple 𝓤 (C step-def.name) (tripleOf 𝓤 H A step.signature (step.spec 𝓤 H A mem run))
 
 module _ {M : Type 1} (𝓤 : URA M) (H : Heap 𝓤) (A : Atoms 𝓤) (W : Given 𝓤 H A) (mem : Memory → SProp 𝓤) (run : Routine → Fun 𝓤) (𝓣 : Tables 𝓤 H)
-    (known : Cited 𝓤 H A mem run (𝓣 .C)) (κs : Lfts 1) (qs : Shares 1) (h : Head) (list : RefT (List Pair))
+    (known : Known 𝓤 H A mem run (𝓣 .C)) (κs : Lfts 1) (qs : Shares 1) (h : Head) (list : RefT (List Pair))
     (is-head : Fits N.the-row (plain-head W) h) (room : Room P.the-row (length (list .now))) where
   abbrev C : Calls 𝓤 H
   C = 𝓣 .C
@@ -93,8 +93,8 @@ module _ {M : Type 1} (𝓤 : URA M) (H : Heap 𝓤) (A : Atoms 𝓤) (W : Given
   abbrev pars : List (Par W)
   pars = plain N.the-row (plain-head W) h is-head ∷ held-shr W (κs .0) (qs .0) P.the-row (plain-pair W) list room ∷ []
 
-  abbrev Post-of : Val → SProp 𝓤
-  Post-of = walkOf 𝓤 H A f.ended (stays f.ended kinds) (f.clauses 𝓤 H A mem run) .post (entry pars, tt)
+  abbrev Post : Val → SProp 𝓤
+  Post = walkOf 𝓤 H A f.ended (stays f.ended kinds) (f.clauses 𝓤 H A mem run) .post (entry pars, tt)
 
   -- ---- the values on the way: what is seen before the first record, how many are tested, and what is seen after i of them
   abbrev start : Seen
@@ -138,13 +138,13 @@ module _ {M : Type 1} (𝓤 : URA M) (H : Heap 𝓤) (A : Atoms 𝓤) (W : Given
       p-fits = fit-at P.the-row (plain-pair W) ps good n blank in-list
 
       abbrev step-args : Kept n → List (Arg W)
-      step-args now = by-value u32 (plain-word W) (h .n) (refl, n-fits) ∷ by-value S.the-row (plain-seen W) (seen n) now ∷ by-value P.the-row
-          (plain-pair W) p p-fits ∷ []
+      step-args now = by-value u32 (plain-word W) (h .n) (refl, n-fits) ∷ by-value S.the-row (plain-seen W) (seen n) now
+          ∷ by-value P.the-row (plain-pair W) p p-fits ∷ []
 
       next-is : step-of (h .n) (seen n) p ≡ seen (suc n)
       next-is = sym (scan-more (h .n) start ps n in-list)
 
-    ended : Sq W (At k) (runs C Λ E body.t-7 (atRet E Post-of))
+    ended : Sq W (At k) (runs C Λ E body.t-7 (atRet E Post))
     ended =
         sets ! (2 + 0) empty (of-opd ! (part-of ! (2 + 4) 0 refl refl refl)) (tt, tt) $ leaves ! 2 (λ j. ltb j 8) _ refl (look ! (2 + 0) refl) $
         by ! (ends pars (s, tt) (tt, (tt, tt)) (tt, (tt, tt)) bool (plain-truth W) (seen k .ok) refl (fact 𝓤 (seen k .ok ≡ agrees h ps))
@@ -153,7 +153,7 @@ module _ {M : Type 1} (𝓤 : URA M) (H : Heap 𝓤) (A : Atoms 𝓤) (W : Given
         (tt, (tt, tt))))
 
     -- from the loop on
-    loop-on : Kept 0 → Sq W (At 0) (runs C Λ E body.t-6 (atRet E Post-of))
+    loop-on : Kept 0 → Sq W (At 0) (runs C Λ E body.t-6 (atRet E Post))
     loop-on fits =
         counts ! k (tested-le h ps .1) Kept 𝓣 At (2 + 6) (2 + 5) (2 + 8) (λ n. (refl, refl)) (λ n. (empty, (tt, tt))) (λ n. refl) (λ n. refl) (λ n now t q on.
         sets ! (2 + 9) empty (bin ! (var ! (2 + 6) refl) (lit ! tt) (fit (t .size-fits))) (num (t .size-fits)) $
@@ -166,9 +166,9 @@ module _ {M : Type 1} (𝓤 : URA M) (H : Heap 𝓤) (A : Atoms 𝓤) (W : Given
         lands-in ! (2 + 4) full (typed-as (plain-seen W) (seen (suc n)) fits) $
         adds-one ! (2 + 6) refl (t .next-fits) (num (t .next-fits)) $ clears ! E 2 8 _ refl $ on fits)) fits ended
 
-  walk : ent 𝓤 (onEntry 𝓤 H A f.signature κs qs (entry pars .3) (entry pars .4)) (WpFn 𝓤 H C Λ code.function (passed pars) Post-of)
+  walk : ent 𝓤 (onEntry 𝓤 H A f.signature κs qs (entry pars .3) (entry pars .4)) (WpFn 𝓤 H C Λ code.function (passed pars) Post)
   unfolding scan
-  walk = begins C Λ code.function Post-of pars (λ bs. (typed-as (plain-head W) h is-head, (fit-slice (room .0), tt))) (λ bs os.
+  walk = begins C Λ code.function Post pars (λ bs. (typed-as (plain-head W) h is-head, (fit-slice (room .0), tt))) (λ bs os.
       knows-row ! 0 (pair-row W (os .0) (list .ptr .0) (list .ptr .1)) ps refl (λ good.
       sets ! (2 + 3) empty (of-opd ! (part-of ! (2 + 1) 0 refl refl refl)) (num n-fits) $
       sets ! (2 + 7) empty (of-opd ! (part-of ! (2 + 2) 1 refl refl refl)) (num (room .0)) $

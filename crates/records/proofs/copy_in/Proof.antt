@@ -78,8 +78,8 @@ module _ {M : Type 1} (𝓤 : URA M) (H : Heap 𝓤) (A : Atoms 𝓤) (W : Given
   last-fits : Fit pars (last m)
   last-fits = (length-put-back ps ws m (asked .room .enough), (tt, (tt, tt)))
 
-  abbrev Post-of : Val → SProp 𝓤
-  Post-of = walkOf 𝓤 H A f.ended (stays f.ended kinds) (f.clauses 𝓤 H A mem run) .post (entry pars, tt)
+  abbrev Post : Val → SProp 𝓤
+  Post = walkOf 𝓤 H A f.ended (stays f.ended kinds) (f.clauses 𝓤 H A mem run) .post (entry pars, tt)
 
   abbrev pairs : Row W
   pairs = pair-row W fullShare (list .ptr .0) (list .ptr .1)
@@ -109,14 +109,14 @@ module _ {M : Type 1} (𝓤 : URA M) (H : Heap 𝓤) (A : Atoms 𝓤) (W : Given
       abbrev args : List (Arg W)
       args = loan (lend-shr (word-row W s (words .ptr .0) (words .ptr .1)) ws room′) ∷ by-value usize (plain-count W) n (refl, t .fits) ∷ []
 
-    ended : Sq W (At m) (runs (𝓣 .C) (𝓣 .Λ) E body.t-3 (atRet E Post-of))
+    ended : Sq W (At m) (runs (𝓣 .C) (𝓣 .Λ) E body.t-3 (atRet E Post))
     ended =
         sets ! (3 + 0) empty (of-opd ! (unit-lit !)) (tt, tt) $ leaves ! 3 (λ j. ltb j 5) _ refl (look ! (3 + 0) refl) $
         by ! (ends pars (tt, (s, tt)) (last m) last-fits unit (plain-none W) tt refl (fact 𝓤 (put-back ps ws m ≡ put-back ps ws m)) (factI 𝓤 _ _ refl)
         (ends-at 𝓤 H A f.ended (stays f.ended kinds) (f.clauses 𝓤 H A mem run) W (entry pars, tt) vunit tt (last m) last-fits))
 
     -- from the loop on
-    loop-on : Sq W (At 0) (runs (𝓣 .C) (𝓣 .Λ) E body.t-2 (atRet E Post-of))
+    loop-on : Sq W (At 0) (runs (𝓣 .C) (𝓣 .Λ) E body.t-2 (atRet E Post))
     loop-on =
         counts ! m (asked .room .few) (λ _. Unit {0}) 𝓣 At (3 + 4) (3 + 3) (3 + 5) (λ n. (refl, refl)) (λ n. (empty, (tt, tt))) (λ n. refl) (λ n. refl)
         (λ n _ t q on.
@@ -132,8 +132,8 @@ module _ {M : Type 1} (𝓤 : URA M) (H : Heap 𝓤) (A : Atoms 𝓤) (W : Given
         adds-one ! (3 + 4) refl (t .next-fits) (num (t .next-fits)) $ clears ! E 3 5 _ refl $
         rewrite ! 0 (holds pairs) (put-back-more ps ws n (in-list n t)) refl $ on tt)) tt ended
 
-  walk : ent 𝓤 (onEntry 𝓤 H A f.signature κs qs (entry pars .3) (entry pars .4)) (WpFn 𝓤 H (𝓣 .C) (𝓣 .Λ) code.function (passed pars) Post-of)
-  walk = begins (𝓣 .C) (𝓣 .Λ) code.function Post-of pars (λ bs. (fit-slice (room .0), (fit-slice (room′ .0), (num m-fits, tt)))) (λ bs os.
+  walk : ent 𝓤 (onEntry 𝓤 H A f.signature κs qs (entry pars .3) (entry pars .4)) (WpFn 𝓤 H (𝓣 .C) (𝓣 .Λ) code.function (passed pars) Post)
+  walk = begins (𝓣 .C) (𝓣 .Λ) code.function Post pars (λ bs. (fit-slice (room .0), (fit-slice (room′ .0), (num m-fits, tt)))) (λ bs os.
       sets ! (3 + 4) empty (of-opd ! (lit ! tt)) (num (lit< tt)) $ rewrite ! 0 (holds pairs) (sym (put-back-none ps ws)) refl $
       loop-on (os .1 .0) bs)
 

@@ -79,8 +79,8 @@ module _ {M : Type 1} (𝓤 : URA M) (H : Heap 𝓤) (A : Atoms 𝓤) (W : Given
   last-fits : Fit pars (last m)
   last-fits = (tt, (length-laid-out ps ws m asked, (tt, tt)))
 
-  abbrev Post-of : Val → SProp 𝓤
-  Post-of = walkOf 𝓤 H A f.ended (stays f.ended kinds) (f.clauses 𝓤 H A mem run) .post (entry pars, tt)
+  abbrev Post : Val → SProp 𝓤
+  Post = walkOf 𝓤 H A f.ended (stays f.ended kinds) (f.clauses 𝓤 H A mem run) .post (entry pars, tt)
 
   abbrev buffer : Row W
   buffer = word-row W fullShare (words .ptr .0) (words .ptr .1)
@@ -116,17 +116,17 @@ module _ {M : Type 1} (𝓤 : URA M) (H : Heap 𝓤) (A : Atoms 𝓤) (W : Given
       has-place = record { few = t .few; long = omega (arith, long, length-zs) }
 
       abbrev args : List (Arg W)
-      args = loan (lend-mut buffer zs (room-as u32 length-zs room′)) ∷ by-value usize (plain-count W) n (refl, t .fits) ∷ by-value P.the-row
-          (plain-pair W) p p-fits ∷ []
+      args = loan (lend-mut buffer zs (room-as u32 length-zs room′)) ∷ by-value usize (plain-count W) n (refl, t .fits)
+          ∷ by-value P.the-row (plain-pair W) p p-fits ∷ []
 
-    ended : Sq W (At m) (runs (𝓣 .C) (𝓣 .Λ) E body.t-3 (atRet E Post-of))
+    ended : Sq W (At m) (runs (𝓣 .C) (𝓣 .Λ) E body.t-3 (atRet E Post))
     ended =
         sets ! (3 + 0) empty (of-opd ! (unit-lit !)) (tt, tt) $ leaves ! 3 (λ j. ltb j 5) _ refl (look ! (3 + 0) refl) $
         by ! (ends pars (s, (tt, tt)) (last m) last-fits unit (plain-none W) tt refl (fact 𝓤 (laid-out ps ws m ≡ laid-out ps ws m)) (factI 𝓤 _ _ refl)
         (ends-at 𝓤 H A f.ended (stays f.ended kinds) (f.clauses 𝓤 H A mem run) W (entry pars, tt) vunit tt (last m) last-fits))
 
     -- from the loop on
-    loop-on : Sq W (At 0) (runs (𝓣 .C) (𝓣 .Λ) E body.t-2 (atRet E Post-of))
+    loop-on : Sq W (At 0) (runs (𝓣 .C) (𝓣 .Λ) E body.t-2 (atRet E Post))
     loop-on =
         counts ! m (asked .few) (λ _. Unit {0}) 𝓣 At (3 + 4) (3 + 3) (3 + 5) (λ n. (refl, refl)) (λ n. (empty, (tt, tt))) (λ n. refl) (λ n. refl) (λ n _ t q on.
         sets ! (3 + 7) empty (ptr-of ! (3 + 2) refl refl) (tt, tt) $
@@ -138,17 +138,15 @@ module _ {M : Type 1} (𝓤 : URA M) (H : Heap 𝓤) (A : Atoms 𝓤) (W : Given
         (typed-as (plain-pair W) (p n t) (p-fits n t)) $
         move ! (1 ∷ []) $
         calls-outright ! (fmOf 𝓤 H (W .laws) 𝓣) (args n t) unit (plain-none W) (fact 𝓤 (Room-at n (zs n t)))
-        (λ r us. us .0 ≡ laid-record (zs n t) n (p n t)) refl
-        (factI 𝓤 _ (emp 𝓤) (has-place n t)) (λ ks. known (bound (args n t) ks, tt)) tt (laid-record (zs n t) n (p n t), (tt, (tt, tt)))
-        (λ r us e. (refl, λ i. (e i, (tt, (tt, tt))))) (and-then ! (var ! (3 + 8) refl)
-        (and-then ! (var ! (3 + 4) refl) (and-then ! (var ! (3 + 11) refl) (no-more !)))) (λ _ _.
+        (λ r us. us .0 ≡ laid-record (zs n t) n (p n t)) refl (factI 𝓤 _ (emp 𝓤) (has-place n t)) (λ ks. known (bound (args n t) ks, tt))
+        tt (laid-record (zs n t) n (p n t), (tt, (tt, tt))) (λ r us e. (refl, λ i. (e i, (tt, (tt, tt)))))
+        (and-then ! (var ! (3 + 8) refl) (and-then ! (var ! (3 + 4) refl) (and-then ! (var ! (3 + 11) refl) (no-more !)))) (λ _ _.
         lands-in ! (3 + 6) empty (tt, tt) $ move ! (1 ∷ []) $
         adds-one ! (3 + 4) refl (t .next-fits) (num (t .next-fits)) $ clears ! E 3 5 _ refl $
-        rewrite ! 1 (holds buffer) (laid-out-more ps ws n (in-list n t) (t .few) (long n t)) refl $
-        on tt)) tt ended
+        rewrite ! 1 (holds buffer) (laid-out-more ps ws n (in-list n t) (t .few) (long n t)) refl $ on tt)) tt ended
 
-  walk : ent 𝓤 (onEntry 𝓤 H A f.signature κs qs (entry pars .3) (entry pars .4)) (WpFn 𝓤 H (𝓣 .C) (𝓣 .Λ) code.function (passed pars) Post-of)
-  walk = begins (𝓣 .C) (𝓣 .Λ) code.function Post-of pars (λ bs. (fit-slice (room .0), (fit-slice (room′ .0), (num m-fits, tt)))) (λ bs os.
+  walk : ent 𝓤 (onEntry 𝓤 H A f.signature κs qs (entry pars .3) (entry pars .4)) (WpFn 𝓤 H (𝓣 .C) (𝓣 .Λ) code.function (passed pars) Post)
+  walk = begins (𝓣 .C) (𝓣 .Λ) code.function Post pars (λ bs. (fit-slice (room .0), (fit-slice (room′ .0), (num m-fits, tt)))) (λ bs os.
       knows-row ! 0 (pair-row W (os .0) (list .ptr .0) (list .ptr .1)) ps refl (λ good.
       sets ! (3 + 4) empty (of-opd ! (lit ! tt)) (num (lit< tt)) $ rewrite ! 1 (holds buffer) (sym (laid-out-none ps ws)) refl $
       loop-on (os .0) bs good))

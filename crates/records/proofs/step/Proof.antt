@@ -42,7 +42,8 @@ module _ (n : ℕ) (s : Seen) (p : Pair) where
       other-first : (s .last .a ≡ p .a → ⊥) → now-seen (ltb (s .last .a) (p .a)) ≡ step-of n s p
       unfolding step-of stands-before as-pair pair
       other-first e =
-          simp (not-false (s .ok) ok, lt-ltb (p .b) n k, lt-ltb (p .a) (p .b) l, ne-eqb (s .last .a) (p .a) e) (ap now-seen (or-false (ltb (s .last .a) (p .a))))
+          simp (not-false (s .ok) ok, lt-ltb (p .b) n k, lt-ltb (p .a) (p .b) l, ne-eqb (s .last .a) (p .a) e)
+          (ap now-seen (or-false (ltb (s .last .a) (p .a))))
         where
           or-false : (t : Bool) → t ≡ (t || false)
           or-false true = refl
