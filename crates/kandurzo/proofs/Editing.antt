@@ -150,13 +150,13 @@ module _ {Says : Call} {edit : Making Edit} {words : Making (List ℕ)} (changes
         -- let out = records_out(head, agreed); copy_out(list, &mut words, out)
         (outright-at here [] records-args usize (plain-count W) k (tt, (tt, tt)) (λ r ws e. (e, refl)) refl refl (id⊢ 𝓤 _) is-records
         (λ ks. records-thm.met 𝓤 H 𝓜 𝓖 𝓡 (bound records-args ks, tt)) (λ k-fits _.
-        out-at here 1 0 (a .1 .0 .ptr) ps l zs k zs-long (k-fits .1) fullShare is-out (are .1 .0 .0 .1) (room-many zs-long) (out-enough zs zs-long h ps) refl
+        out-at here 1 0 (a .1 .0 .ptr) ps l zs k refl zs-long (k-fits .1) fullShare is-out (are .1 .0 .0 .1) (room-many zs-long) (out-enough zs zs-long h ps) refl
         -- let edit = add_on_words(head, agreed, list.len(), &mut words, a, b), or remove_on_words
         (outright-at here (0 ∷ []) (change-args l) G.the-row (plain-edit W) c (tt, (tt, (tt, (vs, (tt, (tt, tt))))))
         (λ r ws e. (e .0, λ i. (tt, (tt, (tt, (e .1 i, (tt, (tt, tt)))))))) refl (ap (λ (n : ℕ). change-vals (sliceVal l n)) (sym (us-ready .long)))
         (factI 𝓤 _ (emp 𝓤) us-ready) is-on (met l) (λ c-fits _.
         -- copy_in(list, &words, edit.count)
-        in-at here 1 0 (a .1 .0 .ptr) ps l vs (c .count) (done .long) (edit-parts W c c-fits .2) fullShare is-in (are .1 .0 .0 .1) (room-many (done .long)) (done .back) refl
+        in-at here 1 0 (a .1 .0 .ptr) ps l vs (c .count) refl (done .long) (edit-parts W c c-fits .2) fullShare is-in (are .1 .0 .0 .1) (room-many (done .long)) (done .back) refl
         -- Changed { .. }
         (drop-at here 6 many u32 (plain-word W) tt vs (done .long)
         (let fit : Entry.Fit pars end = (tt, (length-put-back ps vs (c .count) (done .back .0), (tt, (tt, tt)))) in

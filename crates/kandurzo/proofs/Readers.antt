@@ -104,7 +104,7 @@ module _ {M : Type 1} (𝓤 : URA M) (H : Heap 𝓤) (𝓜 : Model 𝓤 H) (𝓖
         let back = enough us e said same in
         let end : Entry.Lasts pars = (tt, (put-back ps us (e .count), (work-left (e .number) us, tt))) in
         -- copy_in(list, work, answer.count)
-        in-at here 1 2 (a .1 .0 .ptr) ps (a .1 .1 .0 .ptr) us (e .count) same (parts .2) fullShare is-in (are .1 .0 .0 .1) (room-as u32 same (are .1 .1 .0 .0 .1)) back refl
+        in-at here 1 2 (a .1 .0 .ptr) ps (a .1 .1 .0 .ptr) us (e .count) refl same (parts .2) fullShare is-in (are .1 .0 .0 .1) (room-as u32 same (are .1 .1 .0 .0 .1)) back refl
         -- clear_words(answer.number, work)
         (outright-at here (2 ∷ []) (clear-args e (parts .0) us same) unit (plain-none W) tt (tt, (work-left (e .number) us, tt)) (λ r vs s. (refl, λ i. (tt, (s i, tt)))) refl
         (ap (λ (n : ℕ). vint w32 (e .number) ∷ sliceVal (a .1 .1 .0 .ptr) n ∷ []) (sym same)) (factI 𝓤 _ (emp 𝓤) (long us e said same)) is-clear

@@ -206,27 +206,27 @@ module _ {M : Type 1} {𝓤 : URA M} {H : Heap 𝓤} (here : Spot 𝓤 H) where
         asks-agree (𝓜 .mem) (𝓡 .run) ! fm (cites-agree 𝓤 H 𝓜 𝓖 𝓡 γ named) h s (at .0) (at .1) ps is-head room-ps (opds (‵ ftrue ∷ left (i ∷ []) Δ)) $
         land (holds (pair-row W s (at .0) (at .1)) ps ∷ left (i ∷ []) Δ) tt tt (backs (i ∷ []) Δ (holds (pair-row W s (at .0) (at .1)) ps ∷ []) k)))
 
-    -- the words' length is told as len
-    module _ (i j : ℕ) (at : ℕ × ℕ) (ps : List Pair) (at′ : ℕ × ℕ) (ws : List ℕ) (m : ℕ) {len : ℕ} (sized : length ws ≡ len) (fits : m < 2 ^ 64) where
+    -- the lengths are told as n and k
+    module _ (i j : ℕ) (at : ℕ × ℕ) (ps : List Pair) (at′ : ℕ × ℕ) (ws : List ℕ) (m : ℕ) {n k : ℕ} (long : length ps ≡ n) (sized : length ws ≡ k) (fits : m < 2 ^ 64) where
       pub out-at : (s : Share) → γ copy-out.name ≡ copy-out.routine → Room-for (pair-row W s (at .0) (at .1)) ps → Room-for (word-row W fullShare (at′ .0) (at′ .1)) ws → Enough ps ws m
           → picked 𝓤 H A (i ∷ j ∷ []) Δ ≡ holds (pair-row W s (at .0) (at .1)) ps ∷ holds (word-row W fullShare (at′ .0) (at′ .1)) ws ∷ []
           → On (with-back (i ∷ j ∷ []) (holds (pair-row W s (at .0) (at .1)) ps ∷ holds (word-row W fullShare (at′ .0) (at′ .1)) (laid-out ps ws m) ∷ []) Δ) next
-          → On Δ (calls copy-out.name (sliceVal at (length ps) ∷ sliceVal at′ len ∷ vint w64 m ∷ []) (Unit {0}) (λ _. vunit) (λ _. next))
-      out-at s named room-ps room-ws enough at-ij k = fronts (i ∷ j ∷ []) Δ _ at-ij (meets-call W C Λ E (atRet E Kf) free (λ ys d b cs opds land.
+          → On Δ (calls copy-out.name (sliceVal at n ∷ sliceVal at′ k ∷ vint w64 m ∷ []) (Unit {0}) (λ _. vunit) (λ _. next))
+      out-at s named room-ps room-ws enough at-ij next-on = fronts (i ∷ j ∷ []) Δ _ at-ij (meets-call W C Λ E (atRet E Kf) free (λ ys d b cs opds land.
           copies-out (𝓜 .mem) (𝓡 .run) ! fm (cites-out 𝓤 H 𝓜 𝓖 𝓡 γ named) s (at .0) (at .1) ps (at′ .0) (at′ .1) ws m room-ps room-ws fits enough
-          (subst (λ (n : ℕ). Opds (Go {0}) W (‵ ftrue ∷ ‵ ftrue ∷ (left (i ∷ j ∷ []) Δ ++ (laid E cs ++ free))) E ys (sliceVal at (length ps) ∷ sliceVal at′ n ∷ vint w64 m ∷ [])) (sym sized)
+          (subst (λ (vs : List Val). Opds (Go {0}) W (‵ ftrue ∷ ‵ ftrue ∷ (left (i ∷ j ∷ []) Δ ++ (laid E cs ++ free))) E ys vs) (λ i. sliceVal at (sym long i) ∷ sliceVal at′ (sym sized i) ∷ vint w64 m ∷ [])
           (opds (‵ ftrue ∷ ‵ ftrue ∷ left (i ∷ j ∷ []) Δ))) $
-          land (holds (pair-row W s (at .0) (at .1)) ps ∷ holds (word-row W fullShare (at′ .0) (at′ .1)) (laid-out ps ws m) ∷ left (i ∷ j ∷ []) Δ) tt tt (backs (i ∷ j ∷ []) Δ (_ ∷ _ ∷ []) k)))
+          land (holds (pair-row W s (at .0) (at .1)) ps ∷ holds (word-row W fullShare (at′ .0) (at′ .1)) (laid-out ps ws m) ∷ left (i ∷ j ∷ []) Δ) tt tt (backs (i ∷ j ∷ []) Δ (_ ∷ _ ∷ []) next-on)))
 
       pub in-at : (s : Share) → γ copy-in.name ≡ copy-in.routine → Room-for (pair-row W fullShare (at .0) (at .1)) ps → Room-for (word-row W s (at′ .0) (at′ .1)) ws → Enough-back ps ws m
           → picked 𝓤 H A (i ∷ j ∷ []) Δ ≡ holds (pair-row W fullShare (at .0) (at .1)) ps ∷ holds (word-row W s (at′ .0) (at′ .1)) ws ∷ []
           → On (with-back (i ∷ j ∷ []) (holds (pair-row W fullShare (at .0) (at .1)) (put-back ps ws m) ∷ holds (word-row W s (at′ .0) (at′ .1)) ws ∷ []) Δ) next
-          → On Δ (calls copy-in.name (sliceVal at (length ps) ∷ sliceVal at′ len ∷ vint w64 m ∷ []) (Unit {0}) (λ _. vunit) (λ _. next))
-      in-at s named room-ps room-ws enough at-ij k = fronts (i ∷ j ∷ []) Δ _ at-ij (meets-call W C Λ E (atRet E Kf) free (λ ys d b cs opds land.
+          → On Δ (calls copy-in.name (sliceVal at n ∷ sliceVal at′ k ∷ vint w64 m ∷ []) (Unit {0}) (λ _. vunit) (λ _. next))
+      in-at s named room-ps room-ws enough at-ij next-on = fronts (i ∷ j ∷ []) Δ _ at-ij (meets-call W C Λ E (atRet E Kf) free (λ ys d b cs opds land.
           copies-in (𝓜 .mem) (𝓡 .run) ! fm (cites-in 𝓤 H 𝓜 𝓖 𝓡 γ named) (at .0) (at .1) ps s (at′ .0) (at′ .1) ws m room-ps room-ws fits enough
-          (subst (λ (n : ℕ). Opds (Go {0}) W (‵ ftrue ∷ ‵ ftrue ∷ (left (i ∷ j ∷ []) Δ ++ (laid E cs ++ free))) E ys (sliceVal at (length ps) ∷ sliceVal at′ n ∷ vint w64 m ∷ [])) (sym sized)
+          (subst (λ (vs : List Val). Opds (Go {0}) W (‵ ftrue ∷ ‵ ftrue ∷ (left (i ∷ j ∷ []) Δ ++ (laid E cs ++ free))) E ys vs) (λ i. sliceVal at (sym long i) ∷ sliceVal at′ (sym sized i) ∷ vint w64 m ∷ [])
           (opds (‵ ftrue ∷ ‵ ftrue ∷ left (i ∷ j ∷ []) Δ))) $
-          land (holds (pair-row W fullShare (at .0) (at .1)) (put-back ps ws m) ∷ holds (word-row W s (at′ .0) (at′ .1)) ws ∷ left (i ∷ j ∷ []) Δ) tt tt (backs (i ∷ j ∷ []) Δ (_ ∷ _ ∷ []) k)))
+          land (holds (pair-row W fullShare (at .0) (at .1)) (put-back ps ws m) ∷ holds (word-row W s (at′ .0) (at′ .1)) ws ∷ left (i ∷ j ∷ []) Δ) tt tt (backs (i ∷ j ∷ []) Δ (_ ∷ _ ∷ []) next-on)))
 
   -- ---- n copies of x in local p: an array of the function's own, at place 0
   module _ (p n : ℕ) (R : RattleType) (P : Plain W R) (one : Single (R .mir)) where
