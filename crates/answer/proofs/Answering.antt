@@ -1,6 +1,6 @@
 -- From what read and solve say, one after the other, to the answer.
 --   answer-of         the answer, of what read and solve return
---   few-records       at most 4,096 records go out
+--   ends-enough, length-ends    what copy_out asks, and that it leaves as many words
 --   sheeted           the contract of sheet_file
 --   answers           the contract of solve_file, from it
 -- Assumes nothing.
@@ -22,7 +22,8 @@ use Rattle.pairfile.specs.Answers.{reading-of, pairs-of}
 use Rattle.records.specs.declared.Pair.{Pair}
 use Rattle.records.specs.declared.Head.{Head}
 use Rattle.records.specs.Records.{held-list, agrees, ends-of, laid-out}
-use Rattle.records.proofs.Copies.{length-ends-of, laid-out-none, pairs-laid-out}
+use Rattle.records.proofs.Copies.{length-ends-of, length-laid-out, laid-out-none, pairs-laid-out}
+use Rattle.records.proofs.Steps.{Enough}
 use Rattle.pairs.specs.Located.{ones-in}
 use Rattle.pairs.proofs.Weights.{ones-at}
 use Rattle.kandurzo.specs.declared.Changed.{Changed}
@@ -120,13 +121,21 @@ module _ (bytes : List ℕ) (ps : List Pair) (work : List ℕ) (list-long : leng
   unfolding read-head reading-of
   none-read k e = head-as (refused k) e
 
-  pub few-records : h .m ≤ 4096
+  few-records : h .m ≤ 4096
   unfolding head-of
   few-records = go (read-file 4096 bytes) refl
     where
       go : (o : Outcome Pairs) → read-file 4096 bytes ≡ o → h .m ≤ 4096
       go (refused k) e = omega (arith, ap (λ (u : Head). u .m) (none-read k e))
       go (taken g) e = few-taken g e
+
+  -- what copy_out asks of the words, and that it leaves as many
+  module _ (kept : length ps′ ≡ 4096) (ends : List ℕ) (long : 8192 ≤ length ends) where
+    pub ends-enough : Enough ps′ ends (h .m)
+    ends-enough = (omega (arith, few-records, kept), few-records, omega (arith, few-records, long))
+
+    pub length-ends : length (laid-out ps′ ends (h .m)) ≡ length ends
+    length-ends = length-laid-out ps′ ends (h .m) (ends-enough .0) (ends-enough .2)
 
   module _ (members cores shares ends : List ℕ) (room : Room-enough (length members) (length cores) (length shares) (length ends))
       (found : Solved) (members′ cores′ shares′ work″ : List ℕ)
