@@ -5,7 +5,6 @@
 // at the found group's size makes the split that the load sheet is written from; mostly it is the last one. (The Dinkelbach iteration.)
 ghost use mathlib.Core.Path.{_≡_};
 ghost use mathlib.Core.Bool.{true};
-ghost use Rattle.theory.specs.Groups.{inside, size};
 ghost use Rattle.densest.specs.Search.{Link-room, Searchable, Round, Group-found};
 
 // A group's inside count and size, and whether the last round made a split at that size.
