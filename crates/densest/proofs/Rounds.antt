@@ -28,12 +28,11 @@ use Rattle.theory.proofs.Groups.{size-pos, group-bits}
 use Rattle.theory.proofs.Sums.{byte-le}
 use Rattle.theory.proofs.Cores.{core-bits, core-members}
 use Rattle.theory.proofs.Bounds.{inside-bound, size-le-length}
-use Rattle.slots.specs.Slots.{Room}
 use Rattle.slots.specs.Split.{Split}
 use Rattle.slots.proofs.Held.{zero-at}
 use Rattle.slots.proofs.Words.{list-weights}
 use Rattle.flow.specs.Flow.{Flowed, Largest}
-use Rattle.densest.specs.Search.{Candidate, Cored, Link-room, Round, Group-found}
+use Rattle.densest.specs.Search.{Candidate, Cored, Link-room, Searchable, Round, Group-found}
 use Rattle.densest.proofs.Units.{split-kept, split-room, own-none}
 use Rattle.densest.proofs.Answers.{denser-group}
 use Rattle.densest.proofs.Enough.{drained-found, ratio-rises}
@@ -115,13 +114,8 @@ module _ (n m p q : ℕ) (ends weights : List ℕ) (h : Held-words n m ends weig
 
 -- p over q is a group's ratio; once a round has found a split, the found group's
 pub record Going (n m : ℕ) (ends weights cores first next scope hold group : List ℕ) (p q : ℕ) (done settled : Bool) : Type 0 where
-  pub held : Held-words n m ends weights
-  pub cored : Cored (list-in n m ends weights) cores
+  pub asks : Searchable n m p q ends weights cores scope hold group
   pub linked : Link-room n m first next
-  pub scope-long : length scope ≡ n
-  pub group-long : length group ≡ n
-  pub room : Room m hold
-  pub at-hand : Candidate (list-in n m ends weights) p q
   pub ended : done ≡ true → Group-found n m ends weights scope hold group p q settled
 
 -- rounds left at most, by the ratio at n · n
@@ -152,13 +146,17 @@ module _ (n m : ℕ) (ends weights cores first next scope hold group scope' hold
   pub going-on : t ≡ (eqb p' p && eqb q' q) → length scope' ≡ n → length group' ≡ n →
       Going n m ends weights cores first next scope' hold' group' p' q' r t
   going-on et ls lg = record {
-    held = s .held;
-    cored = s .cored;
+    asks = record {
+      held = s .asks .held;
+      at-hand =
+          group-candidate (list-in n m ends weights) group' p' q' (s .asks .held .listed)
+          (round-group n m p q ends weights scope' hold' group' r d) hp hq;
+      cored = s .asks .cored;
+      scope-long = ls;
+      group-long = lg;
+      room = d .room;
+    };
     linked = s .linked;
-    scope-long = ls;
-    group-long = lg;
-    room = d .room;
-    at-hand = group-candidate (list-in n m ends weights) group' p' q' (s .held .listed) (round-group n m p q ends weights scope' hold' group' r d) hp hq;
     ended = λ e. record { found = d .found e; inside-count = hp; modules = hq; room = d .room; last = round-again et e };
   }
 
@@ -171,12 +169,12 @@ module _ (n m : ℕ) (ends weights cores first next scope hold group scope' hold
       go true d = omega arith
       go false d =
           let g = list-in n m ends weights in
-          let c = s .at-hand in
+          let c = s .asks .at-hand in
           let gs = d .is-a-group refl in
-          let b = candidate-bounded g p q (s .held .listed) c in
+          let b = candidate-bounded g p q (s .asks .held .listed) c in
           let up : p * q' < p' * q =
           omega (arith, d .denser refl, ap (λ (z : ℕ). p * z) hq, ap (λ (z : ℕ). z * q) hp) in
           let rise = ratio-rises p q p' q' n (b .some) (omega (arith, size-pos g group' gs))
           (c .small) (omega (arith, size-most n m ends weights group' gs)) up in
-          let most : p' ≤ 4096000 = omega (arith, inside-bound g group' (s .held .listed)) in
+          let most : p' ≤ 4096000 = omega (arith, inside-bound g group' (s .asks .held .listed)) in
           omega (arith, rise, div-le-self (p' * (n * n)) q', mul-le-mul-right (n * n) most)

@@ -146,12 +146,12 @@ pub solves-of : (n m : ℕ) (ends weights members cores shares s cores′ xs : L
     Solves (list-in n m ends weights) members cores shares (s ++ drop n members) cores′ (xs ++ drop m shares) x
 unfolding list-in pairs-in
 solves-of n m ends weights members cores shares s cores′ xs x ln lm ls lx ec d =
-    let few : length (table m (word-pair ends weights)) ≡ m = length-table m (word-pair ends weights) in
+    let count : length (table m (word-pair ends weights)) ≡ m = length-table m (word-pair ends weights) in
     record {
       members-long = length-front members s n (ls ∙ sym (length-take-le n members ln));
       shares-long = length-front shares xs m (lx ∙ sym (length-take-le m shares lm));
       members-rest = drop-at s (drop n members) n ls;
       cores-are = ec;
-      shares-rest = rw few (drop-at xs (drop m shares) m lx);
-      solved = rw (few, take-at s (drop n members) n ls, take-at xs (drop m shares) m lx) d;
+      shares-rest = rw count (drop-at xs (drop m shares) m lx);
+      solved = rw (count, take-at s (drop n members) n ls, take-at xs (drop m shares) m lx) d;
     }

@@ -1,6 +1,7 @@
 -- What the functions under `solve` take and leave; only this crate cites it.
 --   Candidate                  a ratio that some group reaches
 --   Cored, Link-room           buffers that have the core numbers; buffers for the links
+--   Searchable                 what rounds start from
 --   Round                      what one round learns
 --   Group-found                what all rounds learn
 --   left-first, sheet-share    who of a pair left first; a pair's share, from its slots and the leaving places
@@ -15,7 +16,7 @@ use Rattle.theory.specs.Lists.{Pairs}
 use Rattle.theory.specs.Groups.{size, is-group, holds-pair, inside, Found}
 use Rattle.theory.specs.Cores.{core, core-number}
 use Rattle.theory.specs.Splits.{units, rounded-up}
-use Rattle.theory.specs.Words.{word-pair, list-in}
+use Rattle.theory.specs.Words.{word-pair, list-in, Held-words}
 use Rattle.slots.specs.Slots.{held-by, Room}
 use Rattle.slots.specs.Split.{Split}
 
@@ -32,6 +33,15 @@ pub record Candidate (g : Pairs) (p q : ℕ) : Type 0 where
 pub record Cored (g : Pairs) (cores : List ℕ) : Type 0 where
   pub long : g .n ≤ length cores
   pub numbers : (v : ℕ) → v < g .n → getD cores v 0 ≡ core-number g v
+
+-- what rounds start from: a list with its core numbers, a ratio at hand, and room for scope, units and group
+pub record Searchable (n m p q : ℕ) (ends weights cores scope hold group : List ℕ) : Type 0 where
+  pub held : Held-words n m ends weights
+  pub at-hand : Candidate (list-in n m ends weights) p q
+  pub cored : Cored (list-in n m ends weights) cores
+  pub scope-long : length scope ≡ n
+  pub group-long : length group ≡ n
+  pub room : Room m hold
 
 -- links are free: they only say where to look first
 pub record Link-room (n m : ℕ) (first next : List ℕ) : Type 0 where

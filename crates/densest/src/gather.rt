@@ -2,12 +2,12 @@
 // the search goes on among them, and the units that it leaves are put back in the slots of all pairs.
 ghost use mathlib.Core.Path.{_≡_};
 ghost use mathlib.Core.Bool.{true, cond};
-ghost use Prim.Native.Nat.{ℕ, _+_, _*_, _≤_, _<_};
+ghost use Prim.Native.Nat.{ℕ, _*_, _≤_, _<_};
 ghost use lib.Dec.{leb};
 ghost use lib.ListN.{length, getD};
-ghost use Rattle.theory.specs.Words.{list-in, Held-words};
-ghost use Rattle.slots.specs.Slots.{Ends, Room};
-ghost use Rattle.densest.specs.Search.{Candidate, Cored, Group-found};
+ghost use Rattle.theory.specs.Words.{Held-words};
+ghost use Rattle.slots.specs.Slots.{Ends};
+ghost use Rattle.densest.specs.Search.{Searchable, Group-found};
 ghost use Rattle.densest.specs.Gather.{Gathered, Scattered};
 use crate::search::Ratio;
 use crate::search::find;
@@ -80,11 +80,8 @@ fn find_in_core(
     hold: &mut [u32],
     group: &mut [u8],
 ) -> Ratio
-    requires { ⌜ Held-words n m (now ends) (now weights) ⌝ }
-    requires { ⌜ Candidate (list-in n m (now ends) (now weights)) p q ⌝ }
-    requires { ⌜ Cored (list-in n m (now ends) (now weights)) (now cores) ⌝ }
-    requires { ⌜ (length (now core) ≡ n) × (length (now scope) ≡ n) × (length (now group) ≡ n) ⌝ }
-    requires { ⌜ 2 * m ≤ length (now hold) ⌝ }
+    requires { ⌜ Searchable n m p q (now ends) (now weights) (now cores) (now scope) (now hold) (now group) ⌝ }
+    requires { ⌜ length (now core) ≡ n ⌝ }
     ensures { λ r. ⌜ Group-found n m (now (ends .entry)) (now (weights .entry)) (now (scope .exit)) (now (hold .exit)) (now (group .exit))
         (r .p) (r .q) true ⌝ }
 {
@@ -134,11 +131,8 @@ pub(crate) fn find_best(
     hold: &mut [u32],
     group: &mut [u8],
 ) -> Ratio
-    requires { ⌜ Held-words n m (now ends) (now weights) ⌝ }
-    requires { ⌜ Candidate (list-in n m (now ends) (now weights)) p q ⌝ }
-    requires { ⌜ Cored (list-in n m (now ends) (now weights)) (now cores) ⌝ }
-    requires { ⌜ (length (now core) ≡ n) × (length (now scope) ≡ n) × (length (now group) ≡ n) ⌝ }
-    requires { ⌜ Room m (now hold) ⌝ }
+    requires { ⌜ Searchable n m p q (now ends) (now weights) (now cores) (now scope) (now hold) (now group) ⌝ }
+    requires { ⌜ length (now core) ≡ n ⌝ }
     ensures { λ r. ⌜ Group-found n m (now (ends .entry)) (now (weights .entry)) (now (scope .exit)) (now (hold .exit)) (now (group .exit))
         (r .p) (r .q) true ⌝ }
 {

@@ -5,11 +5,7 @@
 // at the found group's size makes the split that the load sheet is written from; mostly it is the last one. (The Dinkelbach iteration.)
 ghost use mathlib.Core.Path.{_≡_};
 ghost use mathlib.Core.Bool.{true};
-ghost use lib.ListN.{length};
-ghost use Rattle.theory.specs.Groups.{inside, size};
-ghost use Rattle.theory.specs.Words.{list-in, Held-words};
-ghost use Rattle.slots.specs.Slots.{Room};
-ghost use Rattle.densest.specs.Search.{Candidate, Cored, Link-room, Round, Group-found};
+ghost use Rattle.densest.specs.Search.{Link-room, Searchable, Round, Group-found};
 
 // A group's inside count and size, and whether the last round made a split at that size.
 pub(crate) struct Ratio {
@@ -35,12 +31,8 @@ fn round(
     hold: &mut [u32],
     group: &mut [u8],
 ) -> bool
-    requires { ⌜ Held-words n m (now ends) (now weights) ⌝ }
-    requires { ⌜ Candidate (list-in n m (now ends) (now weights)) p q ⌝ }
-    requires { ⌜ Cored (list-in n m (now ends) (now weights)) (now cores) ⌝ }
+    requires { ⌜ Searchable n m p q (now ends) (now weights) (now cores) (now scope) (now hold) (now group) ⌝ }
     requires { ⌜ Link-room n m (now first) (now next) ⌝ }
-    requires { ⌜ (length (now scope) ≡ n) × (length (now group) ≡ n) ⌝ }
-    requires { ⌜ Room m (now hold) ⌝ }
     ensures { λ r. ⌜ Round n m p q (now (ends .entry)) (now (weights .entry)) (now (scope .exit)) (now (hold .exit)) (now (group .exit)) r ⌝ }
 {
     let own = [0u32; 512];
@@ -65,12 +57,8 @@ fn search(
     hold: &mut [u32],
     group: &mut [u8],
 ) -> Ratio
-    requires { ⌜ Held-words n m (now ends) (now weights) ⌝ }
-    requires { ⌜ Candidate (list-in n m (now ends) (now weights)) p0 q0 ⌝ }
-    requires { ⌜ Cored (list-in n m (now ends) (now weights)) (now cores) ⌝ }
+    requires { ⌜ Searchable n m p0 q0 (now ends) (now weights) (now cores) (now scope) (now hold) (now group) ⌝ }
     requires { ⌜ Link-room n m (now first) (now next) ⌝ }
-    requires { ⌜ (length (now scope) ≡ n) × (length (now group) ≡ n) ⌝ }
-    requires { ⌜ Room m (now hold) ⌝ }
     ensures { λ r. ⌜ Group-found n m (now (ends .entry)) (now (weights .entry)) (now (scope .exit)) (now (hold .exit)) (now (group .exit)) (r .p) (r .q)
         (r .settled) ⌝ }
 {
@@ -121,12 +109,8 @@ fn last_round(
     hold: &mut [u32],
     group: &mut [u8],
 ) -> bool
-    requires { ⌜ Held-words n m (now ends) (now weights) ⌝ }
-    requires { ⌜ Candidate (list-in n m (now ends) (now weights)) p q ⌝ }
-    requires { ⌜ Cored (list-in n m (now ends) (now weights)) (now cores) ⌝ }
+    requires { ⌜ Searchable n m p q (now ends) (now weights) (now cores) (now scope) (now hold) (now group) ⌝ }
     requires { ⌜ Link-room n m (now first) (now next) ⌝ }
-    requires { ⌜ (length (now scope) ≡ n) × (length (now group) ≡ n) ⌝ }
-    requires { ⌜ Room m (now hold) ⌝ }
     requires { ⌜ (settled ≡ true → Round n m p q (now ends) (now weights) (now scope) (now hold) (now group) true) ⌝ }
     ensures { λ r. ⌜ Round n m p q (now (ends .entry)) (now (weights .entry)) (now (scope .exit)) (now (hold .exit)) (now (group .exit)) r ⌝ }
 {
@@ -163,11 +147,7 @@ pub(crate) fn find(
     hold: &mut [u32],
     group: &mut [u8],
 ) -> Ratio
-    requires { ⌜ Held-words n m (now ends) (now weights) ⌝ }
-    requires { ⌜ Candidate (list-in n m (now ends) (now weights)) p q ⌝ }
-    requires { ⌜ Cored (list-in n m (now ends) (now weights)) (now cores) ⌝ }
-    requires { ⌜ (length (now scope) ≡ n) × (length (now group) ≡ n) ⌝ }
-    requires { ⌜ Room m (now hold) ⌝ }
+    requires { ⌜ Searchable n m p q (now ends) (now weights) (now cores) (now scope) (now hold) (now group) ⌝ }
     ensures { λ r. ⌜ Group-found n m (now (ends .entry)) (now (weights .entry)) (now (scope .exit)) (now (hold .exit)) (now (group .exit))
         (r .p) (r .q) true ⌝ }
 {

@@ -21,8 +21,9 @@ use Rattle.theory.proofs.Tests.{tests}
 use Rattle.theory.proofs.Tables.{greatest-suc}
 use Rattle.theory.proofs.Words.{length-pairs-in}
 use Rattle.theory.proofs.Duality.{received-ends}
+use Rattle.slots.proofs.Held.{zero-at}
 use Rattle.slots.proofs.Words.{few-modules, good-pair}
-use Rattle.verify.proofs.Words.{left-none, first-left, pairs-left, set-adds, zeros-at}
+use Rattle.verify.proofs.Words.{left-none, first-left, pairs-left, set-adds}
 use Rattle.verify.proofs.Bounds.{units-small, load-small}
 
 -- ---- shares
@@ -103,7 +104,7 @@ pub record Turn (m q : ℕ) (es ws xs ls : List ℕ) (j a b x : ℕ) : Type 0 wh
 module _ (n m q : ℕ) (es ws xs : List ℕ) (lent : Held-words n m es ws) (long : m ≤ length xs) (small : q ≤ 512)
     (good : shares-good q (pairs-in m es ws) (take m xs) ≡ true) where
   pub loading-starts : Loading m q es ws xs (replicate 512 0) 0
-  loading-starts = record { shares = sharing-starts m q ws xs long; long = length-replicate {A = ℕ} 512 0; sum = λ v. omega (arith, zeros-at 512 v) }
+  loading-starts = record { shares = sharing-starts m q ws xs long; long = length-replicate {A = ℕ} 512 0; sum = λ v. omega (arith, zero-at 512 v) }
 
   -- the loads fit
   loads-small : (ls : List ℕ) (j : ℕ) → Loading m q es ws xs ls j → (v : ℕ) → getD ls v 0 ≤ 2097152000

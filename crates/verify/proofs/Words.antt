@@ -2,7 +2,7 @@
 --   left-cons, left-none        what is left of a list at a place before its end, and at its end
 --   first-left                  the first n entries of a buffer
 --   pairs-left                  the pairs in words
---   zeros-at, set-adds          a buffer of zeros, and one with more at a place
+--   set-adds                    a buffer with more at a place
 -- Assumes nothing.
 use mathlib.Core.Path.{_≡_, refl, ap, _∙_}
 use mathlib.Core.Bool.{cond}
@@ -11,7 +11,7 @@ use Prim.Native.Nat.{ℕ, zero, suc, _+_, _≤_, _<_}
 use native.Mathlib.Numerals.{add-one}
 use native.Mathlib.Omega.{arith}
 use lib.Dec.{eqb, eqb·zero-suc, eqb·suc-zero, eqb·suc-suc}
-use lib.ListN.{length, getD, set, take, drop, replicate, drop-of-length-le}
+use lib.ListN.{length, getD, set, take, drop, drop-of-length-le}
 use lib.Seq.{drop-cons, getD-take, length-take-le}
 use Rattle.theory.specs.Basics.{table}
 use Rattle.theory.specs.Lists.{Pair}
@@ -40,13 +40,7 @@ pairs-left m es ws j h =
     left-cons (table m (word-pair es ws)) j (word-pair es ws j) (omega (arith, length-table m (word-pair es ws)))
     ∙ ap (λ (p : Pair). p ∷ drop (j + 1) (table m (word-pair es ws))) (table-at m (word-pair es ws) j (word-pair es ws j) h)
 
--- ---- buffers that are added to
-
--- a buffer of zeros
-pub zeros-at : (k v : ℕ) → getD {A = ℕ} (replicate k 0) v 0 ≡ 0
-zeros-at zero v = refl
-zeros-at (suc k) zero = refl
-zeros-at (suc k) (suc v) = zeros-at k v
+-- ---- a buffer that is added to
 
 -- adding x at a place adds x there and nothing elsewhere
 pub set-adds : (ls : List ℕ) (a x v : ℕ) → a < length ls → getD (set ls a (getD ls a 0 + x)) v 0 ≡ getD ls v 0 + cond (eqb a v) x 0

@@ -65,14 +65,15 @@ find-best-requires c κs =
     let p = c .before .before .before .before .before .before .before .before .before in
     let s = begin p in
     let q = s .pre in (
-      q .0,
-      (
-        peeled-candidate (list-of s) (q .0 .listed) _ _ _ _ _ _ _ (p .peel .ensures),
-        (
-          cored p,
-          ((q .1 .0 .0, q .1 .0 .1, q .1 .1 .0), room-zeros (s .args .m) 8192 (omega (arith, few-pairs _ _ _ _ (q .0 .listed)))),
-        ),
-      ),
+      record {
+        held = q .0;
+        at-hand = peeled-candidate (list-of s) (q .0 .listed) _ _ _ _ _ _ _ (p .peel .ensures);
+        cored = cored p;
+        scope-long = q .1 .0 .1;
+        group-long = q .1 .1 .0;
+        room = room-zeros (s .args .m) 8192 (omega (arith, few-pairs _ _ _ _ (q .0 .listed)));
+      },
+      q .1 .0 .0,
     )
 
 slice-aggregate-write-shares : tie.Need-slice-aggregate-write-shares

@@ -7,9 +7,7 @@ wide-requires : tie.Need-wide-requires
 wide-requires c κs = search needs
 
 find-in-core-requires : tie.Need-find-in-core-requires
-find-in-core-requires c κs =
-    let q = c .before .before .before .before .before .before .before .before .before .before .before .before .before .pre in
-    (q .0, (q .1 .0, (q .1 .1 .0, (q .1 .1 .1 .0, q .1 .1 .1 .1 .long))))
+find-in-core-requires c κs = c .before .before .before .before .before .before .before .before .before .before .before .before .before .pre
 
 same-length : tie.Need-same-length
 same-length c = search needs
@@ -27,9 +25,7 @@ returns : tie.Need-returns
 returns c = search needs
 
 find-requires : tie.Need-find-requires
-find-requires c κs =
-    let q = c .before .before .before .before .before .before .before .before .before .before .before .before .pre in
-    (q .0, (q .1 .0, (q .1 .1 .0, ((q .1 .1 .1 .0 .1, q .1 .1 .1 .0 .2), q .1 .1 .1 .1))))
+find-requires c κs = c .before .before .before .before .before .before .before .before .before .before .before .before .pre .0
 
 same-length-5 : tie.Need-same-length-5
 same-length-5 c = search needs

@@ -40,27 +40,27 @@ list-of s = list-in (s .args .n) (s .args .m) (s .args .ends .now) (s .args .wei
 
 -- what is known from then on
 short : (s : tie.Start) → s .args .m ≤ 4096
-short s = few-pairs (s .args .n) (s .args .m) (s .args .ends .now) (s .args .weights .now) (s .pre .0 .listed)
+short s = few-pairs (s .args .n) (s .args .m) (s .args .ends .now) (s .args .weights .now) (s .pre .0 .held .listed)
 
 core-long : (c : tie.After-mark-at-least) → length (c .mark-at-least .last .1 .1 .1 .0) ≡ begin (rounded c) .args .n
-core-long c = c .mark-at-least .kept .1 .1 .1 .0 ∙ begin (rounded c) .pre .1 .1 .1 .0 .0
+core-long c = c .mark-at-least .kept .1 .1 .1 .0 ∙ begin (rounded c) .pre .1
 
 core-is : (c : tie.After-mark-at-least) →
     c .mark-at-least .last .1 .1 .1 .0 ≡ core (list-of (begin (rounded c))) (rounded-up (begin (rounded c) .args .p) (begin (rounded c) .args .q))
 core-is c =
     let s = begin (rounded c) in
     let a = s .args in
-    core-marked (a .n) (a .m) _ (a .p) (a .q) (a .ends .now) (a .weights .now) (a .cores .now) _ (s .pre .0) (s .pre .1 .1 .0) (core-long c)
+    core-marked (a .n) (a .m) _ (a .p) (a .q) (a .ends .now) (a .weights .now) (a .cores .now) _ (s .pre .0 .held) (s .pre .0 .cored) (core-long c)
     (rounded c .rounded-up .ensures) (c .mark-at-least .ensures)
 
 rounded-up-requires : tie.Need-rounded-up-requires
 rounded-up-requires c κs =
     let s = c .before .before .before .before .before .before .before in
-    candidate-bounded (list-of s) (s .args .p) (s .args .q) (s .pre .0 .listed) (s .pre .1 .0) .some
+    candidate-bounded (list-of s) (s .args .p) (s .args .q) (s .pre .0 .held .listed) (s .pre .0 .at-hand) .some
 
 mark-at-least-requires : tie.Need-mark-at-least-requires
 unfolding list-in
-mark-at-least-requires c κs = let q = begin (c .before) .pre in (q .1 .1 .0 .long, omega (arith, q .1 .1 .1 .0 .0))
+mark-at-least-requires c κs = let q = begin (c .before) .pre in (q .0 .cored .long, omega (arith, q .1))
 
 slice-aggregate-gather : tie.Need-slice-aggregate-gather
 slice-aggregate-gather c = search needs
@@ -72,14 +72,14 @@ gather-requires : tie.Need-gather-requires
 gather-requires c κs =
     let k = c .before .before .before .before .before in
     let s = begin (rounded k) in
-    (s .pre .0, (core-long k, (omega (arith, short s), short s)))
+    (s .pre .0 .held, (core-long k, (omega (arith, short s), short s)))
 
 slice-aggregate-keep-at-least : tie.Need-slice-aggregate-keep-at-least
 slice-aggregate-keep-at-least c = search needs
 
 keep-at-least-requires : tie.Need-keep-at-least-requires
 unfolding list-in
-keep-at-least-requires c κs = let s = start (c .before .before .before) in (s .pre .1 .1 .0 .long, few-modules _ _ _ _ (s .pre .0 .listed))
+keep-at-least-requires c κs = let s = start (c .before .before .before) in (s .pre .0 .cored .long, few-modules _ _ _ _ (s .pre .0 .held .listed))
 
 slice-aggregate-find : tie.Need-slice-aggregate-find
 slice-aggregate-find c = search needs
@@ -99,21 +99,23 @@ find-requires c κs =
     let t = gathered k in
     let s = start t in
     let a = s .args in
-    let q = s .pre in
+    let q = s .pre .0 in
     let is = core-is (marked t) in
-    let n = gathered-few (t .gather .ensures) in (
-      inner-held (a .n) (a .m) (a .p) (a .q) (a .ends .now) (a .weights .now) _ _ _ _ (q .0) (q .1 .0) is (t .gather .ensures)
-          (omega (arith, short s, t .gather .kept .1 .1 .1 .1 .1 .0)) (omega (arith, short s, t .gather .kept .1 .1 .1 .1 .1 .1 .0)),
-      (
-        inner-candidate (a .n) (a .m) (a .p) (a .q) (a .ends .now) (a .weights .now) _ _ _ _ (q .0) (q .1 .0) is (t .gather .ensures),
-        (
-          inner-cored (a .n) (a .m) (a .p) (a .q) (a .ends .now) (a .weights .now) _ _ _ _ (q .0) (q .1 .0) is (t .gather .ensures) _ (a .cores .now) _
-              (rounded (marked t) .rounded-up .ensures) (q .1 .1 .0)
-              (omega (arith, few-modules _ _ _ _ (q .0 .listed), k .keep-at-least .kept .1 .1 .1 .0)) (k .keep-at-least .ensures),
-          ((q .1 .1 .1 .0 .1, q .1 .1 .1 .0 .2), room-zeros (t .gather .result) 8192 (omega (arith, short s))),
-        ),
-      ),
-    )
+    let g = t .gather .ensures in
+    let n = gathered-few g in
+    record {
+      held =
+          inner-held (a .n) (a .m) (a .p) (a .q) (a .ends .now) (a .weights .now) _ _ _ _ (q .held) (q .at-hand) is g
+          (omega (arith, short s, t .gather .kept .1 .1 .1 .1 .1 .0)) (omega (arith, short s, t .gather .kept .1 .1 .1 .1 .1 .1 .0));
+      at-hand = inner-candidate (a .n) (a .m) (a .p) (a .q) (a .ends .now) (a .weights .now) _ _ _ _ (q .held) (q .at-hand) is g;
+      cored =
+          inner-cored (a .n) (a .m) (a .p) (a .q) (a .ends .now) (a .weights .now) _ _ _ _ (q .held) (q .at-hand) is g _ (a .cores .now) _
+          (rounded (marked t) .rounded-up .ensures) (q .cored)
+          (omega (arith, few-modules _ _ _ _ (q .held .listed), k .keep-at-least .kept .1 .1 .1 .0)) (k .keep-at-least .ensures);
+      scope-long = q .scope-long;
+      group-long = q .group-long;
+      room = room-zeros (t .gather .result) 8192 (omega (arith, short s));
+    }
 
 slice-aggregate-scatter : tie.Need-slice-aggregate-scatter
 slice-aggregate-scatter c = search needs
@@ -123,8 +125,8 @@ scatter-requires c κs =
     let f = c .before .before .before .before .before .before .before .before in
     let t = gathered (kept f) in
     let s = start t in (
-      list-ends _ _ _ _ (s .pre .0 .listed) (s .pre .0 .ends-long),
-      (core-long (marked t), (omega (arith, short s, f .find .kept .1 .1 .1 .1 .1 .1 .1 .1 .0), s .pre .1 .1 .1 .1)),
+      list-ends _ _ _ _ (s .pre .0 .held .listed) (s .pre .0 .held .ends-long),
+      (core-long (marked t), (omega (arith, short s, f .find .kept .1 .1 .1 .1 .1 .1 .1 .1 .0), s .pre .0 .room .long)),
     )
 
 same-length : tie.Need-same-length
@@ -147,7 +149,8 @@ returns c =
     let t = gathered (kept f) in
     let s = start t in
     let a = s .args in
-    found-among-all (a .n) (a .m) (a .p) (a .q) (a .ends .now) (a .weights .now) _ _ _ _ (s .pre .0) (s .pre .1 .0) (core-is (marked t)) (t .gather .ensures)
+    found-among-all (a .n) (a .m) (a .p) (a .q) (a .ends .now) (a .weights .now) _ _ _ _ (s .pre .0 .held) (s .pre .0 .at-hand)
+    (core-is (marked t)) (t .gather .ensures)
     _ _ _ _ _ _ (f .find .ensures) (c .before .before .scatter .ensures)
 
 pub find-in-core-spec : {M : Type 1} → statement M

@@ -18,11 +18,11 @@ linked c = c .before .before .before .before .before .before .before .before
 
 -- what is known from then on
 short : (s : tie.Start) → 2 * s .args .m ≤ 8192
-short s = omega (arith, few-pairs (s .args .n) (s .args .m) (s .args .ends .now) (s .args .weights .now) (s .pre .0 .listed))
+short s = omega (arith, few-pairs (s .args .n) (s .args .m) (s .args .ends .now) (s .args .weights .now) (s .pre .held .listed))
 
 links-long : (c : tie.After-links) → Link-room (begin c .args .n) (begin c .args .m) (c .links .last .1 .1 .1 .0) (c .links .last .1 .1 .1 .1 .0)
 links-long c = record {
-  first-long = omega (arith, few-modules _ _ _ _ (begin c .pre .0 .listed), c .links .kept .1 .1 .1 .0);
+  first-long = omega (arith, few-modules _ _ _ _ (begin c .pre .held .listed), c .links .kept .1 .1 .1 .0);
   next-long = omega (arith, short (begin c), c .links .kept .1 .1 .1 .1 .0);
 }
 
@@ -35,7 +35,7 @@ slice-aggregate-links-2 c = search needs
 links-requires : tie.Need-links-requires
 links-requires c κs =
     let s = c .before .before .before .before .before .before .before .before in
-    (list-ends _ _ _ _ (s .pre .0 .listed) (s .pre .0 .ends-long), (few-modules _ _ _ _ (s .pre .0 .listed), short s))
+    (list-ends _ _ _ _ (s .pre .held .listed) (s .pre .held .ends-long), (few-modules _ _ _ _ (s .pre .held .listed), short s))
 
 slice-aggregate-search : tie.Need-slice-aggregate-search
 slice-aggregate-search c = search needs
@@ -46,8 +46,7 @@ slice-aggregate-search-2 c = search needs
 search-requires : tie.Need-search-requires
 search-requires c κs =
     let l = c .before .before .before .before .before .before .before in
-    let q = begin l .pre in
-    (q .0, (q .1 .0, (q .1 .1 .0, (links-long l, (q .1 .1 .1 .0, q .1 .1 .1 .1)))))
+    (begin l .pre, links-long l)
 
 slice-aggregate-last-round : tie.Need-slice-aggregate-last-round
 slice-aggregate-last-round c = search needs
@@ -63,20 +62,15 @@ last-round-requires c κs =
     let q = s .pre in
     let e = f .search in
     let k = e .kept .1 .1 .1 .1 .1 .1 .1 .1 .1 in (
-      q .0,
-      (
-        found-candidate (s .args .n) (s .args .m) (s .args .ends .now) (s .args .weights .now) (q .0) _ _ _ _ _ _ (e .ensures),
-        (
-          q .1 .1 .0,
-          (
-            links-long l,
-            (
-              (k .0 ∙ q .1 .1 .1 .0 .0, k .1 .1 .0 ∙ q .1 .1 .1 .0 .1),
-              (e .ensures .room, e .ensures .last),
-            ),
-          ),
-        ),
-      ),
+      record {
+        held = q .held;
+        at-hand = found-candidate (s .args .n) (s .args .m) (s .args .ends .now) (s .args .weights .now) (q .held) _ _ _ _ _ _ (e .ensures);
+        cored = q .cored;
+        scope-long = k .0 ∙ q .scope-long;
+        group-long = k .1 .1 .0 ∙ q .group-long;
+        room = e .ensures .room;
+      },
+      (links-long l, e .ensures .last),
     )
 
 same-length : tie.Need-same-length
@@ -93,7 +87,7 @@ returns c =
     let l = c .before .before .before .before .before .before in
     let f = l .before .before .before .before .before .before .before .before .before .before .before .before in
     let s = begin (linked f) in
-    found-settled (s .args .n) (s .args .m) (s .args .ends .now) (s .args .weights .now) (s .pre .0) _ _ _ _ _ _ (f .search .ensures) _ _ _ _
+    found-settled (s .args .n) (s .args .m) (s .args .ends .now) (s .args .weights .now) (s .pre .held) _ _ _ _ _ _ (f .search .ensures) _ _ _ _
     (l .last-round .ensures)
 
 pub find-spec : {M : Type 1} → statement M

@@ -4,12 +4,12 @@ use Rattle.densest.proofs.search.last_round.Statement.{statement}
 use Rattle.densest.proofs.search.last_round.Tie as tie
 
 returns : tie.Need-returns
-returns c = c .before .before .before .before .before .before .before .before .before .pre .1 .1 .1 .1 .1 .1 (c .if1 .taken)
+returns c = c .before .before .before .before .before .before .before .before .before .pre .1 .1 (c .if1 .taken)
 
 round-requires : tie.Need-round-requires
 round-requires c κs =
     let q = c .before .before .before .before .before .before .before .before .before .before .before .before .pre in
-    (q .0, (q .1 .0, (q .1 .1 .0, (q .1 .1 .1 .0, (q .1 .1 .1 .1 .0, q .1 .1 .1 .1 .1 .0)))))
+    (q .0, q .1 .0)
 
 same-length : tie.Need-same-length
 same-length c = search needs

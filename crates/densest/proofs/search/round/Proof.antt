@@ -26,16 +26,16 @@ spread c = c .before .before .before .before .before .before .before
 
 -- what is known from then on
 bounded : (s : tie.Start) → Bounded (s .args .p) (s .args .q)
-bounded s = candidate-bounded _ _ _ (s .pre .0 .listed) (s .pre .1 .0)
+bounded s = candidate-bounded _ _ _ (s .pre .0 .held .listed) (s .pre .0 .at-hand)
 
 ends-of : (s : tie.Start) → Ends (s .args .n) (s .args .m) (s .args .ends .now)
-ends-of s = list-ends _ _ _ _ (s .pre .0 .listed) (s .pre .0 .ends-long)
+ends-of s = list-ends _ _ _ _ (s .pre .0 .held .listed) (s .pre .0 .held .ends-long)
 
 weights-of : (s : tie.Start) → Weights (s .args .m) (s .args .weights .now)
-weights-of s = list-weights _ (s .args .m) (s .args .ends .now) (s .args .weights .now) (s .pre .0 .listed) (s .pre .0 .weights-long)
+weights-of s = list-weights _ (s .args .m) (s .args .ends .now) (s .args .weights .now) (s .pre .0 .held .listed) (s .pre .0 .held .weights-long)
 
 scope-long : (c : tie.After-mark-at-least) → length (c .mark-at-least .last .1 .1 .1 .0) ≡ begin c .args .n
-scope-long c = c .mark-at-least .kept .1 .1 .1 .0 ∙ begin c .pre .1 .1 .1 .1 .0 .0
+scope-long c = c .mark-at-least .kept .1 .1 .1 .0 ∙ begin c .pre .0 .scope-long
 
 rounded-up-requires : tie.Need-rounded-up-requires
 rounded-up-requires c κs = bounded (c .before .before .before .before .before .before .before .before) .some
@@ -43,14 +43,14 @@ rounded-up-requires c κs = bounded (c .before .before .before .before .before .
 mark-at-least-requires : tie.Need-mark-at-least-requires
 unfolding list-in
 mark-at-least-requires c κs =
-    let q = c .before .before .before .before .before .before .before .before .before .before .pre in
-    (q .1 .1 .0 .long, omega (arith, q .1 .1 .1 .1 .0 .0))
+    let q = c .before .before .before .before .before .before .before .before .before .before .pre .0 in
+    (q .cored .long, omega (arith, q .scope-long))
 
 spread-requires : tie.Need-spread-requires
 spread-requires c κs =
     let k = c .before .before .before .before in
     let s = begin k in
-    (ends-of s, (weights-of s, (scope-long k, (bounded s .small, s .pre .1 .1 .1 .1 .1))))
+    (ends-of s, (weights-of s, (scope-long k, (bounded s .small, s .pre .0 .room))))
 
 slice-aggregate-flow : tie.Need-slice-aggregate-flow
 slice-aggregate-flow c = search needs
@@ -59,8 +59,7 @@ flow-requires : tie.Need-flow-requires
 flow-requires c κs =
     let k = c .before .before .before .before .before .before in
     let s = begin (marked k) in
-    let q = s .pre .1 .1 .1 in
-    let few : s .args .n ≤ 512 = few-modules _ _ _ _ (s .pre .0 .listed) in (
+    let few : s .args .n ≤ 512 = few-modules _ _ _ _ (s .pre .0 .held .listed) in (
       few,
       (
         ends-of s,
@@ -68,7 +67,7 @@ flow-requires c κs =
           no-own (s .args .n) 512 few,
           (
             split-room (s .args .n) _ _ _ _ _ _ (k .spread .ensures) (bounded s .small) (weights-of s),
-            ((q .0 .first-long, q .0 .next-long), (scope-long (marked k), q .1 .0 .1)),
+            ((s .pre .1 .first-long, s .pre .1 .next-long), (scope-long (marked k), s .pre .0 .group-long)),
           ),
         ),
       ),
@@ -89,9 +88,10 @@ returns c =
     let k = marked (spread f) in
     let s = begin k in
     let a = s .args in
+    let q = s .pre .0 in
     let scope = k .mark-at-least .last .1 .1 .1 .0 in
-    round-of _ _ _ _ _ _ (s .pre .0) (s .pre .1 .0) 512 scope _ _ _ _
-    (core-marked (a .n) (a .m) _ (a .p) (a .q) (a .ends .now) (a .weights .now) (a .cores .now) scope (s .pre .0) (s .pre .1 .1 .0) (scope-long k)
+    round-of _ _ _ _ _ _ (q .held) (q .at-hand) 512 scope _ _ _ _
+    (core-marked (a .n) (a .m) _ (a .p) (a .q) (a .ends .now) (a .weights .now) (a .cores .now) scope (q .held) (q .cored) (scope-long k)
     (k .before .before .rounded-up .ensures) (k .mark-at-least .ensures))
     (spread f .spread .ensures) (f .flow .ensures)
 

@@ -25,21 +25,12 @@ begin c = c .before .before .before .before .before .before .before .before .bef
 
 -- the group's buffer keeps its length
 group-long : (c : tie.After-round Inv-loop μ-loop) → length (c .round .last .1 .1 .1 .1 .1 .1 .1 .1 .1 .1 .1 .1 .0) ≡ begin (turn c) .args .n
-group-long c = c .round .kept .1 .1 .1 .1 .1 .1 .1 .1 .1 .1 .1 .1 .0 ∙ turn c .loop .inv .0 .group-long
+group-long c = c .round .kept .1 .1 .1 .1 .1 .1 .1 .1 .1 .1 .1 .1 .0 ∙ turn c .loop .inv .0 .asks .group-long
 
 loop-holds : tie.Need-loop-holds Inv-loop μ-loop
 loop-holds c =
     let k = c .before .before .before .before .before .before .before .before .pre in (
-      record {
-        held = k .0;
-        cored = k .1 .1 .0;
-        linked = k .1 .1 .1 .0;
-        scope-long = k .1 .1 .1 .1 .0 .0;
-        group-long = k .1 .1 .1 .1 .0 .1;
-        room = k .1 .1 .1 .1 .1;
-        at-hand = k .1 .0;
-        ended = λ e. no e;
-      },
+      record { asks = k .0; linked = k .1; ended = λ e. no e },
       refl,
       refl,
       refl,
@@ -48,15 +39,15 @@ loop-holds c =
 round-requires : tie.Need-round-requires Inv-loop μ-loop
 round-requires c κs =
     let i = c .before .before .before .before .loop .inv .0 in
-    (i .held, (i .at-hand, (i .cored, (i .linked, ((i .scope-long, i .group-long), i .room)))))
+    (i .asks, i .linked)
 
 inside-count-requires : tie.Need-inside-count-requires Inv-loop μ-loop
-inside-count-requires c κs = let r = c .before .before .before .before .before .before .before in (turn r .loop .inv .0 .held, group-long r)
+inside-count-requires c κs = let r = c .before .before .before .before .before .before .before in (turn r .loop .inv .0 .asks .held, group-long r)
 
 group-size-requires : tie.Need-group-size-requires Inv-loop μ-loop
 group-size-requires c κs =
     let r = c .before .before .before .before .before .before .before .before .before in
-    (few-modules _ _ _ _ (turn r .loop .inv .0 .held .listed), group-long r)
+    (few-modules _ _ _ _ (turn r .loop .inv .0 .asks .held .listed), group-long r)
 
 same-requires : tie.Need-same-requires Inv-loop μ-loop
 same-requires c κs = tt
@@ -77,7 +68,7 @@ loop-again c =
     let l = turn r .loop in (
       going-on (a .n) (a .m) (a .ends .now) (a .weights .now) (a .cores .now) (a .first .now) (a .next .now) (l .scope) (l .hold) (l .group) _ _ _
           (l .p) (l .q) _ _ (l .done) (l .settled) _ (c .same .result) (l .inv .0) (r .round .ensures) (c .before .before .before .inside-count .ensures)
-          (c .before .group-size .ensures) (c .same .ensures) (r .round .kept .1 .1 .1 .1 .1 .1 .1 .1 .1 .1 .0 ∙ l .inv .0 .scope-long) (group-long r),
+          (c .before .group-size .ensures) (c .same .ensures) (r .round .kept .1 .1 .1 .1 .1 .1 .1 .1 .1 .1 .0 ∙ l .inv .0 .asks .scope-long) (group-long r),
       r .round .kept .1 .1 .1 .1 .1 .1 .1 .1 .1 .1 .0 ∙ l .inv .1,
       r .round .kept .1 .1 .1 .1 .1 .1 .1 .1 .1 .1 .1 .0 ∙ l .inv .2,
       r .round .kept .1 .1 .1 .1 .1 .1 .1 .1 .1 .1 .1 .1 .0 ∙ l .inv .3,
