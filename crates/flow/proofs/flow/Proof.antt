@@ -40,9 +40,6 @@ rank-settle c = c .settle .kept .1 .1 .1 .1 .1 .1 .1 .1 .0
 rank-drain : (c : tie.After-drain) → length (c .drain .last .1 .1 .1 .1 .1 .1 .1 .1 .1 .0) ≡ 512
 rank-drain c = c .drain .kept .1 .1 .1 .1 .1 .1 .1 .1 .1 .0 ∙ rank-settle (c .before .before .before .before .before .before .before .before .before)
 
-slice-aggregate-loads : tie.Need-slice-aggregate-loads
-slice-aggregate-loads c = refl
-
 loads-requires : tie.Need-loads-requires
 loads-requires c κs =
     let q = c .before .before .before .before .before .before .before .before .before .pre in (q .1 .0, (q .1 .1 .0, (q .1 .1 .1 .0, q .0)))
@@ -66,9 +63,6 @@ phases-requires c κs =
 
 slice-aggregate-settle : tie.Need-slice-aggregate-settle
 slice-aggregate-settle c = sym (load-phases (c .before .before .before .before .before))
-
-slice-aggregate-settle-2 : tie.Need-slice-aggregate-settle-2
-slice-aggregate-settle-2 c = refl
 
 settle-requires : tie.Need-settle-requires
 settle-requires c κs =
@@ -155,12 +149,12 @@ pub flow-spec : {M : Type 1} → statement M
 flow-spec =
     tie.close
     (tie.spec
-    slice-aggregate-loads
+    (λ c. refl)
     loads-requires
     slice-aggregate-phases
     phases-requires
     slice-aggregate-settle
-    slice-aggregate-settle-2
+    (λ c. refl)
     settle-requires
     slice-aggregate-drain
     slice-aggregate-drain-2

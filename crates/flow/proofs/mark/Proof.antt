@@ -17,24 +17,6 @@ abbrev μ-loop : tie.MeasureT-loop
 loop-holds : tie.Need-loop-holds Inv-loop μ-loop
 loop-holds c = (omega arith, c .before .before .pre .1, λ k h. absurd (omega arith))
 
-mul-bit : tie.Need-mul-bit Inv-loop μ-loop
-mul-bit c = omega arith
-
-shared-slice-read-bit : tie.Need-shared-slice-read-bit Inv-loop μ-loop
-shared-slice-read-bit c = omega arith
-
-bit-requires : tie.Need-bit-requires Inv-loop μ-loop
-bit-requires c κs = omega arith
-
-slice-write-group : tie.Need-slice-write-group Inv-loop μ-loop
-slice-write-group c = omega arith
-
-add-v : tie.Need-add-v Inv-loop μ-loop
-add-v c = omega arith
-
-loop-less : tie.Need-loop-less Inv-loop μ-loop
-loop-less c = omega arith
-
 loop-again : tie.Need-loop-again Inv-loop μ-loop
 loop-again c =
     let rank = c .before .before .before .before .before .before .args .rank .now in
@@ -44,9 +26,6 @@ loop-again c =
       stored-more (λ k b. (0 < getD rank k 0 → b ≡ 1) × (getD rank k 0 ≡ 0 → b ≡ 0)) (l .group) (l .v) (c .bit .result) (omega arith) (l .inv .2)
           (c .bit .ensures),
     )
-
-same-length : tie.Need-same-length Inv-loop μ-loop
-same-length c = omega arith
 
 returns : tie.Need-returns Inv-loop μ-loop
 returns c =
@@ -60,12 +39,12 @@ mark-spec =
     Inv-loop
     μ-loop
     loop-holds
-    mul-bit
-    shared-slice-read-bit
-    bit-requires
-    slice-write-group
-    add-v
-    loop-less
+    (λ c. omega arith)
+    (λ c. omega arith)
+    (λ c κs. omega arith)
+    (λ c. omega arith)
+    (λ c. omega arith)
+    (λ c. omega arith)
     loop-again
-    same-length
+    (λ c. omega arith)
     returns)

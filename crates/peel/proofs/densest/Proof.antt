@@ -46,12 +46,6 @@ sub-left c =
     let l = c .before .before .loop in
     omega (arith, l .inv .0, remaining-fits (a .n) (a .finals .now) (l .i) (omega arith))
 
-add-next : tie.Need-add-next Inv-loop μ-loop
-add-next c = omega arith
-
-sub-t11 : tie.Need-sub-t11 Inv-loop μ-loop
-sub-t11 c = omega arith
-
 cast-t13 : tie.Need-cast-t13 Inv-loop μ-loop
 cast-t13 c = omega (arith, c .before .before .before .before .before .pre .few)
 
@@ -65,12 +59,6 @@ denser-of-requires c κs =
     let l = c .before .before .loop in
     let b = best-light (a .n) (a .finals .now) (s .pre .light) (s .pre .few) _ _ (l .inv .1) in
     (b .0, b .1, omega (arith, l .inv .0, remaining-le (a .n) (a .finals .now) (l .i), s .pre .light), omega (arith, s .pre .few))
-
-add-i : tie.Need-add-i Inv-loop μ-loop
-add-i c = omega arith
-
-loop-less : tie.Need-loop-less Inv-loop μ-loop
-loop-less c = omega arith
 
 loop-again : tie.Need-loop-again Inv-loop μ-loop
 loop-again c =
@@ -104,12 +92,12 @@ densest-spec =
     mul-left
     shared-slice-read-left
     sub-left
-    add-next
-    sub-t11
+    (λ c. omega arith)
+    (λ c. omega arith)
     cast-t13
     cast-t14
     denser-of-requires
-    add-i
-    loop-less
+    (λ c. omega arith)
+    (λ c. omega arith)
     loop-again
     returns)

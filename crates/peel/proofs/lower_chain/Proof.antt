@@ -62,16 +62,10 @@ mul-wide c = let p = c .before .before .before .before .before .pre .0 in omega 
 shared-slice-read-wide : tie.Need-shared-slice-read-wide Inv-loop μ-loop
 shared-slice-read-wide c = let p = c .before .before .before .before .before .before .pre in omega (arith, p .0 .below, p .1 .first-long)
 
-wide-requires : tie.Need-wide-requires Inv-loop μ-loop
-wide-requires c κs = tt
-
 loop-holds : tie.Need-loop-holds Inv-loop μ-loop
 loop-holds c =
     let s = c .before .before .before .before .before .before .before in
     (lowering-start (s .pre .0) (c .wide .ensures ∙ s .pre .1 .linked .firsts .same _ (s .pre .0 .below)), refl)
-
-sub-k : tie.Need-sub-k Inv-loop μ-loop
-sub-k c = omega arith
 
 first-end-requires : tie.Need-first-end-requires Inv-loop μ-loop
 first-end-requires c κs = let p = pair c in (p .few, omega arith)
@@ -105,9 +99,6 @@ shared-slice-read-wide-2 c =
     let i = c .before .before .before .before .before .before .before in
     omega (arith, low i, begin (i .before) .pre .1 .next-long)
 
-wide-requires-2 : tie.Need-wide-requires-2 Inv-loop μ-loop
-wide-requires-2 c κs = tt
-
 loop-less : tie.Need-loop-less Inv-loop μ-loop
 loop-less c = after c .0
 
@@ -130,16 +121,16 @@ lower-chain-spec =
     μ-loop
     mul-wide
     shared-slice-read-wide
-    wide-requires
+    (λ c κs. tt)
     loop-holds
-    sub-k
+    (λ c. omega arith)
     first-end-requires
     mul-lower
     shared-slice-read-lower
     lower-requires
     mul-wide-2
     shared-slice-read-wide-2
-    wide-requires-2
+    (λ c κs. tt)
     loop-less
     loop-again
     same-length

@@ -15,9 +15,6 @@ lower-chain-requires c κs =
     let s = r .before .before .before .before .before .before .before .before in
     (lowerable-chain (s .pre .0) (r .lower-row .ensures), s .pre .1 .1)
 
-same-length : tie.Need-same-length
-same-length c = search needs
-
 returns : tie.Need-returns
 returns c =
     let r = c .before .before .before .before .before .before in
@@ -25,4 +22,4 @@ returns c =
     lowered-both (s .pre .0) (r .lower-row .ensures) (c .before .before .lower-chain .ensures)
 
 pub lower-neighbours-spec : {M : Type 1} → statement M
-lower-neighbours-spec = tie.close (tie.spec lower-row-requires lower-chain-requires same-length returns)
+lower-neighbours-spec = tie.close (tie.spec lower-row-requires lower-chain-requires (λ c. search needs) returns)

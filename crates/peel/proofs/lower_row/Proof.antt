@@ -51,16 +51,10 @@ mul-wide c = let p = c .before .before .before .before .pre .0 in omega (arith, 
 shared-slice-read-wide : tie.Need-shared-slice-read-wide Inv-loop μ-loop
 shared-slice-read-wide c = let p = c .before .before .before .before .before .pre in omega (arith, p .0 .below, p .1 .long)
 
-wide-requires : tie.Need-wide-requires Inv-loop μ-loop
-wide-requires c κs = tt
-
 loop-holds : tie.Need-loop-holds Inv-loop μ-loop
 loop-holds c =
     let s = c .before .before .before .before .before .before in
     (lowering-start (s .pre .0) (c .wide .ensures ∙ s .pre .1 .lasts .same _ (s .pre .0 .below)), refl)
-
-sub-k : tie.Need-sub-k Inv-loop μ-loop
-sub-k c = omega arith
 
 second-end-requires : tie.Need-second-end-requires Inv-loop μ-loop
 second-end-requires c κs = let p = pair c in (p .few, omega arith)
@@ -113,9 +107,9 @@ lower-row-spec =
     μ-loop
     mul-wide
     shared-slice-read-wide
-    wide-requires
+    (λ c κs. tt)
     loop-holds
-    sub-k
+    (λ c. omega arith)
     second-end-requires
     mul-lower
     shared-slice-read-lower

@@ -37,17 +37,11 @@ mul-wide c = omega (arith, c .before .before .before .before .before .before .pr
 shared-slice-read-wide : tie.Need-shared-slice-read-wide Inv-loop μ-loop
 shared-slice-read-wide c = omega (arith, c .before .before .before .before .before .before .before .pre .order-long)
 
-wide-requires : tie.Need-wide-requires Inv-loop μ-loop
-wide-requires c κs = tt
-
 mul-greater : tie.Need-mul-greater Inv-loop μ-loop
 mul-greater c = omega (arith, c .before .before .before .before .before .before .before .before .pre .few)
 
 shared-slice-read-greater : tie.Need-shared-slice-read-greater Inv-loop μ-loop
 shared-slice-read-greater c = omega (arith, c .before .before .before .before .before .before .before .before .before .pre .finals-long)
-
-greater-requires : tie.Need-greater-requires Inv-loop μ-loop
-greater-requires c κs = tt
 
 mul-cores : tie.Need-mul-cores Inv-loop μ-loop
 mul-cores c = omega (arith, below c)
@@ -67,12 +61,6 @@ slice-write-place : tie.Need-slice-write-place Inv-loop μ-loop
 slice-write-place c =
     let l = c .before .before .before .before .before in
     omega (arith, below c, l .before .before .before .before .before .pre .place-long, l .loop .inv .0 .place-long)
-
-add-i : tie.Need-add-i Inv-loop μ-loop
-add-i c = omega arith
-
-loop-less : tie.Need-loop-less Inv-loop μ-loop
-loop-less c = omega arith
 
 loop-again : tie.Need-loop-again Inv-loop μ-loop
 loop-again c =
@@ -108,17 +96,17 @@ number-spec =
     loop-holds
     mul-wide
     shared-slice-read-wide
-    wide-requires
+    (λ c κs. tt)
     mul-greater
     shared-slice-read-greater
-    greater-requires
+    (λ c κs. tt)
     mul-cores
     slice-write-cores
     cast-place
     mul-place
     slice-write-place
-    add-i
-    loop-less
+    (λ c. omega arith)
+    (λ c. omega arith)
     loop-again
     same-length
     same-length-2

@@ -20,18 +20,6 @@ begin x = x .before .before .before .before .before .before .before .before .bef
 abbrev laid : tie.After-turns → tie.After-adjacency
 laid t = t .before .before .before .before .before .before .before .before .before .before .before .before .before .before .before
 
-slice-aggregate-adjacency : tie.Need-slice-aggregate-adjacency
-slice-aggregate-adjacency c = search needs
-
-slice-aggregate-adjacency-2 : tie.Need-slice-aggregate-adjacency-2
-slice-aggregate-adjacency-2 c = search needs
-
-slice-aggregate-adjacency-3 : tie.Need-slice-aggregate-adjacency-3
-slice-aggregate-adjacency-3 c = search needs
-
-slice-aggregate-adjacency-4 : tie.Need-slice-aggregate-adjacency-4
-slice-aggregate-adjacency-4 c = search needs
-
 adjacency-requires : tie.Need-adjacency-requires
 adjacency-requires c κs =
     let h = c .before .before .before .before .before .before .before .before .before .pre .0 in
@@ -48,12 +36,6 @@ adjacency-requires c κs =
       },
     )
 
-slice-aggregate-build : tie.Need-slice-aggregate-build
-slice-aggregate-build c = search needs
-
-slice-aggregate-build-2 : tie.Need-slice-aggregate-build-2
-slice-aggregate-build-2 c = search needs
-
 build-requires : tie.Need-build-requires
 build-requires c κs =
     let x = c .before .before .before .before .before .before in
@@ -65,21 +47,6 @@ build-requires c κs =
           (omega (arith, x .adjacency .kept .1 .1 .1 .1 .1 .1 .1 .0)),
       refl,
     )
-
-slice-aggregate-turns : tie.Need-slice-aggregate-turns
-slice-aggregate-turns c = search needs
-
-slice-aggregate-turns-2 : tie.Need-slice-aggregate-turns-2
-slice-aggregate-turns-2 c = search needs
-
-slice-aggregate-turns-3 : tie.Need-slice-aggregate-turns-3
-slice-aggregate-turns-3 c = search needs
-
-slice-aggregate-turns-4 : tie.Need-slice-aggregate-turns-4
-slice-aggregate-turns-4 c = search needs
-
-slice-aggregate-turns-5 : tie.Need-slice-aggregate-turns-5
-slice-aggregate-turns-5 c = search needs
 
 turns-requires : tie.Need-turns-requires
 turns-requires c κs =
@@ -102,9 +69,6 @@ turns-requires c κs =
       ),
     )
 
-slice-aggregate-number : tie.Need-slice-aggregate-number
-slice-aggregate-number c = search needs
-
 number-requires : tie.Need-number-requires
 unfolding list-in
 number-requires c κs =
@@ -114,9 +78,6 @@ number-requires c κs =
     let b = s .pre .1 in
     answer-numberable (list-in (a .n) (a .m) (a .ends .now) (a .weights .now)) (s .pre .0 .listed) _ _ _ _ (t .turns .ensures) _ _
     (b .order-long) (few-modules (a .n) (a .m) (a .ends .now) (a .weights .now) (s .pre .0 .listed)) (b .cores-long) (b .place-long)
-
-slice-aggregate-densest : tie.Need-slice-aggregate-densest
-slice-aggregate-densest c = search needs
 
 densest-requires : tie.Need-densest-requires
 unfolding list-in
@@ -129,15 +90,6 @@ densest-requires c κs =
     (a .least) (b .some) (b .few)
     (few-modules (a .n) (a .m) (a .ends .now) (a .weights .now) (s .pre .0 .listed))
     (all-light (a .n) (a .m) (a .ends .now) (a .weights .now) (s .pre .0 .listed) (everyone (list-in (a .n) (a .m) (a .ends .now) (a .weights .now))))
-
-same-length : tie.Need-same-length
-same-length c = search needs
-
-same-length-2 : tie.Need-same-length-2
-same-length-2 c = search needs
-
-same-length-3 : tie.Need-same-length-3
-same-length-3 c = search needs
 
 returns : tie.Need-returns
 unfolding list-in
@@ -155,25 +107,25 @@ pub peel-spec : {M : Type 1} → statement M
 peel-spec =
     tie.close
     (tie.spec
-    slice-aggregate-adjacency
-    slice-aggregate-adjacency-2
-    slice-aggregate-adjacency-3
-    slice-aggregate-adjacency-4
+    (λ c. search needs)
+    (λ c. search needs)
+    (λ c. search needs)
+    (λ c. search needs)
     adjacency-requires
-    slice-aggregate-build
-    slice-aggregate-build-2
+    (λ c. search needs)
+    (λ c. search needs)
     build-requires
-    slice-aggregate-turns
-    slice-aggregate-turns-2
-    slice-aggregate-turns-3
-    slice-aggregate-turns-4
-    slice-aggregate-turns-5
+    (λ c. search needs)
+    (λ c. search needs)
+    (λ c. search needs)
+    (λ c. search needs)
+    (λ c. search needs)
     turns-requires
-    slice-aggregate-number
+    (λ c. search needs)
     number-requires
-    slice-aggregate-densest
+    (λ c. search needs)
     densest-requires
-    same-length
-    same-length-2
-    same-length-3
+    (λ c. search needs)
+    (λ c. search needs)
+    (λ c. search needs)
     returns)

@@ -18,24 +18,12 @@ loop-holds : tie.Need-loop-holds Inv-loop μ-loop
 unfolding total
 loop-holds c = (refl, omega arith)
 
-mul-sum : tie.Need-mul-sum Inv-loop μ-loop
-mul-sum c = omega arith
-
-shared-slice-read-sum : tie.Need-shared-slice-read-sum Inv-loop μ-loop
-shared-slice-read-sum c = omega arith
-
 add-sum : tie.Need-add-sum Inv-loop μ-loop
 unfolding entry
 add-sum c =
     let a = c .before .before .before .args in
     let l = c .before .before .loop in
     omega (arith, l .inv .0, total-next (l .i) (entry (a .finals .now)), total-upto (l .i + 1) (a .n) (entry (a .finals .now)) (omega arith))
-
-add-i : tie.Need-add-i Inv-loop μ-loop
-add-i c = omega arith
-
-loop-less : tie.Need-loop-less Inv-loop μ-loop
-loop-less c = omega arith
 
 loop-again : tie.Need-loop-again Inv-loop μ-loop
 unfolding entry
@@ -56,10 +44,10 @@ total-spec =
     Inv-loop
     μ-loop
     loop-holds
-    mul-sum
-    shared-slice-read-sum
+    (λ c. omega arith)
+    (λ c. omega arith)
     add-sum
-    add-i
-    loop-less
+    (λ c. omega arith)
+    (λ c. omega arith)
     loop-again
     returns)

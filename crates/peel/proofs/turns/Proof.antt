@@ -36,14 +36,8 @@ take-requires c κs =
 cast-order : tie.Need-cast-order Inv-loop μ-loop
 cast-order c = omega (arith, has-below _ _ (c .before .before .take .ensures .there))
 
-mul-order : tie.Need-mul-order Inv-loop μ-loop
-mul-order c = omega arith
-
 slice-write-order : tie.Need-slice-write-order Inv-loop μ-loop
 slice-write-order c = omega (arith, c .before .before .before .before .before .loop .inv .0 .written .order-is .long)
-
-mul-finals : tie.Need-mul-finals Inv-loop μ-loop
-mul-finals c = omega arith
 
 slice-write-finals : tie.Need-slice-write-finals Inv-loop μ-loop
 slice-write-finals c = omega (arith, c .before .before .before .before .before .loop .inv .0 .written .finals-are .long)
@@ -57,12 +51,6 @@ lower-neighbours-requires c κs =
           (l .loop .work) (l .loop .order) (l .loop .finals) (l .loop .inv .0) _ _ (c .before .before .before .take .ensures),
       (s .pre .1 .0, s .pre .1 .1 .0),
     )
-
-add-i : tie.Need-add-i Inv-loop μ-loop
-add-i c = omega arith
-
-loop-less : tie.Need-loop-less Inv-loop μ-loop
-loop-less c = omega arith
 
 loop-again : tie.Need-loop-again Inv-loop μ-loop
 loop-again c =
@@ -102,13 +90,13 @@ turns-spec =
     loop-holds
     take-requires
     cast-order
-    mul-order
+    (λ c. omega arith)
     slice-write-order
-    mul-finals
+    (λ c. omega arith)
     slice-write-finals
     lower-neighbours-requires
-    add-i
-    loop-less
+    (λ c. omega arith)
+    (λ c. omega arith)
     loop-again
     same-length
     same-length-2

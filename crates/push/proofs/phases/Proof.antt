@@ -24,9 +24,6 @@ so-far c = kept-more (c .before .before .before .before .before .before .before 
 loop-holds : tie.Need-loop-holds Inv-loop μ-loop
 loop-holds c = kept-none _ _ _ _ _
 
-sub-left : tie.Need-sub-left Inv-loop μ-loop
-sub-left c = omega arith
-
 any-active-requires : tie.Need-any-active-requires Inv-loop μ-loop
 any-active-requires c κs = let q = begin (c .before .before) .pre in omega (arith, c .before .before .loop .inv .load-long, q .1 .1 .1 .1 .long)
 
@@ -55,9 +52,6 @@ same-length-4 c = so-far (c .before .before .before .before .before) .load-long
 returns-2 : tie.Need-returns-2 Inv-loop μ-loop
 returns-2 c = so-far (c .before .before .before .before .before)
 
-loop-less : tie.Need-loop-less Inv-loop μ-loop
-loop-less c = omega arith
-
 loop-again : tie.Need-loop-again Inv-loop μ-loop
 loop-again c = so-far (c .before .before .before .before .before)
 
@@ -77,7 +71,7 @@ phases-spec =
     Inv-loop
     μ-loop
     loop-holds
-    sub-left
+    (λ c. omega arith)
     any-active-requires
     same-length
     same-length-2
@@ -86,7 +80,7 @@ phases-spec =
     same-length-3
     same-length-4
     returns-2
-    loop-less
+    (λ c. omega arith)
     loop-again
     same-length-5
     same-length-6

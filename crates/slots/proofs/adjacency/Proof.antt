@@ -107,12 +107,6 @@ add-requires-2 c κs =
           (omega (arith, s .pre .1 .degrees-long)) (e .add .ensures),
     )
 
-add-j : tie.Need-add-j Inv-loop μ-loop
-add-j c = omega arith
-
-loop-less : tie.Need-loop-less Inv-loop μ-loop
-loop-less c = omega arith
-
 loop-again : tie.Need-loop-again Inv-loop μ-loop
 loop-again c =
     let f = c .before .before in
@@ -169,8 +163,8 @@ adjacency-spec =
     mul-add-2
     shared-slice-read-add-2
     add-requires-2
-    add-j
-    loop-less
+    (λ c. omega arith)
+    (λ c. omega arith)
     loop-again
     same-length
     same-length-2

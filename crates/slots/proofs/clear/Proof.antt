@@ -16,27 +16,12 @@ abbrev μ-loop : tie.MeasureT-loop
 loop-holds : tie.Need-loop-holds Inv-loop μ-loop
 loop-holds c = (omega arith, refl, λ k h. absurd (omega arith))
 
-mul-xs : tie.Need-mul-xs Inv-loop μ-loop
-mul-xs c = omega arith
-
-slice-write-xs : tie.Need-slice-write-xs Inv-loop μ-loop
-slice-write-xs c = omega arith
-
-add-v : tie.Need-add-v Inv-loop μ-loop
-add-v c = omega arith
-
-loop-less : tie.Need-loop-less Inv-loop μ-loop
-loop-less c = omega arith
-
 loop-again : tie.Need-loop-again Inv-loop μ-loop
 loop-again c = (
   omega arith,
   simp length-set (c .before .loop .inv .1),
   stored-more (λ k x. x ≡ 0) (c .before .loop .xs) (c .before .loop .v) 0 (omega arith) (c .before .loop .inv .2) refl,
 )
-
-same-length : tie.Need-same-length Inv-loop μ-loop
-same-length c = omega arith
 
 returns : tie.Need-returns Inv-loop μ-loop
 returns c = λ v h. c .before .loop .inv .2 v (omega arith)
@@ -48,10 +33,10 @@ clear-spec =
     Inv-loop
     μ-loop
     loop-holds
-    mul-xs
-    slice-write-xs
-    add-v
-    loop-less
+    (λ c. omega arith)
+    (λ c. omega arith)
+    (λ c. omega arith)
+    (λ c. omega arith)
     loop-again
-    same-length
+    (λ c. omega arith)
     returns)

@@ -16,32 +16,11 @@ abbrev μ-loop : tie.MeasureT-loop
 loop-holds : tie.Need-loop-holds Inv-loop μ-loop
 loop-holds c = (omega arith, refl, λ k h. absurd (omega arith))
 
-mul-ys : tie.Need-mul-ys Inv-loop μ-loop
-mul-ys c = omega arith
-
-shared-slice-read-ys : tie.Need-shared-slice-read-ys Inv-loop μ-loop
-shared-slice-read-ys c = omega arith
-
-mul-ys-2 : tie.Need-mul-ys-2 Inv-loop μ-loop
-mul-ys-2 c = omega arith
-
-slice-write-ys : tie.Need-slice-write-ys Inv-loop μ-loop
-slice-write-ys c = omega arith
-
-add-v : tie.Need-add-v Inv-loop μ-loop
-add-v c = omega arith
-
-loop-less : tie.Need-loop-less Inv-loop μ-loop
-loop-less c = omega arith
-
 loop-again : tie.Need-loop-again Inv-loop μ-loop
 loop-again c =
     let xs = c .before .before .before .args .xs .now in
     let l = c .before .before .loop in
     (omega arith, simp length-set (l .inv .1), stored-more (λ k x. x ≡ getD xs k 0) (l .ys) (l .v) (getD xs (l .v) 0) (omega arith) (l .inv .2) refl)
-
-same-length : tie.Need-same-length Inv-loop μ-loop
-same-length c = omega arith
 
 returns : tie.Need-returns Inv-loop μ-loop
 returns c = λ v h. c .before .loop .inv .2 v (omega arith)
@@ -53,12 +32,12 @@ copy-spec =
     Inv-loop
     μ-loop
     loop-holds
-    mul-ys
-    shared-slice-read-ys
-    mul-ys-2
-    slice-write-ys
-    add-v
-    loop-less
+    (λ c. omega arith)
+    (λ c. omega arith)
+    (λ c. omega arith)
+    (λ c. omega arith)
+    (λ c. omega arith)
+    (λ c. omega arith)
     loop-again
-    same-length
+    (λ c. omega arith)
     returns)

@@ -10,12 +10,6 @@ returns : tie.Need-returns
 unfolding last-at
 returns c = rw (c .if1 .taken) refl
 
-sub-first-end : tie.Need-sub-first-end
-sub-first-end c = search needs
-
-first-end-requires : tie.Need-first-end-requires
-first-end-requires c κs = search needs
-
 returns-2 : tie.Need-returns-2
 returns-2 c =
     let o = c .before .before in
@@ -33,7 +27,7 @@ earlier-in-row-spec =
     tie.close
     (tie.spec
     returns
-    sub-first-end
-    first-end-requires
+    (λ c. search needs)
+    (λ c κs. search needs)
     returns-2
     returns-3)

@@ -5,20 +5,8 @@ use native.Mathlib.Nat.{mul-le-mul-right, mul-le-mul-left}
 use Rattle.slots.proofs.first_part.Statement.{statement}
 use Rattle.slots.proofs.first_part.Tie as tie
 
-returns : tie.Need-returns
-returns c = search needs
-
 mul-lesser : tie.Need-mul-lesser
 mul-lesser c = omega (arith, mul-le-mul-right (c .before .args .q) (c .before .pre .1), mul-le-mul-left 512000 (c .before .pre .0))
 
-div-lesser : tie.Need-div-lesser
-div-lesser c = search needs
-
-lesser-requires : tie.Need-lesser-requires
-lesser-requires c κs = search needs
-
-returns-2 : tie.Need-returns-2
-returns-2 c = search needs
-
 pub first-part-spec : {M : Type 1} → statement M
-first-part-spec = tie.close (tie.spec returns mul-lesser div-lesser lesser-requires returns-2)
+first-part-spec = tie.close (tie.spec (λ c. search needs) mul-lesser (λ c. search needs) (λ c κs. search needs) (λ c. search needs))

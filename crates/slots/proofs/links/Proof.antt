@@ -45,25 +45,10 @@ loop-holds c =
       linked-start (c .before .before .clear .ensures),
     )
 
-mul-wide : tie.Need-mul-wide Inv-loop μ-loop
-mul-wide c = omega arith
-
-shared-slice-read-wide : tie.Need-shared-slice-read-wide Inv-loop μ-loop
-shared-slice-read-wide c = omega arith
-
-wide-requires : tie.Need-wide-requires Inv-loop μ-loop
-wide-requires c κs = tt
-
 link-requires : tie.Need-link-requires Inv-loop μ-loop
 link-requires c κs =
     let l = module-low (c .before .before) in
     (omega (arith, c .before .before .before .before .before .loop .inv .0 .few), (omega arith, omega arith))
-
-add-s : tie.Need-add-s Inv-loop μ-loop
-add-s c = omega arith
-
-loop-less : tie.Need-loop-less Inv-loop μ-loop
-loop-less c = omega arith
 
 loop-again : tie.Need-loop-again Inv-loop μ-loop
 loop-again c =
@@ -100,12 +85,12 @@ links-spec =
     clear-requires
     mul-slots
     loop-holds
-    mul-wide
-    shared-slice-read-wide
-    wide-requires
+    (λ c. omega arith)
+    (λ c. omega arith)
+    (λ c κs. tt)
     link-requires
-    add-s
-    loop-less
+    (λ c. omega arith)
+    (λ c. omega arith)
     loop-again
     same-length
     same-length-2

@@ -46,15 +46,6 @@ loop-holds c = (
       ),
 )
 
-mul-wide : tie.Need-mul-wide Inv-loop μ-loop
-mul-wide c = omega arith
-
-shared-slice-read-wide : tie.Need-shared-slice-read-wide Inv-loop μ-loop
-shared-slice-read-wide c = omega arith
-
-wide-requires : tie.Need-wide-requires Inv-loop μ-loop
-wide-requires c κs = tt
-
 mul-load : tie.Need-mul-load Inv-loop μ-loop
 mul-load c = let l = module-low c in omega arith
 
@@ -84,12 +75,6 @@ mul-load-3 c = let l = module-low (c .before .before) in omega arith
 
 slice-write-load : tie.Need-slice-write-load Inv-loop μ-loop
 slice-write-load c = let l = module-low (c .before .before) in omega arith
-
-add-s : tie.Need-add-s Inv-loop μ-loop
-add-s c = omega arith
-
-loop-less : tie.Need-loop-less Inv-loop μ-loop
-loop-less c = omega arith
 
 loop-again : tie.Need-loop-again Inv-loop μ-loop
 loop-again c =
@@ -124,9 +109,9 @@ loads-spec =
     copy-requires
     mul-slots
     loop-holds
-    mul-wide
-    shared-slice-read-wide
-    wide-requires
+    (λ c. omega arith)
+    (λ c. omega arith)
+    (λ c κs. tt)
     mul-load
     slice-read-load
     mul-load-2
@@ -134,8 +119,8 @@ loads-spec =
     add-load
     mul-load-3
     slice-write-load
-    add-s
-    loop-less
+    (λ c. omega arith)
+    (λ c. omega arith)
     loop-again
     same-length
     returns)

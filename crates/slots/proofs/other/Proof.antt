@@ -4,12 +4,6 @@ use Rattle.slots.proofs.Mates.{mate-yes, mate-no}
 use Rattle.slots.proofs.other.Statement.{statement}
 use Rattle.slots.proofs.other.Tie as tie
 
-add-result : tie.Need-add-result
-add-result c = search needs
-
-sub-result : tie.Need-sub-result
-sub-result c = search needs
-
 returns : tie.Need-returns
 returns c = mate-yes _ (c .if1 .taken)
 
@@ -17,4 +11,4 @@ returns-2 : tie.Need-returns-2
 returns-2 c = mate-no _ (c .if1 .left)
 
 pub other-spec : {M : Type 1} → statement M
-other-spec = tie.close (tie.spec add-result sub-result returns returns-2)
+other-spec = tie.close (tie.spec (λ c. search needs) (λ c. search needs) returns returns-2)

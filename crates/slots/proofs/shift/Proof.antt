@@ -9,26 +9,11 @@ use Rattle.slots.proofs.shift.Tie as tie
 at-other : (c : tie.After-other) → let a = c .before .before .before .before .args in Slot (a .n) (a .m) (a .ends .now) (a .s) (c .other .result)
 at-other c = rw (c .other .ensures) (slot (c .before .before .before .before .pre .0) (c .before .before .before .before .pre .1 .1 .1 .0))
 
-other-requires : tie.Need-other-requires
-other-requires c κs = search needs
-
-mul-wide : tie.Need-mul-wide
-mul-wide c = search needs
-
-shared-slice-read-wide : tie.Need-shared-slice-read-wide
-shared-slice-read-wide c = search needs
-
-wide-requires : tie.Need-wide-requires
-wide-requires c κs = search needs
-
 mul-wide-2 : tie.Need-mul-wide-2
 mul-wide-2 c = omega (arith, at-other (c .before .before) .mate-long)
 
 shared-slice-read-wide-2 : tie.Need-shared-slice-read-wide-2
 shared-slice-read-wide-2 c = omega (arith, at-other (c .before .before .before) .mate-long)
-
-wide-requires-2 : tie.Need-wide-requires-2
-wide-requires-2 c κs = search needs
 
 carry-requires : tie.Need-carry-requires
 carry-requires c κs =
@@ -56,12 +41,6 @@ carry-requires-2 c κs =
       ),
     )
 
-same-length : tie.Need-same-length
-same-length c = search needs
-
-same-length-2 : tie.Need-same-length-2
-same-length-2 c = search needs
-
 returns : tie.Need-returns
 returns c = (
   cc (
@@ -80,15 +59,15 @@ pub shift-spec : {M : Type 1} → statement M
 shift-spec =
     tie.close
     (tie.spec
-    other-requires
-    mul-wide
-    shared-slice-read-wide
-    wide-requires
+    (λ c κs. search needs)
+    (λ c. search needs)
+    (λ c. search needs)
+    (λ c κs. search needs)
     mul-wide-2
     shared-slice-read-wide-2
-    wide-requires-2
+    (λ c κs. search needs)
     carry-requires
     carry-requires-2
-    same-length
-    same-length-2
+    (λ c. search needs)
+    (λ c. search needs)
     returns)

@@ -37,18 +37,6 @@ loop-holds c = (
   split-start (c .before .before .before .before .pre .1 .1 .1 .1 .long),
 )
 
-first-end-requires : tie.Need-first-end-requires Inv-loop μ-loop
-first-end-requires c κs = omega arith
-
-second-end-requires : tie.Need-second-end-requires Inv-loop μ-loop
-second-end-requires c κs = omega arith
-
-mul-pair-units : tie.Need-mul-pair-units Inv-loop μ-loop
-mul-pair-units c = omega arith
-
-shared-slice-read-pair-units : tie.Need-shared-slice-read-pair-units Inv-loop μ-loop
-shared-slice-read-pair-units c = omega arith
-
 shared-slice-read-pair-units-2 : tie.Need-shared-slice-read-pair-units-2 Inv-loop μ-loop
 shared-slice-read-pair-units-2 c = let l = modules-low (c .before .before) in omega arith
 
@@ -61,15 +49,6 @@ pair-units-requires c κs = (
   begin (c .before .before .before .before .before .before) .pre .1 .1 .1 .0,
 )
 
-mul-first-part : tie.Need-mul-first-part Inv-loop μ-loop
-mul-first-part c = omega arith
-
-mul-first-part-2 : tie.Need-mul-first-part-2 Inv-loop μ-loop
-mul-first-part-2 c = omega arith
-
-slice-read-first-part : tie.Need-slice-read-first-part Inv-loop μ-loop
-slice-read-first-part c = omega arith
-
 first-part-requires : tie.Need-first-part-requires Inv-loop μ-loop
 first-part-requires c κs =
     let s = 2 * c .before .before .before .before .before .before .before .before .loop .j in (
@@ -81,35 +60,8 @@ first-part-requires c κs =
       ),
     )
 
-mul-hold : tie.Need-mul-hold Inv-loop μ-loop
-mul-hold c = omega arith
-
-mul-hold-2 : tie.Need-mul-hold-2 Inv-loop μ-loop
-mul-hold-2 c = omega arith
-
-slice-write-hold : tie.Need-slice-write-hold Inv-loop μ-loop
-slice-write-hold c = omega arith
-
-sub-hold : tie.Need-sub-hold Inv-loop μ-loop
-sub-hold c = omega arith
-
-mul-hold-3 : tie.Need-mul-hold-3 Inv-loop μ-loop
-mul-hold-3 c = omega arith
-
-add-hold : tie.Need-add-hold Inv-loop μ-loop
-add-hold c = omega arith
-
-mul-hold-4 : tie.Need-mul-hold-4 Inv-loop μ-loop
-mul-hold-4 c = omega arith
-
 slice-write-hold-2 : tie.Need-slice-write-hold-2 Inv-loop μ-loop
 slice-write-hold-2 c = simp length-set (omega arith)
-
-add-j : tie.Need-add-j Inv-loop μ-loop
-add-j c = omega arith
-
-loop-less : tie.Need-loop-less Inv-loop μ-loop
-loop-less c = omega arith
 
 loop-again : tie.Need-loop-again Inv-loop μ-loop
 unfolding first-end second-end
@@ -134,27 +86,27 @@ spread-spec =
     Inv-loop
     μ-loop
     loop-holds
-    first-end-requires
-    second-end-requires
-    mul-pair-units
-    shared-slice-read-pair-units
+    (λ c κs. omega arith)
+    (λ c κs. omega arith)
+    (λ c. omega arith)
+    (λ c. omega arith)
     shared-slice-read-pair-units-2
     shared-slice-read-pair-units-3
     pair-units-requires
-    mul-first-part
-    mul-first-part-2
-    slice-read-first-part
+    (λ c. omega arith)
+    (λ c. omega arith)
+    (λ c. omega arith)
     first-part-requires
-    mul-hold
-    mul-hold-2
-    slice-write-hold
-    sub-hold
-    mul-hold-3
-    add-hold
-    mul-hold-4
+    (λ c. omega arith)
+    (λ c. omega arith)
+    (λ c. omega arith)
+    (λ c. omega arith)
+    (λ c. omega arith)
+    (λ c. omega arith)
+    (λ c. omega arith)
     slice-write-hold-2
-    add-j
-    loop-less
+    (λ c. omega arith)
+    (λ c. omega arith)
     loop-again
     same-length
     returns)

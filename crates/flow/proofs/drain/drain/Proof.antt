@@ -37,9 +37,6 @@ room c = release-room (out c) (c .before .before .before .before .loop .inv .0 .
 mul-slots : tie.Need-mul-slots Inv-loop μ-loop
 mul-slots c = omega (arith, c .before .before .before .before .before .before .before .pre .1 .0 .few)
 
-slice-aggregate-start-drain : tie.Need-slice-aggregate-start-drain Inv-loop μ-loop
-slice-aggregate-start-drain c = refl
-
 start-drain-requires : tie.Need-start-drain-requires Inv-loop μ-loop
 start-drain-requires c κs =
     let q = c .before .before .before .before .before .before .before .before .before .pre in
@@ -64,18 +61,6 @@ loop-holds c =
       ),
       q .0,
     )
-
-mul-wide : tie.Need-mul-wide Inv-loop μ-loop
-mul-wide c = omega arith
-
-array-read-wide : tie.Need-array-read-wide Inv-loop μ-loop
-array-read-wide c = omega arith
-
-wide-requires : tie.Need-wide-requires Inv-loop μ-loop
-wide-requires c κs = tt
-
-add-at : tie.Need-add-at Inv-loop μ-loop
-add-at c = omega arith
 
 slice-aggregate-spill : tie.Need-slice-aggregate-spill Inv-loop μ-loop
 slice-aggregate-spill c = sym (c .before .before .before .before .loop .inv .6)
@@ -175,13 +160,13 @@ drain-spec =
     Inv-loop
     μ-loop
     mul-slots
-    slice-aggregate-start-drain
+    (λ c. refl)
     start-drain-requires
     loop-holds
-    mul-wide
-    array-read-wide
-    wide-requires
-    add-at
+    (λ c. omega arith)
+    (λ c. omega arith)
+    (λ c κs. tt)
+    (λ c. omega arith)
     slice-aggregate-spill
     spill-requires
     loop-less

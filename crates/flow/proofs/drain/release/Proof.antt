@@ -7,15 +7,6 @@ use lib.ListN.{set}
 use Rattle.flow.proofs.drain.release.Statement.{statement}
 use Rattle.flow.proofs.drain.release.Tie as tie
 
-mul-e : tie.Need-mul-e
-mul-e c = search needs
-
-shared-slice-read-e : tie.Need-shared-slice-read-e
-shared-slice-read-e c = search needs
-
-wide-requires : tie.Need-wide-requires
-wide-requires c κs = search needs
-
 mul-rank : tie.Need-mul-rank
 mul-rank c =
     omega (
@@ -32,18 +23,6 @@ slice-write-rank c =
       c .before .before .before .before .before .pre .0 .below (c .before .before .before .before .before .args .k) (omega arith),
     )
 
-mul-queue : tie.Need-mul-queue
-mul-queue c = search needs
-
-slice-write-queue : tie.Need-slice-write-queue
-slice-write-queue c = search needs
-
-same-length : tie.Need-same-length
-same-length c = search needs
-
-same-length-2 : tie.Need-same-length-2
-same-length-2 c = search needs
-
 returns : tie.Need-returns
 returns c = record { ranks = ap (λ (z : ℕ). set (c .before .before .before .before .before .args .rank .now) z 0) (c .wide .ensures); queues = refl }
 
@@ -51,13 +30,13 @@ pub release-spec : {M : Type 1} → statement M
 release-spec =
     tie.close
     (tie.spec
-    mul-e
-    shared-slice-read-e
-    wide-requires
+    (λ c. search needs)
+    (λ c. search needs)
+    (λ c κs. search needs)
     mul-rank
     slice-write-rank
-    mul-queue
-    slice-write-queue
-    same-length
-    same-length-2
+    (λ c. search needs)
+    (λ c. search needs)
+    (λ c. search needs)
+    (λ c. search needs)
     returns)

@@ -43,22 +43,10 @@ in-queue c = omega (arith, room c, begin (c .before .before .before .before .bef
 mul-first-link : tie.Need-mul-first-link Inv-loop μ-loop
 mul-first-link c = omega (arith, c .before .before .before .before .before .before .pre .1 .0 .few)
 
-first-link-requires : tie.Need-first-link-requires Inv-loop μ-loop
-first-link-requires c κs = omega arith
-
 loop-holds : tie.Need-loop-holds Inv-loop μ-loop
 loop-holds c =
     let q = c .before .before .before .before .before .before .before .pre in
     (drains-none, q .1 .0, c .first-link .ensures, q .1 .1 .1 .0, refl, q .1 .1 .1 .1, q .1 .1 .1 .2)
-
-sub-k : tie.Need-sub-k Inv-loop μ-loop
-sub-k c = omega arith
-
-other-requires : tie.Need-other-requires Inv-loop μ-loop
-other-requires c κs = omega arith
-
-next-link-requires : tie.Need-next-link-requires Inv-loop μ-loop
-next-link-requires c κs = omega arith
 
 leading-requires : tie.Need-leading-requires Inv-loop μ-loop
 leading-requires c κs =
@@ -101,12 +89,6 @@ loop-again-2 c =
     let i = c .before .before .before .before .before .before .loop .inv in
     (i .0, i .1, omega (arith, c .before .before .before .next-link .ensures), i .3, i .4, i .5, i .6)
 
-same-length : tie.Need-same-length Inv-loop μ-loop
-same-length c = omega arith
-
-same-length-2 : tie.Need-same-length-2 Inv-loop μ-loop
-same-length-2 c = omega arith
-
 returns : tie.Need-returns Inv-loop μ-loop
 returns c = c .before .loop .inv .0
 
@@ -117,11 +99,11 @@ spill-spec =
     Inv-loop
     μ-loop
     mul-first-link
-    first-link-requires
+    (λ c κs. omega arith)
     loop-holds
-    sub-k
-    other-requires
-    next-link-requires
+    (λ c. omega arith)
+    (λ c κs. omega arith)
+    (λ c κs. omega arith)
     leading-requires
     release-requires
     add-t
@@ -129,6 +111,6 @@ spill-spec =
     loop-again
     loop-less-2
     loop-again-2
-    same-length
-    same-length-2
+    (λ c. omega arith)
+    (λ c. omega arith)
     returns)

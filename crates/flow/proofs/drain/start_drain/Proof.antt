@@ -29,55 +29,13 @@ next-start c =
 loop-holds : tie.Need-loop-holds Inv-loop μ-loop
 loop-holds c = (drain-start-none, c .before .before .before .before .pre .1 .1 .0, refl, c .before .before .before .before .pre .1 .1 .1)
 
-shared-slice-read-s : tie.Need-shared-slice-read-s Inv-loop μ-loop
-shared-slice-read-s c = omega arith
-
-mul-x : tie.Need-mul-x Inv-loop μ-loop
-mul-x c = omega arith
-
-shared-slice-read-x : tie.Need-shared-slice-read-x Inv-loop μ-loop
-shared-slice-read-x c = omega arith
-
-stays-requires : tie.Need-stays-requires Inv-loop μ-loop
-stays-requires c κs = omega arith
-
-mul-rank : tie.Need-mul-rank Inv-loop μ-loop
-mul-rank c = omega arith
-
-slice-write-rank : tie.Need-slice-write-rank Inv-loop μ-loop
-slice-write-rank c = omega arith
-
-cast-queue : tie.Need-cast-queue Inv-loop μ-loop
-cast-queue c = omega arith
-
-mul-queue : tie.Need-mul-queue Inv-loop μ-loop
-mul-queue c = omega arith
-
-slice-write-queue : tie.Need-slice-write-queue Inv-loop μ-loop
-slice-write-queue c = omega arith
-
-has-room-requires : tie.Need-has-room-requires Inv-loop μ-loop
-has-room-requires c κs = omega arith
-
 add-tail : tie.Need-add-tail Inv-loop μ-loop
 add-tail c = omega (arith, next-start c .few)
-
-add-v : tie.Need-add-v Inv-loop μ-loop
-add-v c = omega arith
-
-loop-less : tie.Need-loop-less Inv-loop μ-loop
-loop-less c = omega arith
 
 loop-again : tie.Need-loop-again Inv-loop μ-loop
 loop-again c =
     let i = c .before .before .before .before .before .loop .inv in
     (next-start c, simp length-set (i .1), simp length-set (i .2), simp length-set (i .3))
-
-same-length : tie.Need-same-length Inv-loop μ-loop
-same-length c = omega arith
-
-same-length-2 : tie.Need-same-length-2 Inv-loop μ-loop
-same-length-2 c = omega arith
 
 returns : tie.Need-returns Inv-loop μ-loop
 returns c = drain-start-end (c .before .loop .inv .0) (omega arith)
@@ -89,20 +47,20 @@ start-drain-spec =
     Inv-loop
     μ-loop
     loop-holds
-    shared-slice-read-s
-    mul-x
-    shared-slice-read-x
-    stays-requires
-    mul-rank
-    slice-write-rank
-    cast-queue
-    mul-queue
-    slice-write-queue
-    has-room-requires
+    (λ c. omega arith)
+    (λ c. omega arith)
+    (λ c. omega arith)
+    (λ c κs. omega arith)
+    (λ c. omega arith)
+    (λ c. omega arith)
+    (λ c. omega arith)
+    (λ c. omega arith)
+    (λ c. omega arith)
+    (λ c κs. omega arith)
     add-tail
-    add-v
-    loop-less
+    (λ c. omega arith)
+    (λ c. omega arith)
     loop-again
-    same-length
-    same-length-2
+    (λ c. omega arith)
+    (λ c. omega arith)
     returns)

@@ -27,12 +27,6 @@ returns : tie.Need-returns Inv-loop μ-loop
 returns c =
     record { within = omega arith; found = λ h. sym (c .before .leading .ensures) ∙ c .if1 .taken; none = c .before .before .before .loop .inv .3 }
 
-add-s : tie.Need-add-s Inv-loop μ-loop
-add-s c = omega arith
-
-loop-less : tie.Need-loop-less Inv-loop μ-loop
-loop-less c = omega arith
-
 loop-again : tie.Need-loop-again Inv-loop μ-loop
 loop-again c = (
   omega arith,
@@ -54,7 +48,7 @@ exit-spec =
     loop-holds
     leading-requires
     returns
-    add-s
-    loop-less
+    (λ c. omega arith)
+    (λ c. omega arith)
     loop-again
     returns-2)

@@ -21,30 +21,12 @@ other-end c =
     let a = c .before .before .before .before .before .before .before .before .before .before .before .before .args in
     c .wide2 .ensures ∙ ap (λ (o : ℕ). getD (a .ends .now) o 0) (c .before .before .other .ensures)
 
-mul-if1 : tie.Need-mul-if1
-mul-if1 c = search needs
-
-shared-slice-read-if1 : tie.Need-shared-slice-read-if1
-shared-slice-read-if1 c = search needs
-
-mul-wide : tie.Need-mul-wide
-mul-wide c = search needs
-
-shared-slice-read-wide : tie.Need-shared-slice-read-wide
-shared-slice-read-wide c = search needs
-
-wide-requires : tie.Need-wide-requires
-wide-requires c κs = search needs
-
 mul-if2 : tie.Need-mul-if2
 mul-if2 c = let p = at-start (c .before .before .before .before .before .before .before) in omega (arith, c .wide .ensures)
 
 shared-slice-read-if2 : tie.Need-shared-slice-read-if2
 shared-slice-read-if2 c =
     let p = at-start (c .before .before .before .before .before .before .before .before) in omega (arith, c .before .wide .ensures)
-
-other-requires : tie.Need-other-requires
-other-requires c κs = search needs
 
 mul-wide-2 : tie.Need-mul-wide-2
 mul-wide-2 c =
@@ -54,9 +36,6 @@ shared-slice-read-wide-2 : tie.Need-shared-slice-read-wide-2
 shared-slice-read-wide-2 c =
     let p = at-start (c .before .before .before .before .before .before .before .before .before .before .before) in
     omega (arith, c .before .other .ensures)
-
-wide-requires-2 : tie.Need-wide-requires-2
-wide-requires-2 c κs = search needs
 
 mul-result : tie.Need-mul-result
 mul-result c =
@@ -83,17 +62,17 @@ pub leading-spec : {M : Type 1} → statement M
 leading-spec =
     tie.close
     (tie.spec
-    mul-if1
-    shared-slice-read-if1
-    mul-wide
-    shared-slice-read-wide
-    wide-requires
+    (λ c. search needs)
+    (λ c. search needs)
+    (λ c. search needs)
+    (λ c. search needs)
+    (λ c κs. search needs)
     mul-if2
     shared-slice-read-if2
-    other-requires
+    (λ c κs. search needs)
     mul-wide-2
     shared-slice-read-wide-2
-    wide-requires-2
+    (λ c κs. search needs)
     mul-result
     shared-slice-read-result
     returns

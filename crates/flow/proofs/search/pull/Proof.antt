@@ -50,41 +50,17 @@ loop-holds c =
     let r = q .1 .1 .1 .1 in
     chain-start (q .0) (q .1 .0) (q .1 .1 .0) (q .1 .1 .1 .0) (r .1 .0) (r .1 .1) (r .1 .2) (r .0 .1)
 
-mul-wide : tie.Need-mul-wide Inv-loop μ-loop
-mul-wide c = omega arith
-
-shared-slice-read-wide : tie.Need-shared-slice-read-wide Inv-loop μ-loop
-shared-slice-read-wide c = omega arith
-
-wide-requires : tie.Need-wide-requires Inv-loop μ-loop
-wide-requires c κs = tt
-
 mul-wide-2 : tie.Need-mul-wide-2 Inv-loop μ-loop
 mul-wide-2 c = let s = at-slot c in omega arith
 
 shared-slice-read-wide-2 : tie.Need-shared-slice-read-wide-2 Inv-loop μ-loop
 shared-slice-read-wide-2 c = let s = at-slot (c .before) in omega arith
 
-wide-requires-2 : tie.Need-wide-requires-2 Inv-loop μ-loop
-wide-requires-2 c κs = tt
-
-mul-lesser : tie.Need-mul-lesser Inv-loop μ-loop
-mul-lesser c = omega arith
-
-slice-read-lesser : tie.Need-slice-read-lesser Inv-loop μ-loop
-slice-read-lesser c = omega arith
-
-sub-lesser : tie.Need-sub-lesser Inv-loop μ-loop
-sub-lesser c = omega arith
-
 mul-lesser-2 : tie.Need-mul-lesser-2 Inv-loop μ-loop
 mul-lesser-2 c = let s = at-parent (c .before) in omega arith
 
 slice-read-lesser-2 : tie.Need-slice-read-lesser-2 Inv-loop μ-loop
 slice-read-lesser-2 c = let s = at-parent (c .before .before) in omega arith
-
-lesser-requires : tie.Need-lesser-requires Inv-loop μ-loop
-lesser-requires c κs = tt
 
 shift-requires : tie.Need-shift-requires Inv-loop μ-loop
 shift-requires c κs =
@@ -137,18 +113,18 @@ pull-spec =
     Inv-loop
     μ-loop
     loop-holds
-    mul-wide
-    shared-slice-read-wide
-    wide-requires
+    (λ c. omega arith)
+    (λ c. omega arith)
+    (λ c κs. tt)
     mul-wide-2
     shared-slice-read-wide-2
-    wide-requires-2
-    mul-lesser
-    slice-read-lesser
-    sub-lesser
+    (λ c κs. tt)
+    (λ c. omega arith)
+    (λ c. omega arith)
+    (λ c. omega arith)
     mul-lesser-2
     slice-read-lesser-2
-    lesser-requires
+    (λ c κs. tt)
     shift-requires
     mul-if1
     slice-read-if1

@@ -102,12 +102,6 @@ mul-rank c = omega (arith, root-low c)
 slice-write-rank : tie.Need-slice-write-rank Inv-loop μ-loop Inv-scan μ-scan
 slice-write-rank c = omega (arith, root-low c)
 
-cast-queue : tie.Need-cast-queue Inv-loop μ-loop Inv-scan μ-scan
-cast-queue c = omega arith
-
-array-write-queue : tie.Need-array-write-queue Inv-loop μ-loop Inv-scan μ-scan
-array-write-queue c = search needs
-
 scan-holds : tie.Need-scan-holds Inv-loop μ-loop Inv-scan μ-scan
 scan-holds c =
     let s = c .before .before .before .before .before .before .before .before .before .before .before in
@@ -173,52 +167,22 @@ scan-again c =
       k .1 .0 ∙ i .7,
     )
 
-mul-wide : tie.Need-mul-wide Inv-loop μ-loop Inv-scan μ-scan
-mul-wide c = omega arith
-
-array-read-wide : tie.Need-array-read-wide Inv-loop μ-loop Inv-scan μ-scan
-array-read-wide c = omega arith
-
-wide-requires : tie.Need-wide-requires Inv-loop μ-loop Inv-scan μ-scan
-wide-requires c κs = tt
-
-add-at : tie.Need-add-at Inv-loop μ-loop Inv-scan μ-scan
-add-at c = omega arith
-
 mul-capped : tie.Need-mul-capped Inv-loop μ-loop Inv-scan μ-scan
 mul-capped c = omega (arith, module-low c)
 
 shared-slice-read-capped : tie.Need-shared-slice-read-capped Inv-loop μ-loop Inv-scan μ-scan
 shared-slice-read-capped c = omega (arith, module-low (c .before))
 
-capped-requires : tie.Need-capped-requires Inv-loop μ-loop Inv-scan μ-scan
-capped-requires c κs = tt
-
 loop-holds : tie.Need-loop-holds Inv-loop μ-loop Inv-scan μ-scan
 loop-holds c =
     let i = c .before .before .before .before .scan .inv in
     (i .0, i .1, i .2, i .3, omega arith, omega arith, omega (arith, c .capped .ensures .0), refl, refl)
-
-scan-less-2 : tie.Need-scan-less-2 Inv-loop μ-loop Inv-scan μ-scan
-scan-less-2 c = omega arith
 
 scan-again-2 : tie.Need-scan-again-2 Inv-loop μ-loop Inv-scan μ-scan
 scan-again-2 c =
     let i = c .before .loop .inv in
     let j = c .before .before .before .before .before .before .scan .inv in
     (i .0, i .1, i .2, i .3, i .4, refl, i .7 ∙ j .6, i .8 ∙ j .7)
-
-sub-k : tie.Need-sub-k Inv-loop μ-loop Inv-scan μ-scan
-sub-k c = omega arith
-
-mul-capped-2 : tie.Need-mul-capped-2 Inv-loop μ-loop Inv-scan μ-scan
-mul-capped-2 c = omega arith
-
-shared-slice-read-capped-2 : tie.Need-shared-slice-read-capped-2 Inv-loop μ-loop Inv-scan μ-scan
-shared-slice-read-capped-2 c = omega arith
-
-capped-requires-2 : tie.Need-capped-requires-2 Inv-loop μ-loop Inv-scan μ-scan
-capped-requires-2 c κs = tt
 
 leading-requires : tie.Need-leading-requires Inv-loop μ-loop Inv-scan μ-scan
 leading-requires c κs = let i = c .before .before .before .before .loop .inv in (i .1 .pairs, (omega arith, (i .1 .hold-long, i .2)))
@@ -326,8 +290,8 @@ search-spec =
     clear-requires
     mul-rank
     slice-write-rank
-    cast-queue
-    array-write-queue
+    (λ c. omega arith)
+    (λ c. search needs)
     scan-holds
     exit-requires
     slice-aggregate-visit
@@ -337,20 +301,20 @@ search-spec =
     shared-slice-read-if3
     scan-less
     scan-again
-    mul-wide
-    array-read-wide
-    wide-requires
-    add-at
+    (λ c. omega arith)
+    (λ c. omega arith)
+    (λ c κs. tt)
+    (λ c. omega arith)
     mul-capped
     shared-slice-read-capped
-    capped-requires
+    (λ c κs. tt)
     loop-holds
-    scan-less-2
+    (λ c. omega arith)
     scan-again-2
-    sub-k
-    mul-capped-2
-    shared-slice-read-capped-2
-    capped-requires-2
+    (λ c. omega arith)
+    (λ c. omega arith)
+    (λ c. omega arith)
+    (λ c κs. tt)
     leading-requires
     slice-aggregate-visit-2
     visit-requires-2

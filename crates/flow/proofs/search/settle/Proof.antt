@@ -32,18 +32,6 @@ loop-holds c =
     let q = c .before .before .before .before .before .before .pre in
     (settling-start (q .1 .1 .0) (q .1 .1 .1 .0), q .0, q .1 .1 .1 .1 .2, refl, refl)
 
-mul-if1 : tie.Need-mul-if1 Inv-loop μ-loop
-mul-if1 c = omega arith
-
-slice-read-if1 : tie.Need-slice-read-if1 Inv-loop μ-loop
-slice-read-if1 c = omega arith
-
-add-root : tie.Need-add-root Inv-loop μ-loop
-add-root c = omega arith
-
-loop-less : tie.Need-loop-less Inv-loop μ-loop
-loop-less c = omega arith
-
 loop-again : tie.Need-loop-again Inv-loop μ-loop
 loop-again c =
     let i = c .before .before .before .loop .inv in
@@ -129,10 +117,10 @@ settle-spec =
     Inv-loop
     μ-loop
     loop-holds
-    mul-if1
-    slice-read-if1
-    add-root
-    loop-less
+    (λ c. omega arith)
+    (λ c. omega arith)
+    (λ c. omega arith)
+    (λ c. omega arith)
     loop-again
     slice-aggregate-search
     search-requires

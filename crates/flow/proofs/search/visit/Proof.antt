@@ -22,23 +22,11 @@ end-of c =
 end-low : (c : tie.After-wide) → c .wide .result < c .before .before .before .before .before .before .before .args .n
 end-low c = omega (arith, end-of c, at-start (c .before .before .before .before .before .before .before) .mate-below)
 
-other-requires : tie.Need-other-requires
-other-requires c κs = search needs
-
 mul-e : tie.Need-mul-e
 mul-e c = let p = at-start (c .before .before .before .before .before) in omega (arith, c .other .ensures)
 
 shared-slice-read-e : tie.Need-shared-slice-read-e
 shared-slice-read-e c = let p = at-start (c .before .before .before .before .before .before) in omega (arith, c .before .other .ensures)
-
-wide-requires : tie.Need-wide-requires
-wide-requires c κs = search needs
-
-add-rank : tie.Need-add-rank
-add-rank c = search needs
-
-cast-rank : tie.Need-cast-rank
-cast-rank c = search needs
 
 mul-rank : tie.Need-mul-rank
 mul-rank c = omega (arith, end-low c)
@@ -46,29 +34,11 @@ mul-rank c = omega (arith, end-low c)
 slice-write-rank : tie.Need-slice-write-rank
 slice-write-rank c = omega (arith, end-low c)
 
-cast-from : tie.Need-cast-from
-cast-from c = search needs
-
 mul-from : tie.Need-mul-from
 mul-from c = omega (arith, end-low c)
 
 slice-write-from : tie.Need-slice-write-from
 slice-write-from c = omega (arith, end-low c)
-
-mul-queue : tie.Need-mul-queue
-mul-queue c = search needs
-
-slice-write-queue : tie.Need-slice-write-queue
-slice-write-queue c = search needs
-
-same-length : tie.Need-same-length
-same-length c = search needs
-
-same-length-2 : tie.Need-same-length-2
-same-length-2 c = search needs
-
-same-length-3 : tie.Need-same-length-3
-same-length-3 c = search needs
 
 returns : tie.Need-returns
 returns c =
@@ -79,20 +49,20 @@ pub visit-spec : {M : Type 1} → statement M
 visit-spec =
     tie.close
     (tie.spec
-    other-requires
+    (λ c κs. search needs)
     mul-e
     shared-slice-read-e
-    wide-requires
-    add-rank
-    cast-rank
+    (λ c κs. search needs)
+    (λ c. search needs)
+    (λ c. search needs)
     mul-rank
     slice-write-rank
-    cast-from
+    (λ c. search needs)
     mul-from
     slice-write-from
-    mul-queue
-    slice-write-queue
-    same-length
-    same-length-2
-    same-length-3
+    (λ c. search needs)
+    (λ c. search needs)
+    (λ c. search needs)
+    (λ c. search needs)
+    (λ c. search needs)
     returns)

@@ -18,9 +18,6 @@ push-from-requires c κs =
     let b = q .1 .1 .1 .1 .1 in
     (q .1 .0, ((q .1 .1 .0 .0, q .1 .1 .0 .2, b .0), (q .1 .1 .1 .0, (q .1 .1 .1 .1 .0, (b .1, b .2)))))
 
-mul-if1 : tie.Need-mul-if1
-mul-if1 c = search needs
-
 slice-read-if1 : tie.Need-slice-read-if1
 slice-read-if1 c =
     let p = c .before .before .before .before .before .before .before .before .before in
@@ -57,69 +54,12 @@ slice-write-arc c =
 cast-enqueue : tie.Need-cast-enqueue
 cast-enqueue c = let q = begin (pushed (c .before .before)) .pre in omega (arith, q .0, q .1 .1 .0, q .1 .1 .1 .1 .1)
 
-enqueue-requires : tie.Need-enqueue-requires
-enqueue-requires c κs = search needs
-
-same-length : tie.Need-same-length
-same-length c = search needs
-
-same-length-2 : tie.Need-same-length-2
-same-length-2 c = search needs
-
-same-length-3 : tie.Need-same-length-3
-same-length-3 c = search needs
-
-same-length-4 : tie.Need-same-length-4
-same-length-4 c = search needs
-
-same-length-5 : tie.Need-same-length-5
-same-length-5 c = search needs
-
-returns : tie.Need-returns
-returns c = search needs
-
-same-length-6 : tie.Need-same-length-6
-same-length-6 c = search needs
-
-same-length-7 : tie.Need-same-length-7
-same-length-7 c = search needs
-
-same-length-8 : tie.Need-same-length-8
-same-length-8 c = search needs
-
-same-length-9 : tie.Need-same-length-9
-same-length-9 c = search needs
-
-same-length-10 : tie.Need-same-length-10
-same-length-10 c = search needs
-
-returns-2 : tie.Need-returns-2
-returns-2 c = search needs
-
-same-length-11 : tie.Need-same-length-11
-same-length-11 c = search needs
-
-same-length-12 : tie.Need-same-length-12
-same-length-12 c = search needs
-
-same-length-13 : tie.Need-same-length-13
-same-length-13 c = search needs
-
-same-length-14 : tie.Need-same-length-14
-same-length-14 c = search needs
-
-same-length-15 : tie.Need-same-length-15
-same-length-15 c = search needs
-
-returns-3 : tie.Need-returns-3
-returns-3 c = search needs
-
 pub discharge-spec : {M : Type 1} → statement M
 discharge-spec =
     tie.close
     (tie.spec
     push-from-requires
-    mul-if1
+    (λ c. search needs)
     slice-read-if1
     relabel-requires
     mul-label
@@ -129,22 +69,22 @@ discharge-spec =
     mul-arc-2
     slice-write-arc
     cast-enqueue
-    enqueue-requires
-    same-length
-    same-length-2
-    same-length-3
-    same-length-4
-    same-length-5
-    returns
-    same-length-6
-    same-length-7
-    same-length-8
-    same-length-9
-    same-length-10
-    returns-2
-    same-length-11
-    same-length-12
-    same-length-13
-    same-length-14
-    same-length-15
-    returns-3)
+    (λ c κs. search needs)
+    (λ c. search needs)
+    (λ c. search needs)
+    (λ c. search needs)
+    (λ c. search needs)
+    (λ c. search needs)
+    (λ c. search needs)
+    (λ c. search needs)
+    (λ c. search needs)
+    (λ c. search needs)
+    (λ c. search needs)
+    (λ c. search needs)
+    (λ c. search needs)
+    (λ c. search needs)
+    (λ c. search needs)
+    (λ c. search needs)
+    (λ c. search needs)
+    (λ c. search needs)
+    (λ c. search needs))

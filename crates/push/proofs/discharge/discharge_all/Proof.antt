@@ -25,18 +25,6 @@ loop-holds c =
     let q = c .before .before .before .before .before .before .before .before .pre in
     (kept-none _ _ _ _ _, omega arith, q .1 .1 .1 .1 .1 .2, refl, refl, refl)
 
-mul-wide : tie.Need-mul-wide Inv-loop μ-loop
-mul-wide c = omega arith
-
-slice-read-wide : tie.Need-slice-read-wide Inv-loop μ-loop
-slice-read-wide c = omega arith
-
-wide-requires : tie.Need-wide-requires Inv-loop μ-loop
-wide-requires c κs = omega arith
-
-add-at : tie.Need-add-at Inv-loop μ-loop
-add-at c = omega arith
-
 discharge-requires : tie.Need-discharge-requires Inv-loop μ-loop
 discharge-requires c κs =
     let a = c .before .before .before .before .before .before .before .before .before in
@@ -53,9 +41,6 @@ discharge-requires c κs =
       ),
     )
 
-loop-less : tie.Need-loop-less Inv-loop μ-loop
-loop-less c = omega arith
-
 loop-again : tie.Need-loop-again Inv-loop μ-loop
 loop-again c =
     let d = c .before .before .before .before .before .before .before .before .before .before in
@@ -69,26 +54,8 @@ loop-again c =
       omega (arith, k .1 .0),
     )
 
-loop-less-2 : tie.Need-loop-less-2 Inv-loop μ-loop
-loop-less-2 c = omega arith
-
 loop-again-2 : tie.Need-loop-again-2 Inv-loop μ-loop
 loop-again-2 c = let i = c .before .before .before .before .loop .inv in (i .0, omega arith, i .2, i .3, i .4, i .5)
-
-same-length : tie.Need-same-length Inv-loop μ-loop
-same-length c = omega arith
-
-same-length-2 : tie.Need-same-length-2 Inv-loop μ-loop
-same-length-2 c = omega arith
-
-same-length-3 : tie.Need-same-length-3 Inv-loop μ-loop
-same-length-3 c = omega arith
-
-same-length-4 : tie.Need-same-length-4 Inv-loop μ-loop
-same-length-4 c = omega arith
-
-same-length-5 : tie.Need-same-length-5 Inv-loop μ-loop
-same-length-5 c = omega arith
 
 returns : tie.Need-returns Inv-loop μ-loop
 returns c = c .before .loop .inv .0
@@ -100,18 +67,18 @@ discharge-all-spec =
     Inv-loop
     μ-loop
     loop-holds
-    mul-wide
-    slice-read-wide
-    wide-requires
-    add-at
+    (λ c. omega arith)
+    (λ c. omega arith)
+    (λ c κs. omega arith)
+    (λ c. omega arith)
     discharge-requires
-    loop-less
+    (λ c. omega arith)
     loop-again
-    loop-less-2
+    (λ c. omega arith)
     loop-again-2
-    same-length
-    same-length-2
-    same-length-3
-    same-length-4
-    same-length-5
+    (λ c. omega arith)
+    (λ c. omega arith)
+    (λ c. omega arith)
+    (λ c. omega arith)
+    (λ c. omega arith)
     returns)

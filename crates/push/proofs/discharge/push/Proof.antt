@@ -32,32 +32,11 @@ shift-kept c =
     shift-keeps _ _ _ _ _ _ _ (q .0) (q .1 .1 .0 .long) (q .1 .1 .1 .0) (q .1 .0 .0)
     (c .before .before .before .before .before .amount .ensures) _ _ (c .shift .ensures .0) (c .shift .ensures .1)
 
-other-requires : tie.Need-other-requires
-other-requires c κs = search needs
-
 mul-e : tie.Need-mul-e
 mul-e c = let p = at-slot c in omega arith
 
 shared-slice-read-e : tie.Need-shared-slice-read-e
 shared-slice-read-e c = let p = at-slot (c .before) in omega arith
-
-wide-requires : tie.Need-wide-requires
-wide-requires c κs = search needs
-
-mul-wide : tie.Need-mul-wide
-mul-wide c = search needs
-
-shared-slice-read-wide : tie.Need-shared-slice-read-wide
-shared-slice-read-wide c = search needs
-
-wide-requires-2 : tie.Need-wide-requires-2
-wide-requires-2 c κs = search needs
-
-mul-amount : tie.Need-mul-amount
-mul-amount c = search needs
-
-slice-read-amount : tie.Need-slice-read-amount
-slice-read-amount c = search needs
 
 mul-amount-2 : tie.Need-mul-amount-2
 mul-amount-2 c = let p = slot-wide (c .before) in omega (arith, c .before .wide2 .ensures)
@@ -77,9 +56,6 @@ mul-amount-4 c = let p = slot-wide (c .before .before .before) in omega (arith, 
 shared-slice-read-amount-2 : tie.Need-shared-slice-read-amount-2
 shared-slice-read-amount-2 c = let w = c .before .before .before .before in let p = slot-wide w in omega (arith, w .before .before .wide .ensures)
 
-amount-requires : tie.Need-amount-requires
-amount-requires c κs = search needs
-
 mul-x : tie.Need-mul-x
 mul-x c = let w = c .before .before .before .before .before .before in let p = slot-wide w in omega (arith, w .before .before .wide .ensures)
 
@@ -97,59 +73,41 @@ enqueue-active-requires c κs =
     let q = begin-shift s .pre in
     (omega (arith, shift-kept s .load-long, q .1 .1 .1 .0 .long), q .1 .1 .1 .1)
 
-same-length : tie.Need-same-length
-same-length c = search needs
-
-same-length-2 : tie.Need-same-length-2
-same-length-2 c = search needs
-
-same-length-3 : tie.Need-same-length-3
-same-length-3 c = search needs
-
 returns : tie.Need-returns
 returns c = (c .before .before .enqueue-active .ensures, shift-kept (c .before .before .before .before .before .before .before .before .before .before))
 
-same-length-4 : tie.Need-same-length-4
-same-length-4 c = search needs
-
-same-length-5 : tie.Need-same-length-5
-same-length-5 c = search needs
-
 returns-2 : tie.Need-returns-2
 returns-2 c = let s = c .before .before .before .before .before in (begin-shift s .pre .1 .1 .1 .1, shift-kept s)
-
-returns-3 : tie.Need-returns-3
-returns-3 c = search needs
 
 pub push-spec : {M : Type 1} → statement M
 push-spec =
     tie.close
     (tie.spec
-    other-requires
+    (λ c κs. search needs)
     mul-e
     shared-slice-read-e
-    wide-requires
-    mul-wide
-    shared-slice-read-wide
-    wide-requires-2
-    mul-amount
-    slice-read-amount
+    (λ c κs. search needs)
+    (λ c. search needs)
+    (λ c. search needs)
+    (λ c κs. search needs)
+    (λ c. search needs)
+    (λ c. search needs)
     mul-amount-2
     slice-read-amount-2
     mul-amount-3
     shared-slice-read-amount
     mul-amount-4
     shared-slice-read-amount-2
-    amount-requires
+    (λ c κs. search needs)
     mul-x
     slice-read-x
     shift-requires
     enqueue-active-requires
-    same-length
-    same-length-2
-    same-length-3
+    (λ c. search needs)
+    (λ c. search needs)
+    (λ c. search needs)
     returns
-    same-length-4
-    same-length-5
+    (λ c. search needs)
+    (λ c. search needs)
     returns-2
-    returns-3)
+    (λ c. search needs))

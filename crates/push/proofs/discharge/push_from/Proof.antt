@@ -19,18 +19,9 @@ abbrev μ-loop : tie.MeasureT-loop
 abbrev begin : tie.At-loop Inv-loop μ-loop → tie.Start Inv-loop μ-loop
 begin c = c .before .before .before .before .before .before .before .before .before .before
 
-mul-first-link : tie.Need-mul-first-link Inv-loop μ-loop
-mul-first-link c = omega arith
-
-first-link-requires : tie.Need-first-link-requires Inv-loop μ-loop
-first-link-requires c κs = omega arith
-
 loop-holds : tie.Need-loop-holds Inv-loop μ-loop
 loop-holds c =
     (kept-none _ _ _ _ _, c .first-link .ensures, c .before .before .before .before .before .before .before .before .before .pre .1 .1 .1 .1 .1, refl, refl)
-
-mul-if1 : tie.Need-mul-if1 Inv-loop μ-loop
-mul-if1 c = omega arith
 
 slice-read-if1 : tie.Need-slice-read-if1 Inv-loop μ-loop
 slice-read-if1 c =
@@ -39,17 +30,8 @@ slice-read-if1 c =
 cast-arc : tie.Need-cast-arc Inv-loop μ-loop
 cast-arc c = let a = c .before .before .before in omega (arith, begin a .pre .0 .few, a .loop .inv .1)
 
-mul-arc : tie.Need-mul-arc Inv-loop μ-loop
-mul-arc c = omega arith
-
 slice-write-arc : tie.Need-slice-write-arc Inv-loop μ-loop
 slice-write-arc c = let a = c .before .before .before in omega (arith, begin a .pre .1 .0 .0, begin a .pre .1 .1 .1 .1 .0, a .loop .inv .4)
-
-sub-k : tie.Need-sub-k Inv-loop μ-loop
-sub-k c = omega arith
-
-next-link-requires : tie.Need-next-link-requires Inv-loop μ-loop
-next-link-requires c κs = omega arith
 
 push-requires : tie.Need-push-requires Inv-loop μ-loop
 push-requires c κs =
@@ -57,9 +39,6 @@ push-requires c κs =
     let q = begin a .pre in
     let i = a .loop .inv in
     (q .0, ((omega arith, q .1 .0 .2), (kept-room (i .0) (q .1 .1 .0), (kept-covers (i .0) (q .1 .1 .1 .0), i .2))))
-
-loop-less : tie.Need-loop-less Inv-loop μ-loop
-loop-less c = omega arith
 
 loop-again : tie.Need-loop-again Inv-loop μ-loop
 loop-again c =
@@ -73,32 +52,8 @@ loop-again c =
       simp length-set (i .4),
     )
 
-same-length : tie.Need-same-length Inv-loop μ-loop
-same-length c = omega arith
-
-same-length-2 : tie.Need-same-length-2 Inv-loop μ-loop
-same-length-2 c = omega arith
-
-same-length-3 : tie.Need-same-length-3 Inv-loop μ-loop
-same-length-3 c = omega arith
-
-same-length-4 : tie.Need-same-length-4 Inv-loop μ-loop
-same-length-4 c = omega arith
-
 returns : tie.Need-returns Inv-loop μ-loop
 returns c = (omega arith, c .before .before .before .loop .inv .0)
-
-same-length-5 : tie.Need-same-length-5 Inv-loop μ-loop
-same-length-5 c = omega arith
-
-same-length-6 : tie.Need-same-length-6 Inv-loop μ-loop
-same-length-6 c = omega arith
-
-same-length-7 : tie.Need-same-length-7 Inv-loop μ-loop
-same-length-7 c = omega arith
-
-same-length-8 : tie.Need-same-length-8 Inv-loop μ-loop
-same-length-8 c = omega arith
 
 returns-2 : tie.Need-returns-2 Inv-loop μ-loop
 returns-2 c = (omega arith, c .before .loop .inv .0)
@@ -109,26 +64,26 @@ push-from-spec =
     (tie.spec
     Inv-loop
     μ-loop
-    mul-first-link
-    first-link-requires
+    (λ c. omega arith)
+    (λ c κs. omega arith)
     loop-holds
-    mul-if1
+    (λ c. omega arith)
     slice-read-if1
     cast-arc
-    mul-arc
+    (λ c. omega arith)
     slice-write-arc
-    sub-k
-    next-link-requires
+    (λ c. omega arith)
+    (λ c κs. omega arith)
     push-requires
-    loop-less
+    (λ c. omega arith)
     loop-again
-    same-length
-    same-length-2
-    same-length-3
-    same-length-4
+    (λ c. omega arith)
+    (λ c. omega arith)
+    (λ c. omega arith)
+    (λ c. omega arith)
     returns
-    same-length-5
-    same-length-6
-    same-length-7
-    same-length-8
+    (λ c. omega arith)
+    (λ c. omega arith)
+    (λ c. omega arith)
+    (λ c. omega arith)
     returns-2)

@@ -13,62 +13,14 @@ Inv-loop n p scope load label₀ queue₀ tail₀ v₀ label queue tail v =
 abbrev μ-loop : tie.MeasureT-loop
 μ-loop n p scope load label₀ queue₀ tail₀ v₀ label queue tail v = v
 
-loop-holds : tie.Need-loop-holds Inv-loop μ-loop
-loop-holds c = omega arith
-
-sub-v : tie.Need-sub-v Inv-loop μ-loop
-sub-v c = omega arith
-
-mul-label : tie.Need-mul-label Inv-loop μ-loop
-mul-label c = omega arith
-
-slice-write-label : tie.Need-slice-write-label Inv-loop μ-loop
-slice-write-label c = omega arith
-
-shared-slice-read-has-room : tie.Need-shared-slice-read-has-room Inv-loop μ-loop
-shared-slice-read-has-room c = omega arith
-
-mul-has-room : tie.Need-mul-has-room Inv-loop μ-loop
-mul-has-room c = omega arith
-
-shared-slice-read-has-room-2 : tie.Need-shared-slice-read-has-room-2 Inv-loop μ-loop
-shared-slice-read-has-room-2 c = omega arith
-
-has-room-requires : tie.Need-has-room-requires Inv-loop μ-loop
-has-room-requires c κs = omega arith
-
-mul-label-2 : tie.Need-mul-label-2 Inv-loop μ-loop
-mul-label-2 c = omega arith
-
 slice-write-label-2 : tie.Need-slice-write-label-2 Inv-loop μ-loop
 slice-write-label-2 c = simp length-set (omega arith)
-
-cast-enqueue : tie.Need-cast-enqueue Inv-loop μ-loop
-cast-enqueue c = omega arith
-
-enqueue-requires : tie.Need-enqueue-requires Inv-loop μ-loop
-enqueue-requires c κs = omega arith
-
-loop-less : tie.Need-loop-less Inv-loop μ-loop
-loop-less c = omega arith
 
 loop-again : tie.Need-loop-again Inv-loop μ-loop
 loop-again c = simp length-set (omega arith)
 
-loop-less-2 : tie.Need-loop-less-2 Inv-loop μ-loop
-loop-less-2 c = omega arith
-
 loop-again-2 : tie.Need-loop-again-2 Inv-loop μ-loop
 loop-again-2 c = simp length-set (omega arith)
-
-same-length : tie.Need-same-length Inv-loop μ-loop
-same-length c = omega arith
-
-same-length-2 : tie.Need-same-length-2 Inv-loop μ-loop
-same-length-2 c = omega arith
-
-returns : tie.Need-returns Inv-loop μ-loop
-returns c = omega arith
 
 pub label-sinks-spec : {M : Type 1} → statement M
 label-sinks-spec =
@@ -76,22 +28,22 @@ label-sinks-spec =
     (tie.spec
     Inv-loop
     μ-loop
-    loop-holds
-    sub-v
-    mul-label
-    slice-write-label
-    shared-slice-read-has-room
-    mul-has-room
-    shared-slice-read-has-room-2
-    has-room-requires
-    mul-label-2
+    (λ c. omega arith)
+    (λ c. omega arith)
+    (λ c. omega arith)
+    (λ c. omega arith)
+    (λ c. omega arith)
+    (λ c. omega arith)
+    (λ c. omega arith)
+    (λ c κs. omega arith)
+    (λ c. omega arith)
     slice-write-label-2
-    cast-enqueue
-    enqueue-requires
-    loop-less
+    (λ c. omega arith)
+    (λ c κs. omega arith)
+    (λ c. omega arith)
     loop-again
-    loop-less-2
+    (λ c. omega arith)
     loop-again-2
-    same-length
-    same-length-2
-    returns)
+    (λ c. omega arith)
+    (λ c. omega arith)
+    (λ c. omega arith))
