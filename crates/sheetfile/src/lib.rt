@@ -5,17 +5,17 @@
 // Refuses by the pair file's numbers; 101 to 106, line by line; 7, 8, 9; 107, 108.
 ghost use mathlib.Core.Path.{_≡_};
 ghost use mathlib.Core.List.{[], _++_};
-ghost use Prim.Native.Nat.{_*_, _≤_};
+ghost use Prim.Native.Nat.{_≤_};
 ghost use lib.Dec.{leb};
-ghost use lib.ListN.{length, take, drop, replicate};
+ghost use lib.ListN.{length, drop};
 ghost use Rattle.theory.specs.Basics.{mark};
 ghost use Rattle.theory.specs.Cores.{core-numbers};
 ghost use Rattle.theory.specs.Splits.{rounded-up};
-ghost use Rattle.pairs.specs.Located.{ones-in};
+ghost use Rattle.theory.specs.Words.{laid-pairs, laid-list, Holds-list};
 ghost use Rattle.verify.specs.Answers.{refused-by};
 ghost use Rattle.sheetfile.specs.Sheet.{member-line, number-line, share-line, read-members, read-numbers, read-shares, read-body, read-sheet};
 ghost use Rattle.sheetfile.specs.Audit.{audit-sheet, verdict-of, Audits};
-ghost use Rattle.sheetfile.specs.Answers.{LineRead, PartRead, NumbersRead, Beside, BodyRead, SheetRead, at-least, judged-head, Ones, Blank, list-of};
+ghost use Rattle.sheetfile.specs.Answers.{LineRead, PartRead, NumbersRead, Beside, BodyRead, SheetRead, at-least, judged-head, Audit-buffers};
 use pairfile::FoundLine;
 use pairfile::FoundNumber;
 use pairfile::count_at;
@@ -164,17 +164,17 @@ fn read_numbers(bytes: &[u8], at: usize, cores: &[u32]) -> Lines
 }
 
 // The share lines from `at` on, one for each pair, and their shares.
-fn read_shares(bytes: &[u8], at: usize, ends: &[u32], shares: &mut [u16]) -> Lines
+fn read_shares(bytes: &[u8], at: usize, words: &[u32], shares: &mut [u16]) -> Lines
     requires { ⌜ at ≤ length (now bytes) ⌝ }
     requires { ⌜ length (now shares) ≤ 4096 ⌝ }
-    requires { ⌜ 2 * length (now shares) ≤ length (now ends) ⌝ }
-    ensures { λ r. ⌜ PartRead (now (bytes .entry)) (read-shares (ones-in (length (now (shares .entry))) (now (ends .entry))) [] (drop at (now (bytes .entry))))
-        (now (shares .exit)) r ⌝ }
+    requires { ⌜ 8192 ≤ length (now words) ⌝ }
+    ensures { λ r. ⌜ PartRead (now (bytes .entry))
+        (read-shares (laid-pairs (length (now (shares .entry))) (now (words .entry))) [] (drop at (now (bytes .entry)))) (now (shares .exit)) r ⌝ }
 {
     let mut i = at;
     let mut j: usize = 0;
     while j < shares.len() {
-        let line = share_line(bytes, i, ends[2 * j], ends[2 * j + 1]);
+        let line = share_line(bytes, i, words[2 * j], words[2 * j + 1]);
         if line.number != 0 {
             return Lines {
                 number: line.number,
@@ -193,14 +193,16 @@ fn read_body(
     bytes: &[u8],
     at: usize,
     q: usize,
-    ends: &[u32],
+    words: &[u32],
     cores: &[u32],
     members: &mut [u8],
     shares: &mut [u16],
 ) -> u32
     requires { ⌜ at ≤ length (now bytes) ⌝ }
-    requires { ⌜ Beside (length (now members)) (length (now shares)) (now ends) (now cores) (now members) ⌝ }
-    ensures { λ r. ⌜ BodyRead (read-body (list-of (length (now (members .entry))) (length (now (shares .entry))) (now (ends .entry))) q (drop at (now (bytes .entry))))
+    requires { ⌜ Holds-list (length (now members)) (length (now shares)) (now words) ⌝ }
+    requires { ⌜ Beside (laid-list (length (now members)) (length (now shares)) (now words)) (now cores) (now members) ⌝ }
+    ensures { λ r. ⌜ BodyRead
+        (read-body (laid-list (length (now (members .entry))) (length (now (shares .entry))) (now (words .entry))) q (drop at (now (bytes .entry))))
         (now (members .exit)) (now (shares .exit)) r ⌝ }
 {
     let named = read_members(bytes, at, q, members);
@@ -211,7 +213,7 @@ fn read_body(
     if counted.number != 0 {
         return counted.number;
     }
-    let shared = read_shares(bytes, counted.next, ends, shares);
+    let shared = read_shares(bytes, counted.next, words, shares);
     if shared.number != 0 {
         return shared.number;
     }
@@ -236,13 +238,15 @@ fn refused_head(number: u32) -> SheetHead
 // The sheet that the bytes are, beside a list: its head, the member bytes and the shares.
 fn read_sheet(
     bytes: &[u8],
-    ends: &[u32],
+    words: &[u32],
     cores: &[u32],
     members: &mut [u8],
     shares: &mut [u16],
 ) -> SheetHead
-    requires { ⌜ Beside (length (now members)) (length (now shares)) (now ends) (now cores) (now members) ⌝ }
-    ensures { λ r. ⌜ SheetRead (read-sheet (list-of (length (now (members .entry))) (length (now (shares .entry))) (now (ends .entry))) (now (bytes .entry)))
+    requires { ⌜ Holds-list (length (now members)) (length (now shares)) (now words) ⌝ }
+    requires { ⌜ Beside (laid-list (length (now members)) (length (now shares)) (now words)) (now cores) (now members) ⌝ }
+    ensures { λ r. ⌜ SheetRead
+        (read-sheet (laid-list (length (now (members .entry))) (length (now (shares .entry))) (now (words .entry))) (now (bytes .entry)))
         (now (members .exit)) (now (shares .exit)) r ⌝ }
 {
     let mut numbers = [0u32; 4];
@@ -254,7 +258,7 @@ fn read_sheet(
                 return refused_head(102);
             }
             SheetHead {
-                number: read_body(bytes, next, q, ends, cores, members, shares),
+                number: read_body(bytes, next, q, words, cores, members, shares),
                 p: numbers[0],
                 q: numbers[1],
                 k: numbers[2],
@@ -322,23 +326,25 @@ fn judge_head(head: SheetHead, verdict: Verdict, cores: &[u32]) -> Verdict
 // The sheet audited beside the list in words: what is read of it goes to check.
 fn audit_beside(
     sheet: &[u8],
-    ends: &[u32],
-    weights: &[u32],
+    words: &[u32],
     cores: &[u32],
     members: &mut [u8],
     shares: &mut [u16],
 ) -> Verdict
-    requires { ⌜ Beside (length (now members)) (length (now shares)) (now ends) (now cores) (now members) ⌝ }
-    requires { ⌜ Ones (length (now members)) (length (now shares)) (now ends) (now weights) ⌝ }
-    ensures { λ r. ⌜ r ≡ verdict-of (audit-sheet (list-of (length (now (members .entry))) (length (now (shares .entry))) (now (ends .entry))) (now (sheet .entry))) ⌝ }
+    requires { ⌜ Holds-list (length (now members)) (length (now shares)) (now words) ⌝ }
+    requires { ⌜ Beside (laid-list (length (now members)) (length (now shares)) (now words)) (now cores) (now members) ⌝ }
+    ensures { λ r. ⌜ r ≡ verdict-of
+        (audit-sheet (laid-list (length (now (members .entry))) (length (now (shares .entry))) (now (words .entry))) (now (sheet .entry))) ⌝ }
 {
     let n = members.len();
     let m = shares.len();
-    let head = read_sheet(sheet, ends, cores, members, shares);
+    let head = read_sheet(sheet, words, cores, members, shares);
     if head.number != 0 {
         return refused(head.number);
     }
-    let verdict = check_words(n, m, ends, weights, members, shares);
+    let ends = 2 * m;
+    let counts = 8192 + m;
+    let verdict = check_words(n, m, &words[0..ends], &words[8192..counts], members, shares);
     if verdict.number != 0 {
         return verdict;
     }
@@ -346,36 +352,45 @@ fn audit_beside(
 }
 
 // The core numbers of the list in words.
-fn core_numbers(n: usize, m: usize, ends: &[u32], weights: &[u32], cores: &mut [u32])
-    requires { ⌜ Ones n m (now ends) (now weights) ⌝ }
+fn core_numbers(n: usize, m: usize, words: &[u32], cores: &mut [u32])
+    requires { ⌜ Holds-list n m (now words) ⌝ }
     requires { ⌜ n ≤ length (now cores) ⌝ }
-    ensures { λ _. ⌜ now (cores .exit) ≡ core-numbers (list-of n m (now (ends .entry))) ++ drop n (now (cores .entry)) ⌝ }
+    ensures { λ _. ⌜ now (cores .exit) ≡ core-numbers (laid-list n m (now (words .entry))) ++ drop n (now (cores .entry)) ⌝ }
 {
     let mut order = [0u32; 512];
     let mut place = [0u32; 512];
-    peel::peel(n, m, 1, ends, weights, &mut order, cores, &mut place);
+    let ends = 2 * m;
+    let counts = 8192 + m;
+    peel::peel(
+        n,
+        m,
+        1,
+        &words[0..ends],
+        &words[8192..counts],
+        &mut order,
+        cores,
+        &mut place,
+    );
 }
 
 // The sheet audited beside the list of n modules and m pairs in words.
 fn audit_list(
     n: usize,
     m: usize,
-    ends: &[u32],
-    weights: &[u32],
+    words: &[u32],
     sheet: &[u8],
     cores: &mut [u32],
     members: &mut [u8],
     shares: &mut [u16],
 ) -> Verdict
-    requires { ⌜ Ones n m (now ends) (now weights) ⌝ }
-    requires { ⌜ Blank n m (now cores) (now members) (now shares) ⌝ }
-    ensures { λ r. ⌜ r ≡ verdict-of (audit-sheet (list-of n m (now (ends .entry))) (now (sheet .entry))) ⌝ }
+    requires { ⌜ Holds-list n m (now words) ⌝ }
+    requires { ⌜ Audit-buffers n m (now cores) (now members) (now shares) ⌝ }
+    ensures { λ r. ⌜ r ≡ verdict-of (audit-sheet (laid-list n m (now (words .entry))) (now (sheet .entry))) ⌝ }
 {
-    core_numbers(n, m, ends, weights, cores);
+    core_numbers(n, m, words, cores);
     audit_beside(
         sheet,
-        ends,
-        weights,
+        words,
         &cores[..n],
         &mut members[..n],
         &mut shares[..m],
@@ -386,20 +401,18 @@ fn audit_list(
 pub fn audit(file: &[u8], sheet: &[u8]) -> Verdict
     ensures { λ r. ⌜ Audits (now (file .entry)) (now (sheet .entry)) r ⌝ }
 {
-    let mut ends = [0u32; 8192];
-    let weights = [1u32; 4096];
+    let mut words = [1u32; 12288];
     let mut cores = [0u32; 512];
     let mut members = [0u8; 512];
     let mut shares = [0u16; 4096];
-    let list = read_words(file, 4096, &mut ends);
+    let list = read_words(file, 4096, &mut words);
     if list.number != 0 {
         return refused(list.number);
     }
     audit_list(
         list.n as usize,
         list.m as usize,
-        &ends,
-        &weights,
+        &words,
         sheet,
         &mut cores,
         &mut members,

@@ -33,10 +33,10 @@ use Rattle.pairfile.proofs.Readings.{file-numbered}
 use Rattle.kandurzo.specs.Buffers.{in-front}
 use Rattle.writing.specs.Putting.{Puts}
 use Rattle.writing.proofs.Putting.{puts-length, puts-front}
-use Rattle.sheetfile.specs.Writer.{sheet-file, Written, Accepts-back}
+use Rattle.sheetfile.specs.Writer.{sheet-file, Writable, Accepts-back}
 use Rattle.sheetfile.specs.Audit.{audit}
-use Rattle.sheetfile.proofs.Short.{best-written}
-use Rattle.sheetfile.proofs.Written.{accepts-back}
+use Rattle.sheetfile.proofs.BestSheets.{best-writable}
+use Rattle.sheetfile.proofs.ReadsBack.{accepts-back}
 use Rattle.answer.specs.declared.Answer.{Answer}
 use Rattle.answer.specs.Answers.{refusal-of, solved-of, Sheeted, Answers}
 use Rattle.answer.proofs.Answering.{answers}
@@ -68,10 +68,10 @@ found-best : (g : Pairs) (s : List ℕ) → is-list g ≡ true → Found g s →
 unfolding Split-there
 found-best g s l f = let t = split-there g s l f in (t .0, optimal g s (t .0) l (f .group) (t .1) (omega (arith, t .2)))
 
-certificate-written : (file : List ℕ) (g : Pairs) (s xs : List ℕ) → read-file 4096 file ≡ taken g → Optimal g s xs (inside g s) (size s) →
-    Written g (certificate g s xs)
+certificate-writable : (file : List ℕ) (g : Pairs) (s xs : List ℕ) → read-file 4096 file ≡ taken g → Optimal g s xs (inside g s) (size s) →
+    Writable g (certificate g s xs)
 unfolding certificate
-certificate-written file g s xs e o = best-written file g (certificate g s xs) e o refl refl
+certificate-writable file g s xs e o = best-writable file g (certificate g s xs) e o refl refl
 
 accepted-certificate : (file : List ℕ) (g : Pairs) (s xs : List ℕ) → read-file 4096 file ≡ taken g → Optimal g s xs (inside g s) (size s) →
     audit file (sheet-file g (certificate g s xs)) ≡ taken (certificate g s xs)
@@ -118,12 +118,12 @@ module _ {file members : List ℕ} {r : Answer} {members′ : List ℕ} (a : Ans
     spelled-as =
         let b = a .taken g e in
         let best = found-best g group list (b .found) in
-        let w = certificate-written file g group (best .0) e (best .1) in
+        let w = certificate-writable file g group (best .0) e (best .1) in
         record {
-          p = omega (arith, b .inside-count, w .head-short .0);
+          p = omega (arith, b .inside-count, w .head-digits .0);
           q = omega (arith, b .modules, size-bound g group list (b .found .group));
-          k = rw (b .order, b .inside-count, b .modules) (w .head-short .1);
-          coresize = rw (b .core-size, b .order, b .inside-count, b .modules) (w .head-short .2);
+          k = rw (b .order, b .inside-count, b .modules) (w .head-digits .1);
+          coresize = rw (b .core-size, b .order, b .inside-count, b .modules) (w .head-digits .2);
           few = simp length-take (omega (arith, n-few));
         }
 
@@ -188,20 +188,20 @@ module _ {file members cores shares ends : List ℕ} {r : Answer} {members′ co
     unfolding solved-of
     own = let o = s .taken g e .handed .optimal in rw (o .inside-count, o .modules) at o
 
-    written : Written g (certificate g members-of shares-of)
-    written = certificate-written file g members-of shares-of e own
+    written : Writable g (certificate g members-of shares-of)
+    written = certificate-writable file g members-of shares-of e own
 
     sheet-spelled-as : Sheet-spelled r (take (r .n) members′) (take (r .n) cores′) ends′ (take (r .m) shares′)
     unfolding certificate ends-in-range
     sheet-spelled-as = record {
       group = spelled-as (answers s) g e;
-      numbers = rw cores-as (written .numbers-short);
+      numbers = rw cores-as (written .numbers-digits);
       pairs = record {
         ends-long = omega (arith, shares-count, m-few, ends-long);
         ends-few = rw pairs-as
             (all-weaker (ends-in-range (g .n)) (ends-in-range 512)
             (λ p t. let u = simp tests at t in simp tests (omega (arith, u .0, held .few), omega (arith, u .1, held .few))) (g .pairs) (held .ends));
-        shares-short = rw (s .taken g e .pairs) (written .shares-short);
+        shares-digits = rw (s .taken g e .pairs) (written .shares-digits);
       };
     }
 

@@ -1,6 +1,6 @@
 -- Numbers of at most four digits, and how long the texts are.
 --   Smalls, no-more, and-small                       the numbers of a line, one by one
---   small-at                                         each number of a list that is short
+--   small-at                                         each number of a list of numbers of at most four digits
 --   ends-small                                       the ends of a pair in words
 --   refusal-length, accepted-length, head-length     the first lines
 --   members-length, numbers-length, shares-length    the lines behind them, by how many there are
@@ -23,7 +23,7 @@ use Rattle.pairfile.specs.Lines.{is-place, places, filled}
 use Rattle.pairfile.proofs.Spelling.{spell-length}
 use Rattle.writing.proofs.Lengths.{filled-length}
 use Rattle.sheetfile.specs.Sheet.{head-form, member-form, number-form, share-form}
-use Rattle.sheetfile.specs.Writer.{member-lines, number-lines, share-lines, short}
+use Rattle.sheetfile.specs.Writer.{member-lines, number-lines, share-lines, four-digits}
 use Rattle.texts.specs.Texts.{refusal-text, accepted-form}
 use Rattle.texts.specs.Contracts.{Ends-spelled}
 
@@ -41,8 +41,8 @@ and-small n {ns} h hs = record { each = go }
     go zero = h
     go (suc k) = hs .each k
 
-pub small-at : (ns : List ℕ) → short ns → (k : ℕ) → getD ns k 0 ≤ 9999
-unfolding short all
+pub small-at : (ns : List ℕ) → four-digits ns → (k : ℕ) → getD ns k 0 ≤ 9999
+unfolding four-digits all
 small-at [] h k = omega arith
 small-at (n ∷ ns) h zero = (simp tests at h) .0
 small-at (n ∷ ns) h (suc k) = small-at ns ((simp tests at h) .1) k

@@ -24,7 +24,7 @@ use Rattle.writing.specs.Putting.{Puts}
 use Rattle.sheetfile.specs.Audit.{audit}
 use Rattle.pairfile.specs.Lines.{filled}
 use Rattle.sheetfile.specs.Sheet.{head-form}
-use Rattle.sheetfile.specs.Writer.{member-lines, number-lines, share-lines, sheet-file, short}
+use Rattle.sheetfile.specs.Writer.{member-lines, number-lines, share-lines, sheet-file, four-digits}
 use Rattle.answer.specs.declared.Answer.{Answer}
 use Rattle.texts.specs.Texts.{refusal-text, group-text, certificate, accepted-form, audit-text}
 
@@ -88,10 +88,10 @@ pub record Spelled (r : Answer) (members : List ℕ) : Type 0 where
 pub record Ends-spelled (ends shares : List ℕ) : Type 0 where
   pub ends-long : 2 * length shares ≤ length ends
   pub ends-few : all (ends-in-range 512) (ones-in (length shares) ends) ≡ true
-  pub shares-short : short shares
+  pub shares-digits : four-digits shares
 
 -- all of them
 pub record Sheet-spelled (r : Answer) (members cores ends shares : List ℕ) : Type 0 where
   pub group : Spelled r members
-  pub numbers : short cores
+  pub numbers : four-digits cores
   pub pairs : Ends-spelled ends shares

@@ -13,7 +13,7 @@ ghost use Rattle.pairs.specs.Located.{ones-in};
 ghost use Rattle.pairfile.specs.Lines.{filled};
 ghost use Rattle.writing.specs.Putting.{Puts};
 ghost use Rattle.sheetfile.specs.Sheet.{member-form};
-ghost use Rattle.sheetfile.specs.Writer.{member-lines, number-lines, share-lines, short};
+ghost use Rattle.sheetfile.specs.Writer.{member-lines, number-lines, share-lines, four-digits};
 ghost use Rattle.sheetfile.specs.Audit.{audit};
 ghost use Rattle.texts.specs.Texts.{refusal-text, audit-text};
 ghost use Rattle.texts.specs.Contracts.{Prints, Of-file, Group-due, Sheet-due, Spelled, Ends-spelled, Sheet-spelled, answer-lines, sheet-lines};
@@ -63,7 +63,7 @@ fn write_members(members: &[u8], out: &mut [u8], at: usize) -> usize
 
 // A line for each core number.
 fn write_numbers(cores: &[u16], out: &mut [u8], at: usize) -> usize
-    requires { ⌜ short (now cores) ⌝ }
+    requires { ⌜ four-digits (now cores) ⌝ }
     requires { ⌜ at + length (number-lines (now cores)) ≤ length (now out) ⌝ }
     ensures { λ r. ⌜ Puts (number-lines (now (cores .entry))) (now (out .entry)) at (now (out .exit)) r ⌝ }
 {

@@ -53,7 +53,7 @@ shared-slice-read-t21 c = search needs
 cast-t22 : tie.Need-cast-t22 Inv-loop μ-loop
 cast-t22 c =
     let l = c .before .before .before .before in
-    omega (arith, small-at _ (l .before .before .before .before .pre .0 .shares-short) (l .loop .j))
+    omega (arith, small-at _ (l .before .before .before .before .pre .0 .shares-digits) (l .loop .j))
 
 slice-aggregate-write-line : tie.Need-slice-aggregate-write-line Inv-loop μ-loop
 slice-aggregate-write-line c = search needs
@@ -68,7 +68,7 @@ write-line-requires c κs =
     let start = l .before .before .before .before .before in
     let small = ends-small (start .pre .0) _ (l .loop-test .taken) in
     let next = next-share (start .args .ends .now) (start .args .shares .now) (l .before .loop .j) (l .loop-test .taken) in (
-      and-small _ (small .0) (and-small _ (small .1) (and-small _ (small-at _ (start .pre .0 .shares-short) (l .before .loop .j)) no-more)) .each,
+      and-small _ (small .0) (and-small _ (small .1) (and-small _ (small-at _ (start .pre .0 .shares-digits) (l .before .loop .j)) no-more)) .each,
       omega (arith, simp length-append at (rw next at (l .before .loop .inv .room))),
     )
 
