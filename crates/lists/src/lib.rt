@@ -6,7 +6,7 @@
 ghost use mathlib.Core.Path.{_≡_};
 ghost use mathlib.Core.Bool.{true};
 ghost use mathlib.Core.Logic.{_↔_};
-ghost use Prim.Native.Nat.{_+_, _*_, _-_, _%_, _^_, _≤_, _<_, min};
+ghost use Prim.Native.Nat.{_+_, _*_, _-_, _%_, _^_, _<_, min};
 ghost use lib.ListN.{getD, set};
 ghost use Rattle.lists.specs.Filled.{bit-of, same-run, is-taken, filling, stepped, row-filled, filled};
 ghost use Rattle.lists.specs.Held.{held-in, sizes-fit, pair-fits, good-at};

@@ -1,6 +1,7 @@
 -- What read_words hands over, for its callers.
 --   file-numbered      a file's refusal number is not 0
 --   reading-taken      number 0: the list is in the words
+--   reading-holds      they hold it as a list is held
 --   reading-refused    any other number: the file is refused by it
 --   words-small        each end is below 512, so that it fits a record's 16 bits
 -- Assumes nothing.
@@ -8,20 +9,19 @@ use mathlib.Core.Path.{_≡_, refl, sym, ap, _∙_}
 use mathlib.Core.Bool.{true}
 use mathlib.Core.Logic.{_≢_}
 use mathlib.Core.List.{List, []}
-use Prim.Native.Nat.{ℕ, zero, suc, _+_, _*_, _/_, _%_, _<_}
+use Prim.Native.Nat.{ℕ, zero, suc, _+_, _*_, _/_, _%_, _≤_, _<_}
 use native.Mathlib.Omega.{arith}
 use borrow.Author.Tests.{eqb-true, eqb-false}
 use lib.Dec.{eqb}
-use lib.ListN.{getD}
+use lib.ListN.{length, getD}
 use Rattle.theory.specs.Basics.{all}
 use Rattle.theory.specs.Lists.{Pair, Pairs, pair, ends-in-range}
+use Rattle.theory.specs.Words.{laid-pairs, laid-list, Holds-list}
 use Rattle.theory.proofs.Lists.{listed}
+use Rattle.theory.proofs.Words.{length-laid, laid-at}
 use Rattle.theory.proofs.Tests.{tests}
 use Rattle.pairs.specs.Held.{insert-pair}
-use Rattle.pairs.specs.Located.{ones-in}
 use Rattle.pairs.proofs.General.{by-test, all-at}
-use Rattle.pairs.proofs.Weights.{length-ones}
-use Rattle.pairs.proofs.Words.{ones-pair}
 use Rattle.pairfile.specs.Outcomes.{Outcome, refused, taken}
 use Rattle.pairfile.specs.Lines.{modules-form, pairs-form, first}
 use Rattle.pairfile.specs.File.{modules-causes, modules-line, pairs-causes, pairs-line, pair-line, end-causes, read-pairs, read-file}
@@ -31,12 +31,12 @@ use Rattle.pairfile.proofs.Taken.{Numbered, taken-numbered, bind-number
 use Rattle.pairfile.proofs.Accepts.{accepted}
 
 -- the two words of pair j, where all pairs are in range
-ends-small : (n m : ℕ) (ends : List ℕ) → all (ends-in-range n) (ones-in m ends) ≡ true → (j : ℕ) → j < m →
-    (getD ends (2 * j) 0 < n) × (getD ends (2 * j + 1) 0 < n)
+ends-small : (n m : ℕ) (words : List ℕ) → all (ends-in-range n) (laid-pairs m words) ≡ true → (j : ℕ) → j < m →
+    (getD words (2 * j) 0 < n) × (getD words (2 * j + 1) 0 < n)
 unfolding ends-in-range pair
-ends-small n m ends e j h =
-    let p = all-at (ends-in-range n) (ones-in m ends) j (pair 0 0) e (omega (arith, length-ones m ends)) in
-    simp tests at (rw (ones-pair m ends j (pair 0 0) h) at p)
+ends-small n m words e j h =
+    let p = all-at (ends-in-range n) (laid-pairs m words) j (pair 0 0) e (omega (arith, length-laid m words)) in
+    simp tests at (rw (laid-at m words j (pair 0 0) h) at p)
 
 -- a file's refusal number is not 0
 pairs-numbered : (n left : ℕ) (held : List Pair) (bs : List ℕ) → Numbered (read-pairs n left held bs)
@@ -52,25 +52,25 @@ file-numbered room bs =
     (λ l. bind-numbered (pairs-line room (l .rest)) _ (count-numbered pairs-form (l .rest) (pairs-causes room))
     (λ k. bind-numbered (read-pairs (first l) (first k) [] (k .rest)) _ (pairs-numbered (first l) (first k) [] (k .rest)) (λ ps. taken-numbered _)))
 
-module _ {room : ℕ} {bs old ends : List ℕ} {r : Reading} (f : FileRead room bs old ends r) where
+module _ {room : ℕ} {bs old words : List ℕ} {r : Reading} (f : FileRead room bs old words r) where
   -- what the answer says of a refused file, and of one that is taken
   as-refused : (k : ℕ) → read-file room bs ≡ refused k → (r .number ≡ k) × (r .m ≡ 0)
   unfolding reading-of
   as-refused k e = let s = f .reading ∙ ap reading-of e in (ap (λ (q : Reading). q .number) s, ap (λ (q : Reading). q .m) s)
 
-  as-taken : (g : Pairs) → read-file room bs ≡ taken g → (r .number ≡ 0) × (record { n = r .n; pairs = ones-in (r .m) ends } ≡ g)
-  unfolding reading-of pairs-of
+  as-taken : (g : Pairs) → read-file room bs ≡ taken g → (r .number ≡ 0) × (laid-list (r .n) (r .m) words ≡ g)
+  unfolding reading-of pairs-of laid-list
   as-taken g e =
       let s = f .reading ∙ ap reading-of e in
-      let ps : ones-in (r .m) ends ≡ g .pairs = f .pairs ∙ ap pairs-of e in
+      let ps : laid-pairs (r .m) words ≡ g .pairs = f .pairs ∙ ap pairs-of e in
       let n : r .n ≡ g .n = ap (λ (q : Reading). q .n) s in
       (ap (λ (q : Reading). q .number) s, λ i. record { n = n i; pairs = ps i })
 
   -- number 0: the list is in the words
-  pub reading-taken : r .number ≡ 0 → read-file room bs ≡ taken (record { n = r .n; pairs = ones-in (r .m) ends })
+  pub reading-taken : r .number ≡ 0 → read-file room bs ≡ taken (laid-list (r .n) (r .m) words)
   reading-taken z = go (read-file room bs) refl
     where
-      go : (o : Outcome Pairs) → read-file room bs ≡ o → read-file room bs ≡ taken (record { n = r .n; pairs = ones-in (r .m) ends })
+      go : (o : Outcome Pairs) → read-file room bs ≡ o → read-file room bs ≡ taken (laid-list (r .n) (r .m) words)
       go (refused k) e = absurd (file-numbered room bs k e (sym (as-refused k e .0) ∙ z))
       go (taken g) e = e ∙ ap taken (sym (as-taken g e .1))
 
@@ -82,14 +82,19 @@ module _ {room : ℕ} {bs old ends : List ℕ} {r : Reading} (f : FileRead room 
       go (refused k) e = e ∙ ap refused (sym (as-refused k e .0))
       go (taken g) e = absurd (h (as-taken g e .0))
 
+  -- so they hold it
+  pub reading-holds : r .number ≡ 0 → 12288 ≤ length words → Holds-list (r .n) (r .m) words
+  reading-holds z l = record { listed = accepted room bs (laid-list (r .n) (r .m) words) (reading-taken z) .list; long = l }
+
   -- each end is below 512
-  pub words-small : (t : ℕ) → t < 2 * r .m → getD ends t 0 < 512
+  pub words-small : (t : ℕ) → t < 2 * r .m → getD words t 0 < 512
+  unfolding laid-list
   words-small t h =
       by-test (eqb (r .number) 0)
       (λ z.
-      let g : Pairs = record { n = r .n; pairs = ones-in (r .m) ends } in
+      let g : Pairs = laid-list (r .n) (r .m) words in
       let k = listed g (accepted room bs g (reading-taken (eqb-true (r .number) 0 z)) .list) in
-      let w = ends-small (r .n) (r .m) ends (k .ends) (t / 2) (omega arith) in
+      let w = ends-small (r .n) (r .m) words (k .ends) (t / 2) (omega arith) in
       by-test (eqb (t % 2) 0)
       (λ i. let i′ : 2 * (t / 2) ≡ t = omega (arith, eqb-true (t % 2) 0 i) in omega (arith, rw i′ at (w .0), k .few))
       (λ i.

@@ -9,18 +9,19 @@
 --   CountRead                what modules_line and pairs_line promise
 --   named-in, named-end, PlaceKnown    the pair that a line names, where the line ends, and the pair's place
 --   PairLineRead             what pair_line promises
+--   Same-past                the words past the first pairs of a list are as they were
 --   pairs-or, PairsRead      what read_pairs promises
---   reading-of, pairs-of, words-used   what read_words hands back
+--   reading-of, pairs-of, pairs-used   what read_words hands back
 --   FileRead                 what read_words promises
 -- Assumes nothing: these are definitions.
 use mathlib.Core.Path.{_≡_}
 use mathlib.Core.List.{List, [], _∷_}
 use mathlib.Core.Option.{Option, none, some}
-use Prim.Native.Nat.{ℕ, zero, suc, _*_, _≤_}
-use lib.ListN.{length, take, drop}
+use Prim.Native.Nat.{ℕ, zero, suc, _+_, _*_, _≤_, _<_}
+use lib.ListN.{length, getD, take, drop}
 use Rattle.theory.specs.Lists.{Pair, Pairs, pair}
+use Rattle.theory.specs.Words.{laid-pairs}
 use Rattle.pairs.specs.Held.{place-of}
-use Rattle.pairs.specs.Located.{ones-in}
 use Rattle.pairfile.specs.Numbers.{Number, number-of}
 use Rattle.pairfile.specs.Lines.{Line, places, line-of}
 use Rattle.pairfile.specs.Outcomes.{Outcome, refused, taken}
@@ -118,10 +119,15 @@ unfoldable pub pairs-or : (number : ℕ) → List Pair → Outcome (List Pair)
 pairs-or zero ps = taken ps
 pairs-or (suc k) ps = refused (suc k)
 
--- READ_PAIRS: m pair lines from a position on. After a refusal the first 2m words are free
-pub record PairsRead (bytes : List ℕ) (at n m : ℕ) (ends ends′ : List ℕ) (number : ℕ) : Type 0 where
-  pub found : read-pairs n m [] (drop at bytes) ≡ pairs-or number (ones-in m ends′)
-  pub past : drop (2 * m) ends′ ≡ drop (2 * m) ends
+-- past the first m pairs the words are as they were: those between the ends and the counts, and those from the counts on
+pub record Same-past (m : ℕ) (words words′ : List ℕ) : Type 0 where
+  pub between : (t : ℕ) → 2 * m ≤ t → t < 8192 → getD words′ t 0 ≡ getD words t 0
+  pub beyond : drop (8192 + m) words′ ≡ drop (8192 + m) words
+
+-- READ_PAIRS: m pair lines from a position on. After a refusal the words of the first m pairs are free
+pub record PairsRead (bytes : List ℕ) (at n m : ℕ) (words words′ : List ℕ) (number : ℕ) : Type 0 where
+  pub found : read-pairs n m [] (drop at bytes) ≡ pairs-or number (laid-pairs m words′)
+  pub past : Same-past m words words′
 
 -- the number, N and M; beside a refusal the others are 0
 unfoldable pub reading-of : Outcome Pairs → Reading
@@ -133,13 +139,13 @@ unfoldable pub pairs-of : Outcome Pairs → List Pair
 pairs-of (refused k) = []
 pairs-of (taken g) = g .pairs
 
--- how many words may have been written
-unfoldable pub words-used : Outcome Pairs → ℕ
-words-used (refused k) = 8192
-words-used (taken g) = 2 * length (g .pairs)
+-- of how many pairs the words may have been written
+unfoldable pub pairs-used : Outcome Pairs → ℕ
+pairs-used (refused k) = 4096
+pairs-used (taken g) = length (g .pairs)
 
 -- READ_WORDS: number, N, M and every pair of a file; the words past those used are as they were. After a refusal the words used are free
-pub record FileRead (room : ℕ) (bytes ends ends′ : List ℕ) (r : Reading) : Type 0 where
+pub record FileRead (room : ℕ) (bytes words words′ : List ℕ) (r : Reading) : Type 0 where
   pub reading : r ≡ reading-of (read-file room bytes)
-  pub pairs : ones-in (r .m) ends′ ≡ pairs-of (read-file room bytes)
-  pub past : drop (words-used (read-file room bytes)) ends′ ≡ drop (words-used (read-file room bytes)) ends
+  pub pairs : laid-pairs (r .m) words′ ≡ pairs-of (read-file room bytes)
+  pub past : Same-past (pairs-used (read-file room bytes)) words words′

@@ -1,13 +1,16 @@
--- General laws of tests.
+-- General laws of tests and of lists.
 --   by-test               a test holds or fails
 --   all-weaker, all-at    a test of every element of a list
+--   drop-more, drop-at-word    lists that agree from i on agree further on, and word by word
+--   drop-set              a store leaves what lies behind it
 -- Assumes nothing.
-use mathlib.Core.Path.{_≡_, refl}
+use mathlib.Core.Path.{_≡_, refl, sym, ap, _∙_}
 use mathlib.Core.Bool.{Bool, true, false}
 use mathlib.Core.List.{List, [], _∷_}
-use Prim.Native.Nat.{ℕ, zero, suc, _<_}
+use Prim.Native.Nat.{ℕ, zero, suc, _+_, _-_, _≤_, _<_}
 use native.Mathlib.Omega.{arith}
-use lib.ListN.{length, getD}
+use lib.ListN.{length, getD, set, drop}
+use lib.Seq.{getD-drop, drop-drop}
 use Rattle.theory.specs.Basics.{all}
 use Rattle.theory.proofs.Tests.{tests}
 
@@ -30,3 +33,26 @@ unfolding all
 all-at f [] i d e h = absurd (omega arith)
 all-at f (x ∷ xs) zero d e h = (simp tests at e) .0
 all-at f (x ∷ xs) (suc i) d e h = all-at f xs i d ((simp tests at e) .1) (omega arith)
+
+-- lists that agree from i on agree from j on
+pub drop-more : (i j : ℕ) (xs ys : List ℕ) → i ≤ j → drop i xs ≡ drop i ys → drop j xs ≡ drop j ys
+drop-more i j xs ys h e =
+    let d : i + (j - i) ≡ j = omega arith in
+    let at-j : (zs : List ℕ) → drop j zs ≡ drop (j - i) (drop i zs) =
+    λ zs. ap (λ (t : ℕ). drop t zs) (sym d) ∙ sym (drop-drop (j - i) i zs) in
+    at-j xs ∙ ap (drop (j - i)) e ∙ sym (at-j ys)
+
+-- and at j
+pub drop-at-word : (i j : ℕ) (xs ys : List ℕ) → i ≤ j → drop i xs ≡ drop i ys → getD xs j 0 ≡ getD ys j 0
+drop-at-word i j xs ys h e =
+    let d : i + (j - i) ≡ j = omega arith in
+    let at-j : (zs : List ℕ) → getD zs j 0 ≡ getD (drop i zs) (j - i) 0 =
+    λ zs. ap (λ (t : ℕ). getD zs t 0) (sym d) ∙ sym (getD-drop i zs (j - i) 0) in
+    at-j xs ∙ ap (λ (l : List ℕ). getD l (j - i) 0) e ∙ sym (at-j ys)
+
+-- a store leaves what lies behind it
+pub drop-set : (xs : List ℕ) (i j v : ℕ) → i < j → drop j (set xs i v) ≡ drop j xs
+drop-set [] i j v h = refl
+drop-set (x ∷ xs) i zero v h = absurd (omega arith)
+drop-set (x ∷ xs) zero (suc j) v h = refl
+drop-set (x ∷ xs) (suc i) (suc j) v h = drop-set xs i j v (omega arith)

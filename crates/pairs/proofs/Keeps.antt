@@ -1,5 +1,6 @@
 -- What add and remove keep: the list stays as described, and the order in which pairs arrived leaves no trace in it.
 --   insert-list, remove-list    the list as it is held, with a pair more and with a pair less
+--   not-held-weight, same-pair  a pair that is not held counts nothing; pairs are equal where their numbers are
 --   rising-alone                two rising lists that hold the same pairs with the same weights are one list
 --   counts-once, ones-alone     so are two that hold the same pairs, each counting once
 -- Assumes nothing.
@@ -58,13 +59,13 @@ unfolding is-held
 held-first p ps = rw (same-refl p)
 
 -- a pair that is not held counts nothing
-not-held-weight : (p : Pair) (ps : List Pair) → is-held p ps ≡ false → weight-of p ps ≡ 0
+pub not-held-weight : (p : Pair) (ps : List Pair) → is-held p ps ≡ false → weight-of p ps ≡ 0
 unfolding is-held weight-of
 not-held-weight p [] h = refl
 not-held-weight p (r ∷ rs) h = by-test (same-ends p r) (λ t. no (sym (rw t at h))) (λ t. rw t (not-held-weight p rs (rw t at h)))
 
 -- pairs are equal where their numbers are
-same-pair : (p q : Pair) → p .a ≡ q .a → p .b ≡ q .b → p .w ≡ q .w → p ≡ q
+pub same-pair : (p q : Pair) → p .a ≡ q .a → p .b ≡ q .b → p .w ≡ q .w → p ≡ q
 same-pair p q e d c =
     let z : _≡_ {A = Pair} (record { a = p .a; b = p .b; w = p .w }) (record { a = q .a; b = q .b; w = q .w }) = cc in
     z

@@ -7,6 +7,8 @@ pub mod Keeps
 pub mod Causes
 pub mod Shifts
 pub mod Moves
-pub mod Weights
 pub mod Words
 pub mod Search
+pub mod Counts
+pub mod Places
+pub mod Stops

@@ -1,14 +1,17 @@
--- Document 01, "The list and its calls": whether a pair is held, its place, and the list with a pair more or a pair less.
+-- Document 01, "The list and its calls": whether a pair is held, its place, and the list with a pair more or a pair less; document 02, items 4
+-- and 9: the list with some stops more of a pair, or some less.
 --   same-ends             whether two pairs have the same two numbers in the same order
 --   is-held, weight-of    whether a list holds a pair, and how often it counts there
 --   place-of              where it stands or would go
 --   insert-pair, remove-pair, with-pair, without-pair    the list with it, and without it
+--   heavier, lighter      a pair with some stops more, and less
+--   raise-pair, lower-pair    the list with some stops of a pair more, and less
 --   smaller-first-pair    the pair 2,5 for the modules 5 and 2
 -- Nothing here asks for the smaller module first, except the last. Assumes nothing: these are definitions.
 use mathlib.Core.Bool.{Bool, false, _&&_, _||_, cond}
 use mathlib.Core.List.{List, [], _∷_}
-use Prim.Native.Nat.{ℕ, suc, min, max}
-use lib.Dec.{eqb}
+use Prim.Native.Nat.{ℕ, suc, _+_, _-_, min, max}
+use lib.Dec.{leb, eqb}
 use Rattle.theory.specs.Lists.{Pair, Pairs, pair, stands-before}
 
 -- the same two numbers in the same order, whatever the weights
@@ -47,6 +50,24 @@ with-pair p g = record { n = g .n; pairs = insert-pair p (g .pairs) }
 -- and without it
 unfoldable pub without-pair : Pair → Pairs → Pairs
 without-pair p g = record { n = g .n; pairs = remove-pair p (g .pairs) }
+
+-- a pair with w stops more
+unfoldable pub heavier : (w : ℕ) → Pair → Pair
+heavier w r = record { a = r .a; b = r .b; w = r .w + w }
+
+-- and with w less
+unfoldable pub lighter : (w : ℕ) → Pair → Pair
+lighter w r = record { a = r .a; b = r .b; w = r .w - w }
+
+-- the list with p's stops more: a held pair's count is raised, a new pair goes to its place
+unfoldable pub raise-pair : Pair → List Pair → List Pair
+raise-pair p [] = p ∷ []
+raise-pair p (r ∷ rs) = cond (same-ends p r) (heavier (p .w) r ∷ rs) (cond (stands-before r p) (r ∷ raise-pair p rs) (p ∷ r ∷ rs))
+
+-- the list with p's stops less: a pair whose count comes to 0 is taken out
+unfoldable pub lower-pair : Pair → List Pair → List Pair
+lower-pair p [] = []
+lower-pair p (r ∷ rs) = cond (same-ends p r) (cond (leb (r .w) (p .w)) rs (lighter (p .w) r ∷ rs)) (r ∷ lower-pair p rs)
 
 -- 2,5 is the same pair as 5,2: the smaller module first
 unfoldable pub smaller-first-pair : (a b : ℕ) → Pair

@@ -3,3 +3,4 @@ pub mod Held
 pub mod Causes
 pub mod Shifts
 pub mod Located
+pub mod Counts

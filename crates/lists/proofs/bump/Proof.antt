@@ -23,7 +23,8 @@ returns c =
     let p = c .before .before in
     let w = p .before .before in
     let a = w .before .before .before .before .args in
-    p .put-word .ensures ∙ ap (set {A = ℕ} (a .words .now) (a .i)) (w .wrapping-add-u32 .ensures ∙ ap (λ (x : ℕ). (x + 1) % 2 ^ 32) (w .before .word-at .ensures))
+    p .put-word .ensures
+    ∙ ap (set {A = ℕ} (a .words .now) (a .i)) (w .wrapping-add-u32 .ensures ∙ ap (λ (x : ℕ). (x + 1) % 2 ^ 32) (w .before .word-at .ensures))
 
 pub bump-spec : {M : Type 1} → statement M
 bump-spec = tie.close (tie.spec word-at-requires wrapping-add-u32-requires put-word-requires same-length returns)

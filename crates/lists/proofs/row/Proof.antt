@@ -35,7 +35,8 @@ loop-again : tie.Need-loop-again Inv-loop μ-loop
 loop-again c =
     let s = c .before .before .before .before in
     let l = s .before .before .before .before in
-    (omega arith, omega arith, search needs, search needs, row-again _ _ _ _ _ _ (l .loop .inv .4) _ (s .before .before .before .loop-test .taken) (s .step .ensures))
+    let more = s .before .before .before .loop-test .taken in
+    (omega arith, omega arith, search needs, search needs, row-again _ _ _ _ _ _ (l .loop .inv .4) _ more (s .step .ensures))
 
 same-length : tie.Need-same-length Inv-loop μ-loop
 same-length c = search needs

@@ -40,8 +40,8 @@ returns-3 c =
     let put = c .before .before .before .before in
     let took = put .before .before .before in
     let l = took .before .before .before in
-    step-in _ _ _ _ _ _ _ (l .wrapping-add-u32 .ensures) (l .before .next .ensures) (took .before .before .if1 .left) (took .before .takes .ensures) (took .if2 .left) (put .put-pair .ensures .0)
-    (put .put-pair .ensures .1)
+    step-in _ _ _ _ _ _ _ (l .wrapping-add-u32 .ensures) (l .before .next .ensures) (took .before .before .if1 .left)
+    (took .before .takes .ensures) (took .if2 .left) (put .put-pair .ensures .0) (put .put-pair .ensures .1)
 
 pub step-spec : {M : Type 1} → statement M
 step-spec =
