@@ -9,16 +9,16 @@
 use mathlib.Core.Path.{_≡_, refl, sym, ap, _∙_}
 use mathlib.Core.Bool.{Bool, true, false, _&&_, cond, not, and-false}
 use mathlib.Core.List.{List, [], _∷_, _++_}
-use Prim.Native.Nat.{ℕ, zero, suc, _+_, _*_, _-_, _≤_, _<_}
+use Prim.Native.Nat.{ℕ, zero, suc, _+_, _*_, _-_, _≤_}
 use native.Mathlib.Omega.{arith}
 use borrow.Author.Tests.{eq-eqb, ne-eqb}
 use lib.Dec.{eqb}
-use lib.ListN.{length, getD, take, drop, replicate, length-replicate}
-use lib.Seq.{take-all, length-take-le, take-at, getD-drop}
-use Rattle.theory.specs.Lists.{Pair, Pairs, is-list}
+use lib.ListN.{length, take, drop, replicate, length-replicate}
+use lib.Seq.{take-all, length-take-le, take-at}
+use Rattle.theory.specs.Lists.{Pairs, is-list}
 use Rattle.theory.specs.Groups.{inside, size}
 use Rattle.theory.specs.Splits.{rounded-up}
-use Rattle.theory.specs.Words.{list-in, counts-of, laid-pairs, laid-list, Holds-list}
+use Rattle.theory.specs.Words.{list-in, laid-list, Holds-list}
 use Rattle.theory.specs.Cores.{core-number, core-numbers}
 use Rattle.theory.specs.Refusals.{Cause, cause, refusal, if-taken}
 use Rattle.theory.specs.Check.{check-causes, check-number}
@@ -27,15 +27,12 @@ use Rattle.theory.proofs.Tables.{length-table}
 use Rattle.theory.proofs.Refusals.{refusal-none, refusal-passed}
 use Rattle.theory.proofs.Lists.{listed}
 use Rattle.theory.proofs.Words.{cut-list, holds-few}
-use Rattle.pairs.specs.Located.{ones-in}
 use Rattle.pairs.proofs.Causes.{refusal-first}
-use Rattle.pairs.proofs.Weights.{length-ones, ones-at, pairs-ones}
 use Rattle.pairfile.specs.Outcomes.{taken, _>>=_, _>>_, passed, judge}
-use Rattle.pairfile.specs.Answers.{words-used, FileRead}
+use Rattle.pairfile.specs.Answers.{FileRead}
 use Rattle.pairfile.specs.declared.Reading.{Reading}
 use Rattle.pairfile.proofs.Judged.{judge-refused}
-use Rattle.pairfile.proofs.Accepts.{accepted as file-accepted}
-use Rattle.pairfile.proofs.Readings.{reading-taken, reading-refused}
+use Rattle.pairfile.proofs.Readings.{reading-taken, reading-holds, reading-refused}
 use Rattle.verify.specs.Answers.{refused-by, Check-says}
 use Rattle.verify.specs.declared.Verdict.{Verdict}
 use Rattle.sheetfile.specs.Sheet.{Sheet, read-sheet}
@@ -220,32 +217,14 @@ module _ (file sheet : List ℕ) {old words : List ℕ} {r : Reading} (f : FileR
   unfolding audit _>>=_ verdict-of
   file-refused n = rw (reading-refused f n)
 
-  module _ (all-one : old ≡ replicate 12288 1) (z : r .number ≡ 0) where
-    few-pairs : r .m ≤ 4096
-    few-pairs = omega (arith, listed _ (file-accepted 4096 file _ (reading-taken f z) .list) .short, length-ones (r .m) words)
-
-    -- the words past the ends are as they were
-    ones : (j : ℕ) → j < r .m → getD words (8192 + j) 0 ≡ 1
-    unfolding words-used
-    ones j l =
-        let k : ℕ = 8192 + j - 2 * r .m in
-        let at : 2 * r .m + k ≡ 8192 + j = omega (arith, few-pairs) in
-        let past : drop (2 * r .m) words ≡ drop (2 * r .m) old = rw (reading-taken f z, length-ones (r .m) words) at (f .past) in
-        ap {B = ℕ} (λ (i : ℕ). getD words i 0) (sym at) ∙ sym (getD-drop (2 * r .m) words k 0) ∙ ap (λ (xs : List ℕ). getD xs k 0) past
-        ∙ getD-drop (2 * r .m) old k 0 ∙ ap {B = ℕ} (λ (i : ℕ). getD old i 0) at ∙ ap (λ (xs : List ℕ). getD xs (8192 + j) 0) all-one
-        ∙ ones-at 12288 (8192 + j) (omega (arith, few-pairs))
-
-    same : laid-list (r .n) (r .m) words ≡ record { n = r .n; pairs = ones-in (r .m) words }
-    unfolding laid-list laid-pairs counts-of
-    same = ap (λ (ps : List Pair). record { n = r .n; pairs = ps }) (pairs-ones (r .m) words (drop 8192 words) (λ j l. getD-drop 8192 words j 0 ∙ ones j l))
-
+  module _ (z : r .number ≡ 0) where
     -- the list in the words, and arrays to work in
     pub list-ready : 12288 ≤ length words →
         Holds-list (r .n) (r .m) words × Audit-buffers (r .n) (r .m) (replicate 512 0) (replicate 512 0) (replicate 4096 0)
     list-ready long =
-        let good : is-list (laid-list (r .n) (r .m) words) ≡ true = rw same (file-accepted 4096 file _ (reading-taken f z) .list) in
-        let few = holds-few (r .n) (r .m) words good in (
-          record { listed = good; long = long },
+        let held : Holds-list (r .n) (r .m) words = reading-holds f z long in
+        let few = holds-few (r .n) (r .m) words (held .listed) in (
+          held,
           record {
             cores-long = omega (arith, few .0, length-replicate {A = ℕ} 512 0);
             members-long = omega (arith, few .0, length-replicate {A = ℕ} 512 0);
@@ -256,4 +235,4 @@ module _ (file sheet : List ℕ) {old words : List ℕ} {r : Reading} (f : FileR
 
     pub list-audited : {v : Verdict} → v ≡ verdict-of (audit-sheet (laid-list (r .n) (r .m) words) sheet) → v ≡ verdict-of (audit file sheet)
     unfolding audit _>>=_
-    list-audited e = rw (reading-taken f z) (rw same at e)
+    list-audited e = rw (reading-taken f z) e

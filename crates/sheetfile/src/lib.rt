@@ -401,7 +401,7 @@ fn audit_list(
 pub fn audit(file: &[u8], sheet: &[u8]) -> Verdict
     ensures { λ r. ⌜ Audits (now (file .entry)) (now (sheet .entry)) r ⌝ }
 {
-    let mut words = [1u32; 12288];
+    let mut words = [0u32; 12288];
     let mut cores = [0u32; 512];
     let mut members = [0u8; 512];
     let mut shares = [0u16; 4096];
