@@ -32,7 +32,7 @@ use denote.Triple.Spec.{Meets, tripleOf}
 use denote.Triple.Statement.{Triple}
 use denote.Triple.Table.{entered, cited}
 use denote.Triple.Walked.{needs, walkOf, ends-at}
-use Rattle.records.specs.Records.{blank, laid-out}
+use Rattle.records.specs.Records.{blank, laid-out, Room-out}
 use Rattle.records.specs.declared.Head.{Head}
 use Rattle.records.specs.declared.Pair.{Pair}
 use Rattle.records.proofs.Plain.{Plain, Fits, typed-as, plain-record, plain-byte, plain-half, plain-word}
@@ -47,7 +47,7 @@ use Rattle.records.proofs.Pair as P
 use Rattle.records.proofs.Head as N
 use Rattle.records.proofs.Head.Laws as N′
 use Rattle.records.proofs.Copies.{length-laid-out}
-use Rattle.records.proofs.Steps.{Enough, CopiesOut, copies-out}
+use Rattle.records.proofs.Steps.{CopiesOut, copies-out}
 use Rattle.records.proofs.Cited.{cites-out}
 use Rattle.kandurzo.specs.declared.Changed.{Changed}
 use Rattle.kandurzo.specs.declared.Solved.{Solved}
@@ -140,13 +140,13 @@ module _ {M : Type 1} (𝓤 : URA M) (H : Heap 𝓤) (A : Atoms 𝓤) (W : Given
       )
 
   module _ (κ₀ κ₁ κ₂ κ₃ κ₄ : Lft) (q₀ q₁ q₂ q₃ q₄ : Share) (b₀ o₀ : ℕ) (γ₀ : GName) (bytes : List ℕ) (b₁ o₁ : ℕ) (γ₁ : GName) (ms : List ℕ)
-      (b₂ o₂ : ℕ) (γ₂ : GName) (cs : List ℕ) (b₃ o₃ : ℕ) (γ₃ : GName) (xs : List ℕ) (b₄ o₄ : ℕ) (γ₄ : GName) (es : List ℕ)
+      (b₂ o₂ : ℕ) (γ₂ : GName) (cs : List ℕ) (b₃ o₃ : ℕ) (γ₃ : GName) (xs : List ℕ) (b₄ o₄ : ℕ) (γ₄ : GName) (vs : List ℕ)
       (room₀ : Room u8 (length bytes)) (room₁ : Room u8 (length ms)) (room₂ : Room u16 (length cs)) (room₃ : Room u16 (length xs))
-      (room₄ : Room u32 (length es)) (enough : Room-enough (length ms) (length cs) (length xs) (length es)) where
+      (room₄ : Room u32 (length vs)) (enough : Room-enough (length ms) (length cs) (length xs) (length vs)) where
     abbrev pars : List (Par W)
     pars = held (hold-shr W κ₀ q₀ γ₀ u8 (plain-byte W) b₀ o₀ bytes room₀) ∷ held (hold-mut W κ₁ q₁ γ₁ u8 (plain-byte W) b₁ o₁ ms room₁)
         ∷ held (hold-mut W κ₂ q₂ γ₂ u16 (plain-half W) b₂ o₂ cs room₂) ∷ held (hold-mut W κ₃ q₃ γ₃ u16 (plain-half W) b₃ o₃ xs room₃)
-        ∷ held (hold-mut W κ₄ q₄ γ₄ u32 (plain-word W) b₄ o₄ es room₄) ∷ []
+        ∷ held (hold-mut W κ₄ q₄ γ₄ u32 (plain-word W) b₄ o₄ vs room₄) ∷ []
 
     abbrev Post : Val → SProp 𝓤
     Post = walkOf 𝓤 H A f.ended (stays f.ended kinds) (f.clauses 𝓤 H A mem run) .post (entry pars, tt)
@@ -190,7 +190,7 @@ module _ {M : Type 1} (𝓤 : URA M) (H : Heap 𝓤) (A : Atoms 𝓤) (W : Given
         sets ! (8 + 13) empty (array-slice ! (8 + 12) (length list₀) refl (lit< tt) list-long) (fit-slice (list-room list₀ list-long .0)) $
         sets ! (8 + 14) empty (addr ! (from ! (stop !))) (tt, tt) $
         sets ! (8 + 15) empty (array-slice ! (8 + 14) (length work₀) refl (lit< tt) work-long) (fit-slice (work-room work₀ work-long .0)) $
-        -- [list; work; bytes; members; cores; shares; ends]
+        -- [list; work; bytes; members; cores; shares; words]
         move ! (2 ∷ 0 ∷ 1 ∷ []) $
         calls-rows ! fm (read-args list work (os .0)) C.the-row (plain-changed W) (emp 𝓤)
         (λ r zs. Read-call bytes list₀ work₀ r (zs .1 .0) (zs .1 .1 .0)) refl (id⊢ 𝓤 _) (λ ks. known-read (bound (read-args list work (os .0)) ks, tt))
@@ -203,20 +203,20 @@ module _ {M : Type 1} (𝓤 : URA M) (H : Heap 𝓤) (A : Atoms 𝓤) (W : Given
         let m : ℕ = file .head .m in
         let few : m ≤ 4096 = few-records bytes list₀ work₀ list-long work-long file ps ws work-kept says in
         let m-fits : m < 2 ^ 64 = omega (arith, few) in
-        let asked : Enough ps es m = (omega (arith, few, list-kept), few, omega (arith, few, enough .ends-long)) in
-        let laid : length (laid-out ps es m) ≡ length es = length-laid-out ps es m (asked .0) (asked .2) in
+        let asked : Room-out ps vs m = record { enough = omega (arith, few, list-kept); few = few; long = λ _. enough .words-long } in
+        let laid : length (laid-out ps vs m) ≡ length vs = length-laid-out ps vs m asked in
         lands-in ! (8 + 8) empty (typed-as (plain-changed W) file file-fits) $
         -- let head = file.head
         sets ! (8 + 9) empty (of-opd ! (part-of ! (8 + 8) 1 {d = 4} refl refl refl)) (typed-as (plain-head W) (file .head) (changed-parts W file file-fits .1)) $
-        -- copy_out(&list, ends, head.m as usize)
+        -- copy_out(&list, words, head.m as usize)
         sets ! (8 + 17) empty (addr ! (from ! (stop !))) (tt, tt) $
         sets ! (8 + 18) empty (array-slice ! (8 + 17) (length ps) refl (lit< tt) list-kept) (fit-slice (list-room ps list-kept .0)) $
         sets ! (8 + 19) empty (ptr-of ! (8 + 5) refl refl) (tt, tt) $
         sets ! (8 + 20) empty (slice-again ! (8 + 19) (8 + 5) refl refl refl) (fit-slice (room₄ .0)) $
         sets ! (8 + 21) empty (un ! (part-of ! (8 + 9) 1 {d = 4} refl refl refl) (fit m-fits)) (num m-fits) $
-        -- [bytes; list; work; members; cores; shares; ends]
+        -- [bytes; list; work; members; cores; shares; words]
         move ! (1 ∷ 6 ∷ []) $
-        copies-out mem run ! fm known-out fullShare list 0 ps b₄ o₄ es m (list-room ps list-kept) room₄ m-fits asked
+        copies-out mem run ! fm known-out fullShare list 0 ps b₄ o₄ vs m (list-room ps list-kept) room₄ m-fits asked
         (and-then ! (var ! (8 + 18) refl) (and-then ! (var ! (8 + 20) refl) (and-then ! (var ! (8 + 21) refl) (no-more !)))) $
         lands-in ! (8 + 16) empty (tt, tt) $
         -- let found = solve(head, &list, members, cores, shares, &mut work)
@@ -230,7 +230,7 @@ module _ {M : Type 1} (𝓤 : URA M) (H : Heap 𝓤) (A : Atoms 𝓤) (W : Given
         sets ! (8 + 29) empty (slice-again ! (8 + 28) (8 + 4) refl refl refl) (fit-slice (room₃ .0)) $
         sets ! (8 + 30) empty (addr ! (from ! (stop !))) (tt, tt) $
         sets ! (8 + 31) empty (array-slice ! (8 + 30) (length ws) refl (lit< tt) work-kept) (fit-slice (work-room ws work-kept .0)) $
-        -- [list; ends; bytes; work; members; cores; shares]
+        -- [list; words; bytes; work; members; cores; shares]
         move ! (0 ∷ 4 ∷ 5 ∷ 6 ∷ 3 ∷ []) $
         calls-rows ! fm (solve-args file file-fits ps ws list-kept work-kept list work) S.the-row (plain-solved W) (emp 𝓤)
         (λ r us. Solve-call (file .head) ps ms cs xs ws r (us .1 .1 .0) (us .1 .1 .1 .0) (us .1 .1 .1 .1 .0) (us .1 .1 .1 .1 .1 .0))
@@ -248,18 +248,18 @@ module _ {M : Type 1} (𝓤 : URA M) (H : Heap 𝓤) (A : Atoms 𝓤) (W : Given
         (and-then ! (part-of ! (8 + 10) 2 {d = 8} refl refl refl) (and-then ! (part-of ! (8 + 10) 3 {d = 12} refl refl refl)
         (and-then ! (part-of ! (8 + 10) 4 {d = 16} refl refl refl) (no-more !)))))))))
         (typed-as plain-answer (answer-of file found) (answer-fits file found file-fits found-fits)) $
-        -- [list; members; cores; shares; work; ends; bytes]: the arrays are room again
+        -- [list; members; cores; shares; work; words; bytes]: the arrays are room again
         closes-array ! (7 + 6) P.the-row (plain-pair W) 4096 list ps list-kept $ move ! (3 ∷ []) $
         closes-array ! (6 + 7) u32 (plain-word W) 16384 work (us .1 .1 .1 .1 .1 .0) (kept .1 .1 .1 .1 .0 ∙ work-kept) $
-        -- [members; cores; shares; ends; bytes]
+        -- [members; cores; shares; words; bytes]
         move ! (4 ∷ []) $
         leaves ! 6 (λ j. not (leb 6 j && leb j 7)) _ refl (look ! (6 + 0) refl) $
-        by ! (ends pars os (tt, (ms′, (cs′, (xs′, (laid-out ps es m, tt))))) (tt, (kept .1 .0, (kept .1 .1 .0, (kept .1 .1 .1 .0, (laid, tt)))))
+        by ! (ends pars os (tt, (ms′, (cs′, (xs′, (laid-out ps vs m, tt))))) (tt, (kept .1 .0, (kept .1 .1 .0, (kept .1 .1 .1 .0, (laid, tt)))))
         D.the-row plain-answer (answer-of file found)
-        (answer-fits file found file-fits found-fits) (fact 𝓤 (Sheeted bytes ms cs xs es (answer-of file found) ms′ cs′ xs′ (laid-out ps es m)))
-        (factI 𝓤 _ _ (sheeted bytes list₀ work₀ list-long work-long file ps ws work-kept says ms cs xs es enough found ms′ cs′ xs′ _ finds))
+        (answer-fits file found file-fits found-fits) (fact 𝓤 (Sheeted bytes ms cs xs vs (answer-of file found) ms′ cs′ xs′ (laid-out ps vs m)))
+        (factI 𝓤 _ _ (sheeted bytes list₀ work₀ list-long work-long file ps ws work-kept says ms cs xs vs enough found ms′ cs′ xs′ _ finds))
         (ends-at 𝓤 H A f.ended (stays f.ended kinds) (f.clauses 𝓤 H A mem run) W (entry pars, tt) _ (answer-of file found)
-        (tt, (ms′, (cs′, (xs′, (laid-out ps es m, tt))))) (tt, (kept .1 .0, (kept .1 .1 .0, (kept .1 .1 .1 .0, (laid, tt))))))))))
+        (tt, (ms′, (cs′, (xs′, (laid-out ps vs m, tt))))) (tt, (kept .1 .0, (kept .1 .1 .0, (kept .1 .1 .1 .0, (laid, tt))))))))))
 
   meets : Meets 𝓤 H A f.signature (WpFn 𝓤 H (𝓣 .C) (𝓣 .Λ) code.function) (f.spec 𝓤 H A mem run)
   meets = meets-by f.ended kinds 𝓤 H A W (f.clauses 𝓤 H A mem run) 𝓣 code.function (λ κs qs bounds a g are.
