@@ -38,7 +38,7 @@ use Rattle.verify.specs.declared.Verdict.{Verdict}
 use Rattle.sheetfile.specs.Sheet.{Sheet, read-sheet}
 use Rattle.sheetfile.specs.Audit.{ratio-good, core-good, head-causes, sheet-causes, audit-sheet, audit, verdict-of}
 use Rattle.sheetfile.specs.Answers.{sheet-of, SheetRead, at-least, judged-head, Audit-buffers, Beside}
-use Rattle.sheetfile.specs.declared.SheetHead.{SheetHead}
+use Rattle.sheetfile.specs.declared.sheet.SheetHead.{SheetHead}
 use Rattle.sheetfile.proofs.Reading.{unless-some, unless-none}
 use Rattle.sheetfile.proofs.Tallies.{core-size}
 

@@ -39,8 +39,8 @@ use Rattle.sheetfile.specs.Sheet.{
   read-sheet,
 }
 use Rattle.sheetfile.specs.Answers.{unless-number, PartRead, NumbersRead, Beside, BodyRead, sheet-of, SheetRead}
-use Rattle.sheetfile.specs.declared.Lines.{Lines}
-use Rattle.sheetfile.specs.declared.SheetHead.{SheetHead}
+use Rattle.sheetfile.specs.declared.sheet.Lines.{Lines}
+use Rattle.sheetfile.specs.declared.sheet.SheetHead.{SheetHead}
 use Rattle.sheetfile.proofs.Reading.{line-small, ends-reading, goes-on}
 
 -- ---- read_body

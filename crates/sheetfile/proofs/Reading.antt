@@ -44,8 +44,8 @@ use Rattle.sheetfile.specs.Sheet.{
   read-shares,
 }
 use Rattle.sheetfile.specs.Answers.{unless-number, LineRead, PartRead, NumbersRead}
-use Rattle.sheetfile.specs.declared.OneLine.{OneLine}
-use Rattle.sheetfile.specs.declared.Lines.{Lines}
+use Rattle.sheetfile.specs.declared.sheet.OneLine.{OneLine}
+use Rattle.sheetfile.specs.declared.sheet.Lines.{Lines}
 
 -- a line that is taken: it is of its form, its own cause is not met, and its number is the one picked
 pub record Accepted-line (form : List ℕ) (test : Line → Bool) (pick : Line → ℕ) (bs : List ℕ) (a : Number) : Type 0 where

@@ -25,9 +25,9 @@ use Rattle.verify.specs.Answers.{refused-by}
 use Rattle.pairfile.specs.Numbers.{Number}
 use Rattle.pairfile.specs.Outcomes.{Outcome, refused, taken}
 use Rattle.sheetfile.specs.Sheet.{Part, Body, Sheet}
-use Rattle.sheetfile.specs.declared.OneLine.{OneLine}
-use Rattle.sheetfile.specs.declared.Lines.{Lines}
-use Rattle.sheetfile.specs.declared.SheetHead.{SheetHead}
+use Rattle.sheetfile.specs.declared.sheet.OneLine.{OneLine}
+use Rattle.sheetfile.specs.declared.sheet.Lines.{Lines}
+use Rattle.sheetfile.specs.declared.sheet.SheetHead.{SheetHead}
 
 -- the value where the number is 0
 unfoldable pub unless-number : {A : Type 0} → (number : ℕ) → A → Outcome A

@@ -9,8 +9,8 @@ use Rattle.pairfile.proofs.Judged.{LineHas, line-has}
 use Rattle.sheetfile.specs.Sheet.{head-form}
 use Rattle.sheetfile.proofs.Bodies.{head-none, head-small, head-unfit, head-read}
 use borrow.Author.Needs.{needs}
-use Rattle.sheetfile.proofs.read_sheet.Statement.{statement}
-use Rattle.sheetfile.proofs.read_sheet.Tie as tie
+use Rattle.sheetfile.proofs.sheet.read_sheet.Statement.{statement}
+use Rattle.sheetfile.proofs.sheet.read_sheet.Tie as tie
 
 slice-aggregate-line-at : tie.Need-slice-aggregate-line-at
 slice-aggregate-line-at c = search needs
