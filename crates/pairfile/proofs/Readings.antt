@@ -3,6 +3,7 @@
 --   reading-taken      number 0: the list is in the words
 --   reading-holds      they hold it as a list is held
 --   reading-refused    any other number: the file is refused by it
+--   reading-past       the words past those of 4,096 pairs are as they were
 --   words-small        each end is below 512, so that it fits a record's 16 bits
 -- Assumes nothing.
 use mathlib.Core.Path.{_≡_, refl, sym, ap, _∙_}
@@ -13,7 +14,7 @@ use Prim.Native.Nat.{ℕ, zero, suc, _+_, _*_, _/_, _%_, _≤_, _<_}
 use native.Mathlib.Omega.{arith}
 use borrow.Author.Tests.{eqb-true, eqb-false}
 use lib.Dec.{eqb}
-use lib.ListN.{length, getD}
+use lib.ListN.{length, getD, drop}
 use Rattle.theory.specs.Basics.{all}
 use Rattle.theory.specs.Lists.{Pair, Pairs, pair, ends-in-range}
 use Rattle.theory.specs.Words.{laid-pairs, laid-list, Holds-list}
@@ -21,11 +22,11 @@ use Rattle.theory.proofs.Lists.{listed}
 use Rattle.theory.proofs.Words.{length-laid, laid-at}
 use Rattle.theory.proofs.Tests.{tests}
 use Rattle.pairs.specs.Held.{insert-pair}
-use Rattle.pairs.proofs.General.{by-test, all-at}
+use Rattle.pairs.proofs.General.{by-test, all-at, drop-more}
 use Rattle.pairfile.specs.Outcomes.{Outcome, refused, taken}
 use Rattle.pairfile.specs.Lines.{modules-form, pairs-form, first}
 use Rattle.pairfile.specs.File.{modules-causes, modules-line, pairs-causes, pairs-line, pair-line, end-causes, read-pairs, read-file}
-use Rattle.pairfile.specs.Answers.{reading-of, pairs-of, FileRead}
+use Rattle.pairfile.specs.Answers.{reading-of, pairs-of, pairs-used, FileRead}
 use Rattle.pairfile.specs.declared.Reading.{Reading}
 use Rattle.pairfile.proofs.Taken.{Numbered, taken-numbered, bind-numbered, judge-numbered, count-numbered, pair-numbered}
 use Rattle.pairfile.proofs.Accepts.{accepted}
@@ -85,6 +86,16 @@ module _ {room : ℕ} {bs old words : List ℕ} {r : Reading} (f : FileRead room
   -- so they hold it
   pub reading-holds : r .number ≡ 0 → 12288 ≤ length words → Holds-list (r .n) (r .m) words
   reading-holds z l = record { listed = accepted room bs (laid-list (r .n) (r .m) words) (reading-taken z) .list; long = l }
+
+  -- the words past those of 4,096 pairs are as they were
+  pub reading-past : drop 12288 words ≡ drop 12288 old
+  unfolding pairs-used
+  reading-past =
+      drop-more (8192 + pairs-used (read-file room bs)) 12288 words old (omega (arith, used-few (read-file room bs) refl)) (f .past .beyond)
+    where
+      used-few : (o : Outcome Pairs) → read-file room bs ≡ o → pairs-used o ≤ 4096
+      used-few (refused k) e = omega arith
+      used-few (taken g) e = listed g (accepted room bs g e .list) .short
 
   -- each end is below 512
   pub words-small : (t : ℕ) → t < 2 * r .m → getD words t 0 < 512

@@ -7,7 +7,7 @@
 --   lower-raise                  lowering undoes raising
 -- Assumes nothing.
 use mathlib.Core.Path.{_≡_, refl, sym, ap, _∙_}
-use mathlib.Core.Bool.{Bool, true, false, _||_, cond}
+use mathlib.Core.Bool.{Bool, true, _||_, cond}
 use mathlib.Core.List.{List, [], _∷_}
 use Prim.Native.Nat.{ℕ, suc, _+_, _≤_}
 use native.Mathlib.Omega.{arith}
@@ -36,10 +36,6 @@ heavier-before r w q = refl
 before-heavier : (r : Pair) (w : ℕ) (q : Pair) → stands-before (heavier w q) r ≡ stands-before q r
 unfolding stands-before heavier
 before-heavier r w q = refl
-
-or-same : (a b : Bool) → (a || b) ≡ (a || (a || b))
-or-same true b = refl
-or-same false b = refl
 
 -- that pair is held, and nothing else has changed
 pub raise-held : (r p : Pair) (ps : List Pair) → is-held r (raise-pair p ps) ≡ (same-ends r p || is-held r ps)

@@ -1,8 +1,8 @@
 -- General laws of tests and of lists.
---   by-test               a test holds or fails
---   all-weaker, all-at    a test of every element of a list
+--   by-test                    a test holds or fails
+--   all-weaker, all-at         a test of every element of a list
 --   drop-more, drop-at-word    lists that agree from i on agree further on, and word by word
---   drop-set              a store leaves what lies behind it
+--   drop-set                   a store leaves what lies behind it
 -- Assumes nothing.
 use mathlib.Core.Path.{_≡_, refl, sym, ap, _∙_}
 use mathlib.Core.Bool.{Bool, true, false}

@@ -1,12 +1,12 @@
 -- Document 01, "The list and its calls": whether a pair is held, its place, and the list with a pair more or a pair less; document 02, items 4
 -- and 9: the list with some stops more of a pair, or some less.
---   same-ends             whether two pairs have the same two numbers in the same order
---   is-held, weight-of    whether a list holds a pair, and how often it counts there
---   place-of              where it stands or would go
+--   same-ends                 whether two pairs have the same two numbers in the same order
+--   is-held, weight-of        whether a list holds a pair, and how often it counts there
+--   place-of                  where it stands or would go
 --   insert-pair, remove-pair, with-pair, without-pair    the list with it, and without it
---   heavier, lighter      a pair with some stops more, and less
+--   heavier, lighter          a pair with some stops more, and less
 --   raise-pair, lower-pair    the list with some stops of a pair more, and less
---   smaller-first-pair    the pair 2,5 for the modules 5 and 2
+--   smaller-first-pair        the pair 2,5 for the modules 5 and 2
 -- Nothing here asks for the smaller module first, except the last. Assumes nothing: these are definitions.
 use mathlib.Core.Bool.{Bool, false, _&&_, _||_, cond}
 use mathlib.Core.List.{List, [], _∷_}
