@@ -1,28 +1,55 @@
 -- Records and words: laws of `laid-out` and `put-back`.
+--   length-ends-of                   two words a record
 --   length-laid-out, laid-out-none, laid-out-more    a buffer's length stays; no record, and one record more
---   laid-out-first, laid-out-second  the words of record j
---   laid-out-narrow, narrow-set      words of records fit records; so they do with one word more that fits
+--   laid-out-pairs                   what lies in the words are the pairs that the records stand for
+--   laid-out-drop, laid-out-past     the words past the places of records stay
+--   laid-out-list, agrees-room, laid-out-holds       where head and list agree, words that are long enough then hold the list
 --   length-put-back, put-back-none, put-back-more    a list's length stays; no record, and one record more
 --   records-laid-out                 words read back are the records
---   pairs-laid-out                   and, with weights of 1, the pairs that the records stand for
 --   put-back-laid-out                records copied out and back are as they were
 -- Assumes nothing.
 use mathlib.Core.Path.{_≡_, refl, sym, ap, _∙_, subst}
 use Prim.Native.Nat.{ℕ, zero, suc, _+_, _*_, _≤_, _<_}
 use native.Mathlib.Omega.{arith}
-use mathlib.Core.List.{List, [], _∷_, _++_, map}
-use lib.ListN.{length, getD, set, take, drop, length-append, length-drop, take-append-drop}
-use lib.Seq.{length-take-le, getD-take}
+use mathlib.Core.Bool.{true}
+use mathlib.Core.List.{List, [], _∷_, _++_, map, map-append, append-assoc}
+use lib.ListN.{length, getD, set, take, drop, length-append, length-drop, length-map, length-set, take-append-drop}
+use lib.Seq.{length-take-le, getD-take, getD-drop, take-suc, drop-cons, append-snoc, set-at, set-append-left, take-set-lt, drop-set-lt}
 use Rattle.theory.specs.Basics.{table}
 use Rattle.theory.specs.Lists as Lists
 use Rattle.theory.specs.Lists.{pair}
-use Rattle.theory.specs.Words.{word-pair, pairs-in}
+use Rattle.theory.specs.Words.{word-pair, pairs-in, counts-of, laid-pairs, laid-list, Holds-list, put-at}
+use Rattle.theory.proofs.Tests.{tests}
 use Rattle.theory.proofs.Tables.{length-table, table-ext}
-use Rattle.records.specs.Records.{as-pair, as-pairs, blank, ends-of, laid-out, word-record, records-in, put-back, narrow}
+use Rattle.theory.proofs.Words.{length-put, put-below, put-in, put-drop}
+use Rattle.records.specs.Records.{as-pair, as-pairs, held-list, agrees, blank, ends-of, weights-of, laid-record, laid-out, word-record, records-in}
+use Rattle.records.specs.Records.{put-back, Room-out}
 use Rattle.records.specs.declared.Pair.{Pair}
+use Rattle.records.specs.declared.Head.{Head}
+use Rattle.records.proofs.Scans.{agrees-count}
 
-double-suc : (i : ℕ) → 2 * suc i ≡ suc (suc (2 * i))
-double-suc i = omega arith
+-- ---- one entry more of new ones, and one before them
+module _ (k : ℕ) (new old : List ℕ) (v j : ℕ) where
+  put-more : j ≡ k + length new → j < length old → set (put-at k new old) j v ≡ put-at k (new ++ (v ∷ [])) old
+  unfolding put-at
+  put-more at room =
+      let front : length (take k old ++ new) ≡ j = length-append (take k old) new ∙ omega (arith, at, length-take-le k old (omega (arith, at, room))) in
+      let next : k + length (new ++ (v ∷ [])) ≡ suc j = omega (arith, at, length-append new (v ∷ [])) in
+      cc (
+        at,
+        next,
+        drop-cons old j 0 room,
+        append-assoc (take k old) new (getD old j 0 ∷ drop (suc j) old),
+        set-at (take k old ++ new) (getD old j 0) (drop (suc j) old) v j front,
+        append-assoc (take k old) new (v ∷ drop (suc j) old),
+        append-snoc new v (drop (suc j) old),
+      )
+
+  put-set : j < k → k ≤ length old → set (put-at k new old) j v ≡ put-at k new (set old j v)
+  unfolding put-at
+  put-set l room =
+      let left = set-append-left (take k old) (new ++ drop (k + length new) old) j v (omega (arith, l, length-take-le k old room)) in
+      cc (left, take-set-lt k old j v l, drop-set-lt (k + length new) old j v (omega (arith, l)))
 
 -- ---- records to words
 pub length-ends-of : (ps : List Pair) → length (ends-of ps) ≡ 2 * length ps
@@ -30,78 +57,133 @@ unfolding ends-of
 length-ends-of [] = refl
 length-ends-of (p ∷ ps) = omega (arith, length-ends-of ps)
 
--- a buffer keeps its length
-pub length-laid-out : (ps : List Pair) (ws : List ℕ) (m : ℕ) → m ≤ length ps → 2 * m ≤ length ws → length (laid-out ps ws m) ≡ length ws
-unfolding laid-out
-length-laid-out ps ws m l k = length-append (ends-of (take m ps)) (drop (2 * m) ws)
-    ∙ omega (arith, l, k, length-ends-of (take m ps), length-take-le m ps l, length-drop (2 * m) ws)
+ends-of-more : (ps : List Pair) (p : Pair) → ends-of (ps ++ (p ∷ [])) ≡ (ends-of ps ++ (p .a ∷ [])) ++ (p .b ∷ [])
+unfolding ends-of
+ends-of-more [] p = refl
+ends-of-more (q ∷ ps) p = ap {B = List ℕ} (λ (xs : List ℕ). q .a ∷ q .b ∷ xs) (ends-of-more ps p)
+
+weights-of-more : (ps : List Pair) (p : Pair) → weights-of (ps ++ (p ∷ [])) ≡ weights-of ps ++ (as-pair p .w ∷ [])
+unfolding weights-of
+weights-of-more ps p = map-append (λ q. as-pair q .w) ps (p ∷ [])
+
+-- the words of record j
+double-suc : (j : ℕ) → 2 * suc j ≡ suc (suc (2 * j))
+double-suc j = omega arith
+
+ends-at : (ps : List Pair) (j : ℕ) → j < length ps
+    → (getD (ends-of ps) (2 * j) 0 ≡ getD ps j blank .a) × (getD (ends-of ps) (suc (2 * j)) 0 ≡ getD ps j blank .b)
+unfolding ends-of
+ends-at [] j l = absurd (omega (arith, l))
+ends-at (p ∷ ps) zero l = (refl, refl)
+ends-at (p ∷ ps) (suc j) l =
+    subst (λ (i : ℕ). (getD (p .a ∷ p .b ∷ ends-of ps) i 0 ≡ getD ps j blank .a) × (getD (p .b ∷ ends-of ps) i 0 ≡ getD ps j blank .b))
+    (sym (double-suc j)) (ends-at ps j (omega (arith, l)))
+
+weights-at : (ps : List Pair) (j : ℕ) → j < length ps → getD (weights-of ps) j 0 ≡ as-pair (getD ps j blank) .w
+unfolding weights-of
+weights-at [] j l = absurd (omega (arith, l))
+weights-at (p ∷ ps) zero l = refl
+weights-at (p ∷ ps) (suc j) l = weights-at ps j (omega (arith, l))
 
 -- no record: nothing is written
 pub laid-out-none : (ps : List Pair) (ws : List ℕ) → laid-out ps ws 0 ≡ ws
-unfolding laid-out ends-of
-laid-out-none ps ws = refl
+unfolding laid-out ends-of weights-of put-at
+laid-out-none ps ws = take-append-drop 8192 ws
 
-laid-out-cons : (p : Pair) (ps : List Pair) (x y : ℕ) (ws : List ℕ) (i : ℕ) → laid-out (p ∷ ps) (x ∷ y ∷ ws) (suc i) ≡ p .a ∷ p .b ∷ laid-out ps ws i
-unfolding laid-out ends-of
-laid-out-cons p ps x y ws i = ap {B = List ℕ} (λ (k : ℕ). p .a ∷ p .b ∷ (ends-of (take i ps) ++ drop k (x ∷ y ∷ ws))) (double-suc i)
+-- m records, and places for them
+module _ (ps : List Pair) (ws : List ℕ) (m : ℕ) (enough : m ≤ length ps) (few : m ≤ 4096) (long : 12288 ≤ length ws) where
+  abbrev es : List ℕ
+  es = ends-of (take m ps)
 
-laid-more : (ps : List Pair) (ws : List ℕ) (i : ℕ) → i < length ps → suc (2 * i) < length ws
-    → set (set (laid-out ps ws i) (2 * i) (getD ps i blank .a)) (suc (2 * i)) (getD ps i blank .b) ≡ laid-out ps ws (suc i)
-unfolding laid-out ends-of
-laid-more [] ws i l k = absurd (omega (arith, l))
-laid-more (p ∷ ps) [] i l k = absurd (omega (arith, k))
-laid-more (p ∷ ps) (x ∷ []) i l k = absurd (omega (arith, k))
-laid-more (p ∷ ps) (x ∷ y ∷ ws) zero l k = refl
-laid-more (p ∷ ps) (x ∷ y ∷ ws) (suc i) l k =
-    ap {B = List ℕ} (λ (j : ℕ). set (set (p .a ∷ p .b ∷ (ends-of (take i ps) ++ drop j (x ∷ y ∷ ws))) j (getD ps i blank .a)) (suc j) (getD ps i blank .b)) (double-suc i)
-    ∙ ap {B = List ℕ} (λ (zs : List ℕ). p .a ∷ p .b ∷ zs) (laid-more ps ws i (omega (arith, l)) (omega (arith, k))) ∙ sym (laid-out-cons p ps x y ws (suc i))
+  abbrev cs : List ℕ
+  cs = weights-of (take m ps)
 
--- one record more is two words more
-pub laid-out-more : (ps : List Pair) (ws : List ℕ) (i : ℕ) → i < length ps → 2 * i + 1 < length ws
-    → set (set (laid-out ps ws i) (2 * i) (getD ps i blank .a)) (2 * i + 1) (getD ps i blank .b) ≡ laid-out ps ws (suc i)
-laid-out-more ps ws i l k = let e : 2 * i + 1 ≡ suc (2 * i) = omega arith in
-    ap {B = List ℕ} (λ (j : ℕ). set (set (laid-out ps ws i) (2 * i) (getD ps i blank .a)) j (getD ps i blank .b)) e ∙ laid-more ps ws i l (omega (arith, k))
+  length-es : length es ≡ 2 * m
+  length-es = length-ends-of (take m ps) ∙ omega (arith, length-take-le m ps enough)
 
--- the two words of record j
-ends-at : (ps : List Pair) (ts : List ℕ) (j : ℕ) → j < length ps → (getD (ends-of ps ++ ts) (2 * j) 0 ≡ getD ps j blank .a) × (getD (ends-of ps ++ ts) (suc (2 * j)) 0 ≡ getD ps j blank .b)
-unfolding ends-of
-ends-at [] ts j l = absurd (omega (arith, l))
-ends-at (p ∷ ps) ts zero l = (refl, refl)
-ends-at (p ∷ ps) ts (suc j) l =
-    subst (λ (i : ℕ). (getD (p .a ∷ p .b ∷ (ends-of ps ++ ts)) i 0 ≡ getD ps j blank .a) × (getD (p .b ∷ (ends-of ps ++ ts)) i 0 ≡ getD ps j blank .b)) (sym (double-suc j)) (ends-at ps ts j (omega (arith, l)))
+  length-cs : length cs ≡ m
+  unfolding weights-of
+  length-cs = length-map (take m ps) (λ p. as-pair p .w) ∙ length-take-le m ps enough
 
-module _ (ps : List Pair) (ws : List ℕ) (m j : ℕ) (l : j < m) (k : m ≤ length ps) where
-  laid-at : (getD (laid-out ps ws m) (2 * j) 0 ≡ getD ps j blank .a) × (getD (laid-out ps ws m) (suc (2 * j)) 0 ≡ getD ps j blank .b)
+  room-es : 0 + length es ≤ length ws
+  room-es = omega (arith, length-es, few, long)
+
+  room-cs : 8192 + length cs ≤ length (put-at 0 es ws)
+  room-cs = omega (arith, length-cs, few, long, length-put 0 es ws room-es)
+
+  length-laid : length (laid-out ps ws m) ≡ length ws
   unfolding laid-out
-  laid-at = let e = ends-at (take m ps) (drop (2 * m) ws) j (omega (arith, l, length-take-le m ps k)) in let same : getD (take m ps) j blank ≡ getD ps j blank = getD-take m ps j blank l in
-      (e .0 ∙ ap {B = ℕ} (λ (p : Pair). p .a) same, e .1 ∙ ap {B = ℕ} (λ (p : Pair). p .b) same)
+  length-laid = length-put 8192 cs (put-at 0 es ws) room-cs ∙ length-put 0 es ws room-es
 
-  pub laid-out-first : getD (laid-out ps ws m) (2 * j) 0 ≡ getD ps j blank .a
-  laid-out-first = laid-at .0
+  past-laid : (k : ℕ) → 12288 ≤ k → drop k (laid-out ps ws m) ≡ drop k ws
+  unfolding laid-out
+  past-laid k l =
+      put-drop 8192 cs (put-at 0 es ws) room-cs k (omega (arith, length-cs, few, l)) ∙ put-drop 0 es ws room-es k (omega (arith, length-es, few, l))
 
-  pub laid-out-second : getD (laid-out ps ws m) (2 * j + 1) 0 ≡ getD ps j blank .b
-  laid-out-second = let e : 2 * j + 1 ≡ suc (2 * j) = omega arith in ap {B = ℕ} (λ (i : ℕ). getD (laid-out ps ws m) i 0) e ∙ laid-at .1
+  -- a word of the ends
+  end-laid : (k : ℕ) → k < 2 * m → getD (laid-out ps ws m) k 0 ≡ getD es k 0
+  unfolding laid-out
+  end-laid k l =
+      let e : k ≡ 0 + k = omega arith in
+      cc (e, put-below 8192 cs (put-at 0 es ws) room-cs k (omega (arith, l, few)), put-in 0 es ws room-es k (omega (arith, l, length-es)))
 
--- the numbers of each of the first m records fit 16 bits
-abbrev pub Small : ℕ → List Pair → Type 0
-Small m ps = (j : ℕ) → j < m → (getD ps j blank .a < 65536) × (getD ps j blank .b < 65536)
+  module _ (j : ℕ) (l : j < m) where
+    in-take : j < length (take m ps)
+    in-take = omega (arith, l, length-take-le m ps enough)
 
--- words of records fit records
-pub laid-out-narrow : (ps : List Pair) (ws : List ℕ) (m : ℕ) → m ≤ length ps → Small m ps → narrow m (laid-out ps ws m)
-unfolding narrow
-laid-out-narrow ps ws m k small j l = (subst (λ (v : ℕ). v < 65536) (sym (laid-out-first ps ws m j l k)) (small j l .0), subst (λ (v : ℕ). v < 65536) (sym (laid-out-second ps ws m j l k)) (small j l .1))
+    first-laid : getD (laid-out ps ws m) (2 * j) 0 ≡ getD ps j blank .a
+    first-laid = cc (end-laid (2 * j) (omega (arith, l)), ends-at (take m ps) j in-take .0, getD-take m ps j blank l)
 
--- a word that fits a record may be written
-set-small : (xs : List ℕ) (i v j : ℕ) → v < 65536 → getD xs j 0 < 65536 → getD (set xs i v) j 0 < 65536
-set-small [] i v j l small = small
-set-small (x ∷ xs) zero v zero l small = l
-set-small (x ∷ xs) zero v (suc j) l small = small
-set-small (x ∷ xs) (suc i) v zero l small = small
-set-small (x ∷ xs) (suc i) v (suc j) l small = set-small xs i v j l small
+    second-laid : getD (laid-out ps ws m) (2 * j + 1) 0 ≡ getD ps j blank .b
+    second-laid =
+        let e : 2 * j + 1 ≡ suc (2 * j) = omega arith in
+        cc (e, end-laid (2 * j + 1) (omega (arith, l)), ends-at (take m ps) j in-take .1, getD-take m ps j blank l)
 
-pub narrow-set : (m : ℕ) (ws : List ℕ) (i v : ℕ) → narrow m ws → v < 65536 → narrow m (set ws i v)
-unfolding narrow
-narrow-set m ws i v fits l j k = (set-small ws i v (2 * j) l (fits j k .0), set-small ws i v (2 * j + 1) l (fits j k .1))
+    weight-laid : getD (counts-of (laid-out ps ws m)) j 0 ≡ as-pair (getD ps j blank) .w
+    unfolding laid-out counts-of
+    weight-laid =
+        let there = put-in 8192 cs (put-at 0 es ws) room-cs j (omega (arith, l, length-cs)) in
+        cc (getD-drop 8192 (laid-out ps ws m) j 0, there, weights-at (take m ps) j in-take, getD-take m ps j blank l)
+
+-- one record more
+module _ (ps : List Pair) (ws : List ℕ) (i : ℕ) (l : i < length ps) (few : i < 4096) (long : 12288 ≤ length ws) where
+  pub laid-out-more : laid-record (laid-out ps ws i) i (getD ps i blank) ≡ laid-out ps ws (suc i)
+  unfolding laid-record laid-out
+  laid-out-more =
+      let p : Pair = getD ps i blank in
+      let es : List ℕ = ends-of (take i ps) in
+      let fs : List ℕ = es ++ (p .a ∷ []) in
+      let gs : List ℕ = fs ++ (p .b ∷ []) in
+      let cs : List ℕ = weights-of (take i ps) in
+      let xs : List ℕ = put-at 0 es ws in
+      let es-long : length es ≡ 2 * i = length-es ps ws i (omega (arith, l)) (omega (arith, few)) long in
+      let fs-long : length fs ≡ 2 * i + 1 = omega (arith, es-long, length-append es (p .a ∷ [])) in
+      let cs-long : length cs ≡ i = length-cs ps ws i (omega (arith, l)) (omega (arith, few)) long in
+      let xs-long : length xs ≡ length ws = length-put 0 es ws (omega (arith, es-long, few, long)) in
+      let ys-long : length (put-at 0 gs ws) ≡ length ws = length-put 0 gs ws (omega (arith, fs-long, length-append fs (p .b ∷ []), few, long)) in
+      cc (
+        put-set 8192 cs xs (p .a) (2 * i) (omega (arith, few)) (omega (arith, xs-long, long)),
+        put-set 8192 cs (set xs (2 * i) (p .a)) (p .b) (2 * i + 1) (omega (arith, few)) (omega (arith, xs-long, long, length-set xs (2 * i) (p .a))),
+        put-more 0 es ws (p .a) (2 * i) (omega (arith, es-long)) (omega (arith, few, long)),
+        put-more 0 fs ws (p .b) (2 * i + 1) (omega (arith, fs-long)) (omega (arith, few, long)),
+        put-more 8192 cs (put-at 0 gs ws) (as-pair p .w) (8192 + i) (omega (arith, cs-long)) (omega (arith, few, ys-long, long)),
+        ends-of-more (take i ps) p,
+        weights-of-more (take i ps) p,
+        take-suc ps i blank l,
+      )
+
+-- a buffer keeps its length
+pub length-laid-out : (ps : List Pair) (ws : List ℕ) (m : ℕ) → Room-out ps ws m → length (laid-out ps ws m) ≡ length ws
+length-laid-out ps ws zero r = ap {B = ℕ} (λ (xs : List ℕ). length xs) (laid-out-none ps ws)
+length-laid-out ps ws (suc m) r = length-laid ps ws (suc m) (r .enough) (r .few) (r .long (omega arith))
+
+-- and what lies past the places
+pub laid-out-drop : (ps : List Pair) (ws : List ℕ) (m : ℕ) → Room-out ps ws m → (k : ℕ) → 12288 ≤ k → drop k (laid-out ps ws m) ≡ drop k ws
+laid-out-drop ps ws zero r k l = ap {B = List ℕ} (λ (xs : List ℕ). drop k xs) (laid-out-none ps ws)
+laid-out-drop ps ws (suc m) r k l = past-laid ps ws (suc m) (r .enough) (r .few) (r .long (omega arith)) k l
+
+pub laid-out-past : (ps : List Pair) (ws : List ℕ) (m : ℕ) → Room-out ps ws m → drop 12288 (laid-out ps ws m) ≡ drop 12288 ws
+laid-out-past ps ws m r = laid-out-drop ps ws m r 12288 (omega arith)
 
 -- ---- words to records
 set-table : {A : Type 0} (f : ℕ → A) (xs : List A) (i : ℕ) → i < length xs → set (table i f ++ drop i xs) i (f i) ≡ table (suc i) f ++ drop (suc i) xs
@@ -137,19 +219,51 @@ unfolding table
 table-map f g zero = refl
 table-map f g (suc m) = ap {B = List _} (λ r. g (f 0) ∷ r) (table-map (λ j. f (suc j)) g m)
 
-module _ (ps : List Pair) (ws : List ℕ) (m : ℕ) (k : m ≤ length ps) where
+module _ (ps : List Pair) (ws : List ℕ) (m : ℕ) (r : Room-out ps ws m) where
+  module _ (j : ℕ) (l : j < m) where
+    there : 12288 ≤ length ws
+    there = r .long (omega (arith, l))
+
+    -- the record at place j
+    record-laid : word-record (laid-out ps ws m) j ≡ getD ps j blank
+    record-laid = λ i. record {
+      a = first-laid ps ws m (r .enough) (r .few) there j l i;
+      b = second-laid ps ws m (r .enough) (r .few) there j l i;
+    }
+
+    pair-laid : word-pair (laid-out ps ws m) (counts-of (laid-out ps ws m)) j ≡ as-pair (getD ps j blank)
+    unfolding word-pair as-pair pair
+    pair-laid = λ i. record { a = record-laid i .a; b = record-laid i .b; w = weight-laid ps ws m (r .enough) (r .few) there j l i }
+
+  -- words stand for the pairs that the records stand for
+  pub laid-out-pairs : laid-pairs m (laid-out ps ws m) ≡ as-pairs (take m ps)
+  unfolding laid-pairs pairs-in as-pairs
+  laid-out-pairs =
+      table-ext m _ (λ j. as-pair (getD ps j blank)) pair-laid ∙ table-map (λ j. getD ps j blank) as-pair m
+      ∙ ap (map as-pair) (table-take blank ps m (r .enough))
+
   -- words read back are the records
   pub records-laid-out : records-in m (laid-out ps ws m) ≡ take m ps
-  unfolding records-in word-record
-  records-laid-out = table-ext m (word-record (laid-out ps ws m)) (λ j. getD ps j blank) (λ j l. λ i. record { a = laid-out-first ps ws m j l k i; b = laid-out-second ps ws m j l k i }) ∙ table-take blank ps m k
+  unfolding records-in
+  records-laid-out = table-ext m _ (λ j. getD ps j blank) record-laid ∙ table-take blank ps m (r .enough)
 
   -- records copied out and back are as they were
   pub put-back-laid-out : put-back ps (laid-out ps ws m) m ≡ ps
   unfolding put-back
   put-back-laid-out = ap {B = List Pair} (λ (qs : List Pair). qs ++ drop m ps) records-laid-out ∙ take-append-drop m ps
 
-  -- with weights of 1, words stand for the pairs that the records stand for
-  pub pairs-laid-out : (ones : List ℕ) → ((j : ℕ) → j < m → getD ones j 0 ≡ 1) → pairs-in m (laid-out ps ws m) ones ≡ as-pairs (take m ps)
-  unfolding pairs-in word-pair as-pairs as-pair pair
-  pairs-laid-out ones one = table-ext m (word-pair (laid-out ps ws m) ones) (λ j. as-pair (getD ps j blank))
-      (λ j l. λ i. record { a = laid-out-first ps ws m j l k i; b = laid-out-second ps ws m j l k i; w = one j l i }) ∙ table-map (λ j. getD ps j blank) as-pair m ∙ ap (map as-pair) (table-take blank ps m k)
+-- ---- where head and list agree, words that are long enough then hold the list
+module _ (h : Head) (ps : List Pair) (ws : List ℕ) where
+  pub laid-out-list : Room-out ps ws (h .m) → laid-list (h .n) (h .m) (laid-out ps ws (h .m)) ≡ held-list h ps
+  unfolding laid-list held-list
+  laid-out-list r = ap (λ (qs : List Lists.Pair). record { n = h .n; pairs = qs }) (laid-out-pairs ps ws (h .m) r)
+
+  module _ (e : agrees h ps ≡ true) (long : 12288 ≤ length ws) where
+    pub agrees-room : Room-out ps ws (h .m)
+    agrees-room = record { enough = agrees-count h ps e .0; few = agrees-count h ps e .1; long = λ _. long }
+
+    pub laid-out-holds : Holds-list (h .n) (h .m) (laid-out ps ws (h .m))
+    unfolding agrees
+    laid-out-holds =
+        let e′ = simp tests at e in
+        record { listed = rw (laid-out-list agrees-room) (e′ .1); long = omega (arith, long, length-laid-out ps ws (h .m) agrees-room) }

@@ -49,7 +49,8 @@ abbrev pub Fits : {M : Type 1} {𝓤 : URA M} {H : Heap 𝓤} {A : Atoms 𝓤} {
 Fits R P x = Is R x (P .val x ∷ [])
 
 -- the machine value is of the machine type
-pub typed-as : {M : Type 1} {𝓤 : URA M} {H : Heap 𝓤} {A : Atoms 𝓤} {W : Given 𝓤 H A} {R : RattleType} (P : Plain W R) (x : R .Denot) → Fits R P x → T (hasTy (lone (R .mir)) (P .val x)) × WT (P .val x)
+pub typed-as : {M : Type 1} {𝓤 : URA M} {H : Heap 𝓤} {A : Atoms 𝓤} {W : Given 𝓤 H A} {R : RattleType} (P : Plain W R) (x : R .Denot) → Fits R P x
+    → T (hasTy (lone (R .mir)) (P .val x)) × WT (P .val x)
 typed-as {R = R} P x fits = go (R .mir) (P .lawful .typed x (P .val x ∷ []) fits)
   where
     go : (τs : List Ty) → Typed τs (P .val x ∷ []) → T (hasTy (lone τs) (P .val x)) × WT (P .val x)
@@ -81,4 +82,10 @@ module _ {M : Type 1} {𝓤 : URA M} {H : Heap 𝓤} {A : Atoms 𝓤} (W : Given
 
   -- a declared struct, from what its generated modules have: `the-type`, `the-laws`, `the-plain`, `the-copy`
   abbrev pub plain-record : (T : Declared) (L : Struct.Laws T) → Plains (fields T) → Struct.Copyables (T .parts) → Plain W (row T)
-  plain-record T L plain copies = record { val = Struct.val T L; tells = Struct.tells T L; makes = Struct.makes T plain 𝓤 H A; copy = Struct.copy T copies 𝓤 H A W; lawful = Struct.lawful T L 𝓤 H A W }
+  plain-record T L plain copies = record {
+    val = Struct.val T L;
+    tells = Struct.tells T L;
+    makes = Struct.makes T plain 𝓤 H A;
+    copy = Struct.copy T copies 𝓤 H A W;
+    lawful = Struct.lawful T L 𝓤 H A W;
+  }

@@ -16,7 +16,8 @@ use base.Logic.{ent, ex}
 use base.Fml.{GName, Share, Fml, ftrue, feq, fsep, flft, flent}
 use prog.Wp.{Heap}
 use ghost.Atoms.{Atoms, sem}
-use types.Kit.{Given, Item, ‵, _⊛_, some, later, _$_, _∵_, !, qed, move, use1, use3, drop, split, pick, fsplit, fjoin, feqI, await, updating, now as at-once, show, done}
+use types.Kit.{Given, Item, ‵, _⊛_, some, later, _$_, _∵_, !, qed, move, use1, use3, drop, split, pick, fsplit, fjoin, feqI, await, updating, now as at-once}
+use types.Kit.{show, done}
 use types.Tokens.{lft-new, lft-end, lent-back}
 use types.SemTy.{cells, Arr}
 use types.Share.{arr-parts}
@@ -99,25 +100,32 @@ module _ {M : Type 1} {𝓤 : URA M} {H : Heap 𝓤} {A : Atoms 𝓤} {W : Given
 
     pub mut-lends : Room-for ys → ent 𝓤 (sem 𝓤 H A (mut-lies ys)) (H .⇛ (ex 𝓤 (λ (k : ℕ × GName). sem 𝓤 H A (out mut-own mut-kept k))))
     mut-lends room =
-        qed W (‵ (mut-lies ys) ∷ []) ∵ updating ! $ use1 W (‵ (cells (mem (r .type)) ys (r .block) (r .offset))) (whole-in 𝓤 H A W (r .type) ys (r .block) (r .offset)) $ lft-new ! tt (λ ν. move ! (1 ∷ []) $
-        use1 W (later (some (λ (δ : GName). ‵ (mut-own ν δ) ⊛ ‵ (mut-kept ν δ)))) (lends-slice 𝓤 H A W (r .type) erased (ν ∷ []) ys (r .block) (r .offset) room) $ await ! tt $ pick ! (λ δ.
+        qed W (‵ (mut-lies ys) ∷ []) ∵ updating ! $ use1 W (‵ (cells (mem (r .type)) ys (r .block) (r .offset)))
+        (whole-in 𝓤 H A W (r .type) ys (r .block) (r .offset)) $ lft-new ! tt (λ ν. move ! (1 ∷ []) $
+        use1 W (later (some (λ (δ : GName). ‵ (mut-own ν δ) ⊛ ‵ (mut-kept ν δ))))
+        (lends-slice 𝓤 H A W (r .type) erased (ν ∷ []) ys (r .block) (r .offset) room) $ await ! tt $ pick ! (λ δ.
         split ! $ fjoin ! $ move ! (1 ∷ 0 ∷ []) $ fjoin ! $ at-once ! $ show ! (λ (k : ℕ × GName). sem 𝓤 H A (out mut-own mut-kept k)) (ν, δ) $ done !))
 
-    pub mut-backs : (ν : ℕ) (δ : GName) (zs : Elements) → ent 𝓤 (sem 𝓤 H A (fsep (flft (ν ∷ []) fullShare) (fsep (mut-left δ zs) (mut-kept ν δ)))) (H .⇛ (sem 𝓤 H A (mut-lies zs)))
+    pub mut-backs : (ν : ℕ) (δ : GName) (zs : Elements) → ent 𝓤 (sem 𝓤 H A (fsep (flft (ν ∷ []) fullShare) (fsep (mut-left δ zs) (mut-kept ν δ))))
+        (H .⇛ (sem 𝓤 H A (mut-lies zs)))
     mut-backs ν δ zs =
-        qed W (‵ (fsep (flft (ν ∷ []) fullShare) (fsep (mut-left δ zs) (mut-kept ν δ))) ∷ []) ∵ updating ! $ fsplit ! $ lft-end ! tt $ move ! (1 ∷ []) $ fsplit ! $ fsplit ! $ move ! (1 ∷ []) $ drop ! $ move ! (2 ∷ 1 ∷ 0 ∷ []) $
-        use3 W (later (‵ (Arr (mem (r .type)) (length ys) .lies zs (r .block) (r .offset)))) (slice-back 𝓤 H A W (r .type) (ν ∷ []) δ zs (length ys) (r .block) (r .offset)) $ await ! tt $ fsplit ! $ drop ! $
+        qed W (‵ (fsep (flft (ν ∷ []) fullShare) (fsep (mut-left δ zs) (mut-kept ν δ))) ∷ []) ∵ updating ! $ fsplit ! $ lft-end ! tt $ move ! (1 ∷ []) $
+        fsplit ! $ fsplit ! $ move ! (1 ∷ []) $ drop ! $ move ! (2 ∷ 1 ∷ 0 ∷ []) $
+        use3 W (later (‵ (Arr (mem (r .type)) (length ys) .lies zs (r .block) (r .offset))))
+        (slice-back 𝓤 H A W (r .type) (ν ∷ []) δ zs (length ys) (r .block) (r .offset)) $ await ! tt $ fsplit ! $ drop ! $
         use1 W (‵ (mut-lies zs)) (whole-out 𝓤 H A W (r .type) zs (r .block) (r .offset)) $ at-once ! $ done !
 
     pub shr-lends : Room-for ys → ent 𝓤 (sem 𝓤 H A (lies ys)) (H .⇛ (ex 𝓤 (λ (k : ℕ × GName). sem 𝓤 H A (out shr-own shr-kept k))))
     shr-lends room =
         qed W (‵ (lies ys) ∷ []) ∵ updating ! $ feqI ! ℕ (length ys) (length ys) refl $ fjoin ! $ lft-new ! tt (λ ν. move ! (1 ∷ []) $
-        use1 W (later (some (λ (δ : GName). ‵ (shr-own ν δ) ⊛ ‵ (shr-kept ν δ)))) (lends-shr-slice 𝓤 H A W (r .type) erased (ν ∷ []) (r .share) ys (r .block) (r .offset) room) $ await ! tt $ pick ! (λ δ.
+        use1 W (later (some (λ (δ : GName). ‵ (shr-own ν δ) ⊛ ‵ (shr-kept ν δ))))
+        (lends-shr-slice 𝓤 H A W (r .type) erased (ν ∷ []) (r .share) ys (r .block) (r .offset) room) $ await ! tt $ pick ! (λ δ.
         split ! $ fjoin ! $ move ! (1 ∷ 0 ∷ []) $ fjoin ! $ at-once ! $ show ! (λ (k : ℕ × GName). sem 𝓤 H A (out shr-own shr-kept k)) (ν, δ) $ done !))
 
     pub shr-backs : (ν : ℕ) (δ : GName) → ent 𝓤 (sem 𝓤 H A (fsep (flft (ν ∷ []) fullShare) (fsep ftrue (shr-kept ν δ)))) (H .⇛ (sem 𝓤 H A (lies ys)))
     shr-backs ν δ =
-        qed W (‵ (fsep (flft (ν ∷ []) fullShare) (fsep ftrue (shr-kept ν δ))) ∷ []) ∵ updating ! $ fsplit ! $ lft-end ! tt $ move ! (1 ∷ []) $ fsplit ! $ drop ! $ move ! (1 ∷ 0 ∷ []) $
+        qed W (‵ (fsep (flft (ν ∷ []) fullShare) (fsep ftrue (shr-kept ν δ))) ∷ []) ∵ updating ! $ fsplit ! $ lft-end ! tt $ move ! (1 ∷ []) $ fsplit ! $
+        drop ! $ move ! (1 ∷ 0 ∷ []) $
         lent-back ! tt $ fsplit ! $ drop ! $ at-once ! $ done !
 
     abbrev pub lend-mut : Room-for ys → Loan W

@@ -3,20 +3,22 @@
 --   held-list               the list that a head and the lent records hold
 --   agrees                  head and list agree: number 13 is given where they do not
 --   blank                   the record 0,0
---   ends-of                 records as words, two a record
---   laid-out                a buffer of words after the first records were copied to it
+--   ends-of, weights-of     the numbers of records as words, and how often they count
+--   laid-record, laid-out   a buffer of words after one record, and after the first records, were copied to it
 --   word-record, records-in records read from words
 --   put-back                a list after the first records were copied back to it
---   narrow                  words that fit records
+--   Room-at, Fits-at        words have a place for a record, and what lies there fits one; Fits-records: so at the first places
+--   Room-out, Room-back     what the copies ask
 -- Assumes nothing: these are definitions.
 use mathlib.Core.Bool.{Bool, _&&_}
 use mathlib.Core.List.{List, [], _∷_, _++_, map}
-use Prim.Native.Nat.{ℕ, _+_, _*_, _<_}
+use Prim.Native.Nat.{ℕ, _+_, _*_, _≤_, _<_}
 use lib.Dec.{leb}
-use lib.ListN.{length, getD, take, drop}
+use lib.ListN.{length, getD, set, take, drop}
 use Rattle.theory.specs.Basics.{table}
 use Rattle.theory.specs.Lists as Lists
 use Rattle.theory.specs.Lists.{Pairs, pair, is-list}
+use Rattle.theory.specs.Words.{put-at}
 use Rattle.records.specs.declared.Pair.{Pair}
 use Rattle.records.specs.declared.Head.{Head}
 
@@ -40,17 +42,25 @@ agrees h ps = leb (h .m) (length ps) && is-list (held-list h ps)
 abbrev pub blank : Pair
 blank = record { a = 0; b = 0 }
 
--- records as words: record j lies at words 2j and 2j + 1
+-- the numbers of records as words: those of record j lie at 2j and 2j + 1
 unfoldable pub ends-of : List Pair → List ℕ
 ends-of [] = []
 ends-of (p ∷ ps) = p .a ∷ p .b ∷ ends-of ps
 
+-- how often each record counts
+unfoldable pub weights-of : List Pair → List ℕ
+weights-of ps = map (λ p. as-pair p .w) ps
+
+-- the words after record p was copied to place i
+unfoldable pub laid-record : List ℕ → ℕ → Pair → List ℕ
+laid-record ws i p = set (set (set ws (2 * i) (p .a)) (2 * i + 1) (p .b)) (8192 + i) (as-pair p .w)
+
 -- the words after the first m records were copied to them
 unfoldable pub laid-out : List Pair → List ℕ → ℕ → List ℕ
-laid-out ps ws m = ends-of (take m ps) ++ drop (2 * m) ws
+laid-out ps ws m = put-at 8192 (weights-of (take m ps)) (put-at 0 (ends-of (take m ps)) ws)
 
 -- the record that lies in words at place j
-unfoldable pub word-record : List ℕ → ℕ → Pair
+abbrev pub word-record : List ℕ → ℕ → Pair
 word-record ws j = record { a = getD ws (2 * j) 0; b = getD ws (2 * j + 1) 0 }
 
 -- the first m of them
@@ -61,6 +71,26 @@ records-in m ws = table m (word-record ws)
 unfoldable pub put-back : List Pair → List ℕ → ℕ → List Pair
 put-back ps ws m = records-in m ws ++ drop m ps
 
--- the words of the first m records fit the 16 bits of a record's numbers
-unfoldable pub narrow : ℕ → List ℕ → Type 0
-narrow m ws = (j : ℕ) → j < m → (getD ws (2 * j) 0 < 65536) × (getD ws (2 * j + 1) 0 < 65536)
+-- the words have a place i
+pub record Room-at (i : ℕ) (words : List ℕ) : Type 0 where
+  pub few : i < 4096
+  pub long : 12288 ≤ length words
+
+-- what lies at place i fits the 16 bits of a record's numbers
+abbrev pub Fits-at : ℕ → List ℕ → Type 0
+Fits-at i ws = (getD ws (2 * i) 0 < 65536) × (getD ws (2 * i + 1) 0 < 65536)
+
+-- m records are there, and the words have places for them; where m is 0 any words do
+pub record Room-out (list : List Pair) (words : List ℕ) (m : ℕ) : Type 0 where
+  pub enough : m ≤ length list
+  pub few : m ≤ 4096
+  pub long : 0 < m → 12288 ≤ length words
+
+-- what lies at the first m places fits
+unfoldable pub Fits-records : ℕ → List ℕ → Type 0
+Fits-records m ws = (j : ℕ) → j < m → Fits-at j ws
+
+-- there is room for m records, and those in the words fit
+pub record Room-back (list : List Pair) (words : List ℕ) (m : ℕ) : Type 0 where
+  pub room : Room-out list words m
+  pub fits : Fits-records m words

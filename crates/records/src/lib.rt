@@ -1,13 +1,11 @@
 // The lent records: the only functions that read or write &[Pair]. Everything above works on words.
-//   copy_out   records to words, two words a record
+//   copy_out   records to words: the numbers of record j to words 2j and 2j + 1, how often it counts to word 8,192 + j
 //   copy_in    words to records
 //   agree      whether head and list agree (document 01, number 13)
-// Each is one pass over the records that it names.
+// Each is one pass over the records that it names, and blind to what is in a record: lay, record_at and step know that.
 ghost use mathlib.Core.Path.{_≡_};
-ghost use Prim.Native.Nat.{_≤_, _*_};
-ghost use lib.ListN.{length};
-ghost use Rattle.records.specs.Records.{laid-out, put-back, narrow, agrees};
-ghost use Rattle.records.specs.Scan.{begin-of, reach-of, step-of};
+ghost use Rattle.records.specs.Records.{laid-record, word-record, laid-out, put-back, Room-at, Fits-at, Room-out, Room-back, agrees};
+ghost use Rattle.records.specs.Scan.{begin-of, tested-of, step-of};
 
 // A record: two module numbers, the smaller first.
 #[repr(C)]
@@ -23,30 +21,47 @@ pub struct Head {
     pub m: u32,
 }
 
-// The first m records to words: record j to words 2j and 2j + 1. The words after them stay.
+// One record to words: its numbers to words 2i and 2i + 1, how often it counts to word 8,192 + i.
+fn lay(words: &mut [u32], i: usize, p: Pair)
+    requires { ⌜ Room-at i (now words) ⌝ }
+    ensures { λ _. ⌜ now (words .exit) ≡ laid-record (now (words .entry)) i p ⌝ }
+{
+    words[2 * i] = p.a as u32;
+    words[2 * i + 1] = p.b as u32;
+    words[8192 + i] = 1;
+}
+
+// One record from words.
+fn record_at(words: &[u32], i: usize) -> Pair
+    requires { ⌜ Room-at i (now words) × Fits-at i (now words) ⌝ }
+    ensures { λ r. ⌜ r ≡ word-record (now (words .entry)) i ⌝ }
+{
+    Pair {
+        a: words[2 * i] as u16,
+        b: words[2 * i + 1] as u16,
+    }
+}
+
+// The first m records to words. The other words stay.
 pub fn copy_out(list: &[Pair], words: &mut [u32], m: usize)
-    requires { ⌜ (m ≤ length (now list)) × (m ≤ 4096) × (2 * m ≤ length (now words)) ⌝ }
+    requires { ⌜ Room-out (now list) (now words) m ⌝ }
     ensures { λ _. ⌜ now (words .exit) ≡ laid-out (now (list .entry)) (now (words .entry)) m ⌝ }
 {
     let mut i = 0;
     while i < m {
-        words[2 * i] = list[i].a as u32;
-        words[2 * i + 1] = list[i].b as u32;
+        lay(words, i, list[i]);
         i += 1;
     }
 }
 
 // The first m records from words. The records after them stay.
 pub fn copy_in(list: &mut [Pair], words: &[u32], m: usize)
-    requires { ⌜ (m ≤ length (now list)) × (m ≤ 4096) × (2 * m ≤ length (now words)) × narrow m (now words) ⌝ }
+    requires { ⌜ Room-back (now list) (now words) m ⌝ }
     ensures { λ _. ⌜ now (list .exit) ≡ put-back (now (list .entry)) (now (words .entry)) m ⌝ }
 {
     let mut i = 0;
     while i < m {
-        list[i] = Pair {
-            a: words[2 * i] as u16,
-            b: words[2 * i + 1] as u16,
-        };
+        list[i] = record_at(words, i);
         i += 1;
     }
 }
@@ -54,8 +69,7 @@ pub fn copy_in(list: &mut [Pair], words: &[u32], m: usize)
 // What the test of the records keeps: whether all so far are good, and the last one.
 struct Seen {
     ok: bool,
-    a: u16,
-    b: u16,
+    last: Pair,
 }
 
 // What head and length show before the first record.
@@ -63,37 +77,34 @@ fn begin(head: Head, len: usize) -> Seen
     ensures { λ r. ⌜ r ≡ begin-of head len ⌝ }
 {
     let m = head.m as usize;
+    let none = Pair { a: 0, b: 0 };
     if head.n < 1 {
         return Seen {
             ok: false,
-            a: 0,
-            b: 0,
+            last: none,
         };
     }
     if 512 < head.n {
         return Seen {
             ok: false,
-            a: 0,
-            b: 0,
+            last: none,
         };
     }
     if 4096 < m {
         return Seen {
             ok: false,
-            a: 0,
-            b: 0,
+            last: none,
         };
     }
     Seen {
         ok: m <= len,
-        a: 0,
-        b: 0,
+        last: none,
     }
 }
 
 // How many records are tested.
-fn reach(head: Head, ok: bool) -> usize
-    ensures { λ r. ⌜ r ≡ reach-of head ok ⌝ }
+fn tested(head: Head, ok: bool) -> usize
+    ensures { λ r. ⌜ r ≡ tested-of head ok ⌝ }
 {
     if ok {
         return head.m as usize;
@@ -102,41 +113,27 @@ fn reach(head: Head, ok: bool) -> usize
 }
 
 // One record more.
-fn step(n: u32, seen: Seen, a: u16, b: u16) -> Seen
-    ensures { λ r. ⌜ r ≡ step-of n seen a b ⌝ }
+fn step(n: u32, seen: Seen, p: Pair) -> Seen
+    ensures { λ r. ⌜ r ≡ step-of n seen p ⌝ }
 {
     if !seen.ok {
-        return Seen {
-            ok: false,
-            a: a,
-            b: b,
-        };
+        return Seen { ok: false, last: p };
     }
-    if n <= b as u32 {
-        return Seen {
-            ok: false,
-            a: a,
-            b: b,
-        };
+    if n <= p.b as u32 {
+        return Seen { ok: false, last: p };
     }
-    if b <= a {
-        return Seen {
-            ok: false,
-            a: a,
-            b: b,
-        };
+    if p.b <= p.a {
+        return Seen { ok: false, last: p };
     }
-    if seen.a == a {
+    if seen.last.a == p.a {
         return Seen {
-            ok: seen.b < b,
-            a: a,
-            b: b,
+            ok: seen.last.b < p.b,
+            last: p,
         };
     }
     Seen {
-        ok: seen.a < a,
-        a: a,
-        b: b,
+        ok: seen.last.a < p.a,
+        last: p,
     }
 }
 
@@ -146,10 +143,10 @@ pub fn agree(head: Head, list: &[Pair]) -> bool
 {
     let n = head.n;
     let mut seen = begin(head, list.len());
-    let k = reach(head, seen.ok);
+    let k = tested(head, seen.ok);
     let mut i = 0;
     while i < k {
-        seen = step(n, seen, list[i].a, list[i].b);
+        seen = step(n, seen, list[i]);
         i += 1;
     }
     seen.ok
