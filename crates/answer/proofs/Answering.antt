@@ -13,7 +13,6 @@ use native.Mathlib.Omega.{arith}
 use borrow.Author.Tests.{le-ltb}
 use lib.ListN.{length, take, length-map}
 use lib.Seq.{length-take-le}
-use Rattle.theory.proofs.Tests.{tests}
 use Rattle.theory.specs.Lists.{Pairs, is-list}
 use Rattle.theory.specs.Refusals.{cause, refusal}
 use Rattle.theory.specs.Words.{laid-pairs, put-at}
@@ -25,7 +24,7 @@ use Rattle.pairfile.specs.Answers.{reading-of, pairs-of, Same-past}
 use Rattle.records.specs.declared.Pair.{Pair}
 use Rattle.records.specs.declared.Head.{Head}
 use Rattle.records.specs.Records.{as-pair, held-list, agrees, ends-of, weights-of, laid-out, Room-out}
-use Rattle.records.proofs.Copies.{length-ends-of, laid-out-none, laid-out-pairs}
+use Rattle.records.proofs.Copies.{length-ends-of, laid-out-none, laid-out-pairs, agrees-room}
 use Rattle.kandurzo.specs.declared.Changed.{Changed}
 use Rattle.kandurzo.specs.declared.Solved.{Solved}
 use Rattle.kandurzo.specs.Buffers.{buffer, any-short, work-words}
@@ -179,8 +178,7 @@ module _ (bytes : List ℕ) (ps : List Pair) (work : List ℕ) (list-long : leng
 
       -- what copy_out asks
       out : Room-out ps′ words (h .m)
-      unfolding agrees
-      out = record { enough = (simp tests at (agreed g e)) .0; few = few-taken g e; long = λ _. room .words-long }
+      out = agrees-room h ps′ words (agreed g e) (room .words-long)
 
       over : Handed-over g members cores shares words (answer-of file found) members′ cores′ shares′ (laid-out ps′ words (h .m))
       over = record {

@@ -18,7 +18,8 @@ pub struct Answer {
     pub coresize: u32,
 }
 
-// Reads the file and solves its list: the member bytes mark the found group, then core numbers, load sheet, and the list in words. A refused file has the head 0,0: no record goes out, and solve declines.
+// Reads the file and solves its list: the member bytes mark the found group, then core numbers, load sheet, and the list in words. A refused
+// file has the head 0,0: no record goes out, and solve declines.
 pub fn sheet_file(
     bytes: &[u8],
     members: &mut [u8],
