@@ -48,7 +48,7 @@ use Rattle.sheetfile.proofs.Reading.{line-small, ends-reading, goes-on}
 abbrev part : (entries : List ℕ) → Lines → (bytes : List ℕ) → Part
 part es r bs = record { entries = es; rest = drop (r .next) bs }
 
-module _ {g : Pairs} {cores s₀ : List ℕ} (b : Beside g cores s₀) (bs : List ℕ) (at q : ℕ) {s : List ℕ} {r₁ : Lines}
+module _ {g : Pairs} {cores s₀ : List ℕ} (b : Beside g cores s₀) {bs : List ℕ} (at q : ℕ) {s : List ℕ} {r₁ : Lines}
     (f₁ : PartRead bs (read-members q 0 s₀ (drop at bs)) s r₁) where
   abbrev body : Outcome Body
   body = read-body g q (drop at bs)
