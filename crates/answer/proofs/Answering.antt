@@ -1,12 +1,12 @@
 -- From what read and solve say, one after the other, to the answer.
 --   answer-of         the answer, of what read and solve return
---   few-records       at most 4,096 records go out
 --   out-past          copy_out leaves the words past the pairs as they were
+--   room-out, length-out    what copy_out asks, and that it leaves as many words
 --   sheeted           the contract of sheet_file
 --   answers           the contract of solve_file, from it
 -- Assumes nothing.
 use mathlib.Core.Path.{_≡_, refl, sym, ap, _∙_, subst}
-use mathlib.Core.Bool.{Bool, true, false, cond}
+use mathlib.Core.Bool.{Bool, true, false, _||_, cond}
 use mathlib.Core.List.{List}
 use Prim.Native.Nat.{ℕ, _+_, _*_, _≤_}
 use native.Mathlib.Omega.{arith}
@@ -24,16 +24,16 @@ use Rattle.pairfile.specs.Answers.{reading-of, pairs-of, Same-past}
 use Rattle.records.specs.declared.Pair.{Pair}
 use Rattle.records.specs.declared.Head.{Head}
 use Rattle.records.specs.Records.{as-pair, held-list, agrees, ends-of, weights-of, laid-out, Room-out}
-use Rattle.records.proofs.Copies.{length-ends-of, laid-out-none, laid-out-pairs, agrees-room}
+use Rattle.records.proofs.Copies.{length-ends-of, length-laid-out, laid-out-none, laid-out-pairs, agrees-room}
 use Rattle.kandurzo.specs.declared.Changed.{Changed}
 use Rattle.kandurzo.specs.declared.Solved.{Solved}
 use Rattle.kandurzo.specs.Buffers.{buffer, any-short, work-words}
 use Rattle.kandurzo.specs.Gate.{gate-causes, gate-number}
 use Rattle.kandurzo.specs.Listing.{head-of}
-use Rattle.kandurzo.specs.Reading.{read-outcome, read-head, records-front, Read-call}
+use Rattle.kandurzo.specs.Reading.{read-buffers, read-outcome, read-head, records-front, Read-call}
 use Rattle.kandurzo.specs.Solving.{solve-buffers, solve-call-causes, declined, Handed, Solve-call}
 use Rattle.kandurzo.proofs.Gates.{gate-open}
-use Rattle.kandurzo.proofs.Readings.{read-held, read-agrees}
+use Rattle.kandurzo.proofs.Readings.{reads-file, read-held, read-agrees}
 use Rattle.kandurzo.proofs.Taken.{held-is-list}
 use Rattle.answer.specs.declared.Answer.{Answer}
 use Rattle.answer.specs.Answers.{refusal-of, Room-enough, solved-of, Handed-over, Sheeted, Answers}
@@ -72,19 +72,19 @@ unfolding gate-number gate-causes refusal cause
 gate-none h ps short agreed enough = simp (agreed, enough)
 
 module _ (bytes : List ℕ) (ps : List Pair) (work : List ℕ) (list-long : length ps ≡ 4096) (work-long : length work ≡ 16384)
-    (file : Changed) (ps′ : List Pair) (work′ : List ℕ) (work-kept : length work′ ≡ 16384) (says : Read-call bytes ps work file ps′ work′) where
+    (file : Changed) (ps′ : List Pair) (work′ : List ℕ) (work-kept : length work′ ≡ 16384) (says : Read-call read-file bytes ps work file ps′ work′) where
   abbrev h : Head
   h = file .head
 
   -- the buffers are as long as read asks
-  outcome-is : read-outcome (length ps) (length work) bytes ≡ read-file 4096 bytes
-  unfolding read-outcome work-words
+  outcome-is : read-outcome read-file (length ps) (length work) bytes ≡ read-file 4096 bytes
+  unfolding read-outcome read-buffers any-short buffer work-words
   outcome-is =
-      ap (λ (t : Bool). cond t (refused 12) (read-file (length ps) bytes)) (le-ltb (length work) 16384 (omega (arith, work-long)))
+      ap (λ (t : Bool). cond (t || false) (refused 12) (read-file (length ps) bytes)) (le-ltb (length work) 16384 (omega (arith, work-long)))
       ∙ ap (λ (n : ℕ). read-file n bytes) list-long
 
   module _ (o : Outcome Pairs) (e : read-file 4096 bytes ≡ o) where
-    outcome-as : read-outcome (length ps) (length work) bytes ≡ o
+    outcome-as : read-outcome read-file (length ps) (length work) bytes ≡ o
     outcome-as = outcome-is ∙ e
 
     number-as : file .number ≡ reading-of o .number
@@ -98,10 +98,10 @@ module _ (bytes : List ℕ) (ps : List Pair) (work : List ℕ) (list-long : leng
 
   module _ (g : Pairs) (e : read-file 4096 bytes ≡ taken g) where
     held-as : held-list h ps′ ≡ g
-    held-as = rw (head-as (taken g) e, records-as (taken g) e) (read-held bytes ps (length work) g (outcome-as (taken g) e))
+    held-as = rw (head-as (taken g) e, records-as (taken g) e) (read-held reads-file bytes ps (length work) g (outcome-as (taken g) e))
 
     agreed : agrees h ps′ ≡ true
-    agreed = rw (head-as (taken g) e, records-as (taken g) e) (read-agrees bytes ps (length work) g (outcome-as (taken g) e))
+    agreed = rw (head-as (taken g) e, records-as (taken g) e) (read-agrees reads-file bytes ps (length work) g (outcome-as (taken g) e))
 
     good : is-list g ≡ true
     good = subst (λ (u : Pairs). is-list u ≡ true) held-as (held-is-list h ps′ agreed)
@@ -127,13 +127,21 @@ module _ (bytes : List ℕ) (ps : List Pair) (work : List ℕ) (list-long : leng
   unfolding read-head reading-of
   none-read k e = head-as (refused k) e
 
-  pub few-records : h .m ≤ 4096
+  few-records : h .m ≤ 4096
   unfolding head-of
   few-records = go (read-file 4096 bytes) refl
     where
       go : (o : Outcome Pairs) → read-file 4096 bytes ≡ o → h .m ≤ 4096
       go (refused k) e = omega (arith, ap (λ (u : Head). u .m) (none-read k e))
       go (taken g) e = few-taken g e
+
+  -- what copy_out asks of the words, and that it leaves as many
+  module _ (kept : length ps′ ≡ 4096) (words : List ℕ) (long : 12288 ≤ length words) where
+    pub room-out : Room-out ps′ words (h .m)
+    room-out = record { enough = omega (arith, few-records, kept); few = few-records; long = λ _. long }
+
+    pub length-out : length (laid-out ps′ words (h .m)) ≡ length words
+    length-out = length-laid-out ps′ words (h .m) room-out
 
   module _ (members cores shares words : List ℕ) (room : Room-enough (length members) (length cores) (length shares) (length words))
       (found : Solved) (members′ cores′ shares′ work″ : List ℕ)

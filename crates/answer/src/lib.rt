@@ -1,9 +1,11 @@
 // The answer to the bytes of a pair file, which crate `texts` writes out.
+ghost use mathlib.Core.Path.{_≡_};
 ghost use Prim.Native.Nat.{_≤_};
 ghost use lib.ListN.{length};
 ghost use Rattle.answer.specs.Answers.{Answers, Room-enough, Sheeted};
 use kandurzo::read;
 use kandurzo::solve;
+use records::Head;
 use records::Pair;
 use records::copy_out;
 
@@ -16,6 +18,13 @@ pub struct Answer {
     pub q: u32,
     pub k: u32,
     pub coresize: u32,
+}
+
+// How many pairs a head counts.
+fn count(head: Head) -> usize
+    ensures { λ r. ⌜ r ≡ head .m ⌝ }
+{
+    head.m as usize
 }
 
 // Reads the file and solves its list: the member bytes mark the found group, then core numbers, load sheet, and the list in words. A refused
@@ -35,7 +44,8 @@ pub fn sheet_file(
     let mut work = [0u32; 16384];
     let file = read(bytes, &mut list, &mut work);
     let head = file.head;
-    copy_out(&list, words, head.m as usize);
+    let held = count(head);
+    copy_out(&list, words, held);
     let found = solve(head, &list, members, cores, shares, &mut work);
     Answer {
         number: file.number,

@@ -1,39 +1,37 @@
 -- From the records to the words and back: what add and remove do on words is what they do to the lent records.
 --   out                                what the words are after the records went out
---   out-enough, out-ready              what the way out asks, and what add and remove on words ask
+--   out-room, out-long, out-ready      what the way out asks, how many words there are then, and what add and remove on words ask
+--   records-laid                       the records in words are those of the pairs
 --   Making, made-out                   what a change makes, and what it makes of the words after the records went out
 --   Change, add-change, remove-change  a change of the words makes the call's answer and its list
 -- Assumes nothing.
 use mathlib.Core.Path.{_≡_, refl, sym, ap, _∙_}
 use mathlib.Core.Bool.{Bool, true, false, not, cond}
 use mathlib.Core.List.{List, [], _∷_, _++_, map}
-use Prim.Native.Nat.{ℕ, zero, suc, _+_, _-_, _≤_}
+use Prim.Native.Nat.{ℕ, zero, suc, _+_, _-_}
 use native.Mathlib.Omega.{arith}
 use lib.Dec.{eqb}
-use lib.ListN.{length, drop, replicate}
+use lib.ListN.{length, drop}
 use borrow.Author.Tests.{eqb-true, ne-eqb}
 use Rattle.theory.specs.Basics.{table}
 use Rattle.theory.specs.Lists as Lists
-use Rattle.theory.specs.Lists.{Pairs, pair}
+use Rattle.theory.specs.Lists.{Pairs}
 use Rattle.theory.specs.Refusals.{refusal, if-taken}
-use Rattle.theory.specs.Words.{word-pair, pairs-in}
+use Rattle.theory.specs.Words.{word-pair, pairs-in, counts-of, laid-pairs, laid-list}
 use Rattle.theory.proofs.Lists.{listed}
 use Rattle.pairs.specs.Held.{insert-pair, remove-pair, smaller-first-pair}
 use Rattle.pairs.specs.Causes.{add-causes, remove-causes}
-use Rattle.pairs.specs.Located.{ones-in}
 use Rattle.pairs.proofs.General.{by-test}
-use Rattle.pairs.proofs.Weights.{ones-at}
 use Rattle.records.specs.declared.Pair.{Pair}
 use Rattle.records.specs.declared.Head.{Head}
-use Rattle.records.specs.Records.{held-list, agrees, laid-out, word-record, records-in, put-back}
-use Rattle.records.proofs.Copies.{length-laid-out, pairs-laid-out}
-use Rattle.records.proofs.Steps.{Enough, Enough-back}
+use Rattle.records.specs.Records.{held-list, agrees, blank, laid-out, word-record, records-in, put-back, Room-out, Room-back}
+use Rattle.records.proofs.Copies.{length-laid-out, laid-out-pairs}
 use Rattle.kandurzo.specs.declared.Edit.{Edit}
 use Rattle.kandurzo.specs.Listing.{head-of, as-record, as-records, is-full, add-number, added, Add-says, remove-number, removed, Remove-says}
-use Rattle.kandurzo.specs.Edits.{word-list, records-out, Ready, edit-of, add-on-number, add-edit, add-words, remove-on-number, remove-edit, remove-words}
+use Rattle.kandurzo.specs.Edits.{records-out, Ready, edit-of, add-on-number, add-edit, add-words, remove-on-number, remove-edit, remove-words}
 use Rattle.kandurzo.proofs.Orders.{add-13, remove-13}
 use Rattle.kandurzo.proofs.Outcomes.{Call, answer}
-use Rattle.kandurzo.proofs.Changes.{Edited, add-edited, remove-edited}
+use Rattle.kandurzo.proofs.Changes.{Edited, freed-pair, add-edited, remove-edited}
 use Rattle.kandurzo.proofs.Taken.{held-few, held-is-list, length-held}
 
 -- what a change of the words makes: of the head, whether it agrees with the list, the list's length, the words, and the pair
@@ -50,55 +48,48 @@ unfolding table
 table-map zero f g e = refl
 table-map (suc m) f g e = cc (e 0, table-map m (λ j. f (suc j)) (λ j. g (suc j)) (λ j. e (suc j)))
 
-pub records-ones : (m : ℕ) (ws : List ℕ) → records-in m ws ≡ as-records (ones-in m ws)
-unfolding records-in as-records ones-in pairs-in
-records-ones m ws = table-map m (word-pair ws (replicate m 1)) (word-record ws) (λ j. unfold as-record word-pair word-record in refl)
+pub records-laid : (m : ℕ) (ws : List ℕ) → records-in m ws ≡ as-records (laid-pairs m ws)
+unfolding records-in as-records laid-pairs pairs-in
+records-laid m ws = table-map m (word-pair ws (counts-of ws)) (word-record ws) (λ j. unfold as-record word-pair in refl)
 
-module _ (zs : List ℕ) (long : length zs ≡ 8192) (h : Head) (ps : List Pair) where
+module _ (zs : List ℕ) (long : length zs ≡ 12288) (h : Head) (ps : List Pair) where
+  agreed-room : agrees h ps ≡ true → Room-out ps zs (h .m)
+  agreed-room e = record {
+    enough = held-few h ps e;
+    few = omega (arith, listed (held-list h ps) (held-is-list h ps e) .short, length-held h ps e);
+    long = λ _. omega (arith, long);
+  }
+
   -- where head and list agree, the words hold the list
-  out-list : agrees h ps ≡ true → word-list h (out zs h ps) ≡ held-list h ps
-  unfolding word-list held-list records-out ones-in
-  out-list e =
-      rw e
-      (ap (λ (qs : List Lists.Pair). record { n = h .n; pairs = qs })
-      (pairs-laid-out ps zs (h .m) (held-few h ps e) (replicate (h .m) 1) (λ j l. ones-at (h .m) j l)))
+  out-list : agrees h ps ≡ true → laid-list (h .n) (h .m) (out zs h ps) ≡ held-list h ps
+  unfolding laid-list held-list records-out
+  out-list e = rw e (ap (λ (qs : List Lists.Pair). record { n = h .n; pairs = qs }) (laid-out-pairs ps zs (h .m) (agreed-room e)))
 
-  few : agrees h ps ≡ true → h .m ≤ 4096
-  few e = omega (arith, listed (held-list h ps) (held-is-list h ps e) .short, length-held h ps e)
-
-  -- how many records go out
-  pub out-count : (records-out h (agrees h ps) ≤ length ps) × (records-out h (agrees h ps) ≤ 4096)
+  -- there is room for the records that go out
+  pub out-room : Room-out ps zs (records-out h (agrees h ps))
   unfolding records-out
-  out-count = go (agrees h ps) refl
-    where
-      go : (t : Bool) → agrees h ps ≡ t → (cond t (h .m) 0 ≤ length ps) × (cond t (h .m) 0 ≤ 4096)
-      go true e = (held-few h ps e, few e)
-      go false e = (omega arith, omega arith)
+  out-room = by-test (agrees h ps) (λ e. rw e (agreed-room e)) (λ e. rw e (record { enough = omega arith; few = omega arith; long = λ l. absurd (omega (arith, l)) }))
 
-  pub out-enough : Enough ps zs (records-out h (agrees h ps))
-  out-enough = (out-count .0, out-count .1, omega (arith, out-count .1))
+  pub out-long : length (out zs h ps) ≡ 12288
+  out-long = length-laid-out ps zs (records-out h (agrees h ps)) out-room ∙ long
 
   pub out-ready : Ready h (agrees h ps) (length ps) (out zs h ps)
-  out-ready =
-      record {
-        long =
-            length-laid-out ps zs (records-out h (agrees h ps)) (out-count .0)
-            (omega (arith, out-count .1)) ∙ long;
-        held = λ e. rw (out-list e) (held-is-list h ps e);
-        fits = λ e. held-few h ps e;
-      }
+  out-ready = record {
+    holds = λ e. record { listed = rw (out-list e) (held-is-list h ps e); long = omega (arith, out-long) };
+    fits = λ e. held-few h ps e;
+  }
 
   -- the number on words is the number on records: where head and list disagree it is 13 for both
   out-number : (k : (disagree : Bool) → Pairs → ℕ) → ((g : Pairs) → k true g ≡ 13) →
-      k (not (agrees h ps)) (word-list h (out zs h ps)) ≡ k (not (agrees h ps)) (held-list h ps)
+      k (not (agrees h ps)) (laid-list (h .n) (h .m) (out zs h ps)) ≡ k (not (agrees h ps)) (held-list h ps)
   out-number k first = by-test (agrees h ps) (λ e. rw (out-list e)) (λ e. rw e (first _ ∙ sym (first _)))
 
   module _ (a b : ℕ) where
-    out-add-number : refusal (add-causes (not (agrees h ps)) (word-list h (out zs h ps)) (is-full h (length ps)) a b) ≡ add-number h ps a b
+    out-add-number : refusal (add-causes (not (agrees h ps)) (laid-list (h .n) (h .m) (out zs h ps)) (is-full h (length ps)) a b) ≡ add-number h ps a b
     unfolding add-number
     out-add-number = out-number (λ d g. refusal (add-causes d g (is-full h (length ps)) a b)) (λ g. add-13 true g _ a b refl)
 
-    out-remove-number : refusal (remove-causes (not (agrees h ps)) (word-list h (out zs h ps)) a b) ≡ remove-number h ps a b
+    out-remove-number : refusal (remove-causes (not (agrees h ps)) (laid-list (h .n) (h .m) (out zs h ps)) a b) ≡ remove-number h ps a b
     unfolding remove-number
     out-remove-number = out-number (λ d g. refusal (remove-causes d g a b)) (λ g. remove-13 true g a b refl)
 
@@ -110,12 +101,12 @@ back-is h len k new back after words ps e = go (eqb k 0) refl
   where
     go : (t : Bool) → eqb k 0 ≡ t →
         records-in (cond t back 0) words ++ drop (cond t back 0) ps ≡ cond t (as-records after ++ drop back ps) ps
-    go true z = rw (records-ones back words, e .pairs (eqb-true k 0 z))
+    go true z = rw (records-laid back words, e .pairs (eqb-true k 0 z))
     go false z = unfold records-in table in refl
 
 -- the pair 0,0 behind others is the record 0,0
-freed : (qs : List Lists.Pair) (rest : List Pair) → as-records (qs ++ (pair 0 0 ∷ [])) ++ rest ≡ as-records qs ++ (record { a = 0; b = 0 } ∷ rest)
-unfolding as-records as-record pair
+freed : (qs : List Lists.Pair) (rest : List Pair) → as-records (qs ++ (freed-pair ∷ [])) ++ rest ≡ as-records qs ++ (blank ∷ rest)
+unfolding as-records as-record
 freed [] rest = refl
 freed (q ∷ qs) rest = ap (λ (ps : List Pair). as-record q ∷ ps) (freed qs rest)
 
@@ -125,22 +116,22 @@ made-out x zs h ps a b = x h (agrees h ps) (length ps) (out zs h ps) a b
 
 -- the words after a change are as many, what comes back fits the list, and the call's contract holds
 pub record Change (Says : Call) (edit : Making Edit) (words : Making (List ℕ)) (zs : List ℕ) (h : Head) (ps : List Pair) (a b : ℕ) : Type 0 where
-  pub long : length (made-out words zs h ps a b) ≡ 8192
-  pub back : Enough-back ps (made-out words zs h ps a b) (made-out edit zs h ps a b .count)
+  pub long : length (made-out words zs h ps a b) ≡ 12288
+  pub back : Room-back ps (made-out words zs h ps a b) (made-out edit zs h ps a b .count)
   pub says : Says h ps a b (answer (made-out edit zs h ps a b)) (put-back ps (made-out words zs h ps a b) (made-out edit zs h ps a b .count))
 
 -- what comes back is said of the held pairs: where head and list disagree, nothing does
-module _ (zs : List ℕ) (long : length zs ≡ 8192) (h : Head) (ps : List Pair) (a b : ℕ) where
-  held-out : agrees h ps ≡ true → ones-in (h .m) (out zs h ps) ≡ held-list h ps .pairs
-  unfolding word-list
+module _ (zs : List ℕ) (long : length zs ≡ 12288) (h : Head) (ps : List Pair) (a b : ℕ) where
+  held-out : agrees h ps ≡ true → laid-pairs (h .m) (out zs h ps) ≡ held-list h ps .pairs
+  unfolding laid-list
   held-out e = ap (λ (g : Pairs). g .pairs) (out-list zs long h ps e)
 
   taken-held : (k : ℕ) (new : List Lists.Pair → List Pair) → (agrees h ps ≡ false → k ≡ 13) →
-      if-taken k (new (ones-in (h .m) (out zs h ps))) ps ≡ if-taken k (new (held-list h ps .pairs)) ps
+      if-taken k (new (laid-pairs (h .m) (out zs h ps))) ps ≡ if-taken k (new (held-list h ps .pairs)) ps
   unfolding if-taken
   taken-held k new f = go (agrees h ps) refl
     where
-      go : (t : Bool) → agrees h ps ≡ t → cond (eqb k 0) (new (ones-in (h .m) (out zs h ps))) ps ≡ cond (eqb k 0) (new (held-list h ps .pairs)) ps
+      go : (t : Bool) → agrees h ps ≡ t → cond (eqb k 0) (new (laid-pairs (h .m) (out zs h ps))) ps ≡ cond (eqb k 0) (new (held-list h ps .pairs)) ps
       go true e = rw (held-out e)
       go false e = let z : eqb k 0 ≡ false = ne-eqb k 0 (λ z. omega (arith, f e)) in rw z
 
@@ -149,15 +140,15 @@ module _ (zs : List ℕ) (long : length zs ≡ 8192) (h : Head) (ps : List Pair)
 
   -- what comes back fits the list, and its records
   back-enough : {k : ℕ} {new : Head} {back : ℕ} {after : List Lists.Pair} {words : List ℕ} → Edited h (length ps) k new back after words →
-      Enough-back ps words (edit-of h k new back .count)
-  back-enough e = (e .in-list, e .room, omega (arith, e .room, e .long), e .fit)
+      Room-back ps words (edit-of h k new back .count)
+  back-enough e = record { room = record { enough = e .in-list; few = e .room; long = λ _. omega (arith, e .long) }; fits = e .fit }
 
   -- ADD: the answer on words is the call's
   pub add-change : Change Add-says add-edit add-words zs h ps a b
   unfolding added add-edit edit-of add-on-number
   add-change =
       let same = out-add-number zs long h ps a b in
-      let done = add-edited h t (length ps) (out zs h ps) a b (out-ready zs long h ps) in
+      let done = add-edited h t (length ps) (out zs h ps) a b (out-ready zs long h ps) (out-long zs long h ps) in
       let new : List Lists.Pair → List Pair = λ qs. as-records (insert-pair (smaller-first-pair a b) qs) ++ drop (h .m + 1) ps in
       record {
         long = done .long;
@@ -167,7 +158,7 @@ module _ (zs : List ℕ) (long : length zs ≡ 8192) (h : Head) (ps : List Pair)
           head = ap (λ (k : ℕ). if-taken k (head-of (h .n) (h .m + 1)) h) same;
           list =
               back-is h _ _ _ (h .m + 1) _ _ ps done
-              ∙ ap (λ (k : ℕ). if-taken k (new (ones-in (h .m) (out zs h ps))) ps) same
+              ∙ ap (λ (k : ℕ). if-taken k (new (laid-pairs (h .m) (out zs h ps))) ps) same
               ∙ taken-held (add-number h ps a b) new (λ d. unfold add-number in (add-13 _ _ _ a b (rw d)));
         };
       }
@@ -177,9 +168,9 @@ module _ (zs : List ℕ) (long : length zs ≡ 8192) (h : Head) (ps : List Pair)
   unfolding removed remove-edit edit-of remove-on-number
   remove-change =
       let same = out-remove-number zs long h ps a b in
-      let done = remove-edited h t (length ps) (out zs h ps) a b (out-ready zs long h ps) in
+      let done = remove-edited h t (length ps) (out zs h ps) a b (out-ready zs long h ps) (out-long zs long h ps) in
       let new : List Lists.Pair → List Pair =
-      λ qs. as-records (remove-pair (smaller-first-pair a b) qs) ++ (record { a = 0; b = 0 } ∷ drop (h .m) ps) in
+      λ qs. as-records (remove-pair (smaller-first-pair a b) qs) ++ (blank ∷ drop (h .m) ps) in
       record {
         long = done .long;
         back = back-enough done;
@@ -188,9 +179,9 @@ module _ (zs : List ℕ) (long : length zs ≡ 8192) (h : Head) (ps : List Pair)
           head = ap (λ (k : ℕ). if-taken k (head-of (h .n) (h .m - 1)) h) same;
           list =
               back-is h _ _ _ (h .m) _ _ ps done
-              ∙ ap (λ (qs : List Pair). if-taken (refusal (remove-causes (not (agrees h ps)) (word-list h (out zs h ps)) a b)) qs ps)
-              (freed (remove-pair (smaller-first-pair a b) (ones-in (h .m) (out zs h ps))) (drop (h .m) ps))
-              ∙ ap (λ (k : ℕ). if-taken k (new (ones-in (h .m) (out zs h ps))) ps) same
+              ∙ ap (λ (qs : List Pair). if-taken (refusal (remove-causes (not (agrees h ps)) (laid-list (h .n) (h .m) (out zs h ps)) a b)) qs ps)
+              (freed (remove-pair (smaller-first-pair a b) (laid-pairs (h .m) (out zs h ps))) (drop (h .m) ps))
+              ∙ ap (λ (k : ℕ). if-taken k (new (laid-pairs (h .m) (out zs h ps))) ps) same
               ∙ taken-held (remove-number h ps a b) new (λ d. unfold remove-number in (remove-13 _ _ a b (rw d)));
         };
       }

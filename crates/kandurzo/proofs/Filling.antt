@@ -1,104 +1,78 @@
--- Loops that overwrite a buffer from the front.
+-- Loops that write the front of a buffer, and the work buffer after a call.
 --   Turning, turning-start, turning-step, turning-done    the entries before j are the new ones
---   length-filled, filled-front, filled-rest, filled-at, filled-low    what `filled` holds
---   length-front, front-rest, front-at                    the first n of one list in front of another's
---   work-zeros, work-same                                 what `work-left` says of a number
+--   zeros-length                        16,384 zeros
+--   work-zeros, left-open, left-shut    what `work-left` says of a number, and of the gate's
+--   cleared-past                        buffers that are the same past some of the 16,384 words are cleared to the same
 -- Assumes nothing.
 use mathlib.Core.Path.{_≡_, refl, sym, ap, _∙_}
 use mathlib.Core.Bool.{true, _||_}
-use mathlib.Core.List.{List, _++_, append-assoc}
+use mathlib.Core.List.{List, _++_}
 use Prim.Native.Nat.{ℕ, _+_, _-_, _≤_, _<_}
 use native.Mathlib.Omega.{arith}
 use native.Mathlib.Numerals.{add-one}
 use lib.Dec.{eqb}
-use lib.ListN.{length, getD, set, take, drop, replicate, length-append, length-drop, length-replicate, length-set, getD-replicate, List·getD-append}
-use lib.Seq.{length-take-le, take-at, drop-at, getD-take, getD-append-add}
+use lib.ListN.{length, getD, set, drop, replicate, length-append, length-drop, length-replicate, length-set, List·getD-append}
+use lib.Seq.{drop-at, drop-drop}
 use borrow.Author.Tests.{ne-eqb}
 use Rattle.pairs.proofs.Moves.{turned, turned-none, turned-step, turned-all}
-use Rattle.kandurzo.specs.Buffers.{in-front, filled, work-words, work-left}
+use Rattle.records.specs.declared.Head.{Head}
+use Rattle.kandurzo.specs.Buffers.{Buffer, in-front, work-words, cleared, work-left}
+use Rattle.kandurzo.specs.Gate.{Behind}
 
--- the entries before j are those of `new`, the others those of `old`
-pub record Turning (from to : ℕ) (new old now : List ℕ) (j : ℕ) : Type 0 where
-  pub above : from ≤ j
-  pub below : j ≤ to
+-- the entries before j are those of xs, the others those of `old`
+pub record Turning (xs old now : List ℕ) (j : ℕ) : Type 0 where
+  pub below : j ≤ length xs
   pub long : length now ≡ length old
-  pub turned-to : now ≡ turned j new old
+  pub turned-to : now ≡ turned j (in-front xs old) old
 
-module _ (from to : ℕ) (new old : List ℕ) (alike : length new ≡ length old) (room : to ≤ length old) where
-  pub turning-start : from ≤ to → take from new ≡ take from old → Turning from to new old old from
-  turning-start h e = record { above = omega arith; below = h; long = refl; turned-to = sym (turned-none new old alike from e) }
+module _ (xs old : List ℕ) (room : length xs ≤ length old) where
+  alike : length (in-front xs old) ≡ length old
+  unfolding in-front
+  alike = length-append xs (drop (length xs) old) ∙ omega (arith, length-drop (length xs) old)
 
-  pub turning-step : {now : List ℕ} {j v : ℕ} → Turning from to new old now j → j < to → v ≡ getD new j 0 →
-      Turning from to new old (set now j v) (j + 1)
+  pub turning-start : Turning xs old old 0
+  turning-start = record { below = omega arith; long = refl; turned-to = sym (turned-none (in-front xs old) old alike 0 refl) }
+
+  pub turning-step : {now : List ℕ} {j v : ℕ} → Turning xs old now j → j < length xs → v ≡ getD xs j 0 → Turning xs old (set now j v) (j + 1)
   turning-step {now} {j} {v} t h e =
+      let same : v ≡ getD (in-front xs old) j 0 = unfold in-front in (e ∙ sym (List·getD-append xs (drop (length xs) old) 0 j h)) in
       record {
-        above = omega (arith, t .above);
         below = omega arith;
         long = length-set now j v ∙ t .long;
-        turned-to = rw (e, t .turned-to, add-one) (turned-step new old alike j (omega arith));
+        turned-to = rw (same, t .turned-to, add-one) (turned-step (in-front xs old) old alike j (omega arith));
       }
 
-  pub turning-done : {now : List ℕ} {j : ℕ} → Turning from to new old now j → to ≤ j → drop to new ≡ drop to old → now ≡ new
-  turning-done {now} {j} t h e =
-      let same : j ≡ to = omega (arith, t .below) in
-      t .turned-to ∙ ap (λ (i : ℕ). turned i new old) same ∙ turned-all new old alike to e
-
--- ---- filled
-
-module _ (i j v : ℕ) (xs : List ℕ) (h : i ≤ j) (room : j ≤ length xs) where
-  front : length (take i xs) ≡ i
-  front = length-take-le i xs (omega arith)
-
-  pub length-filled : length (filled i j v xs) ≡ length xs
-  unfolding filled
-  length-filled =
-      length-append (take i xs) _
-      ∙ omega (arith, front, length-append (replicate (j - i) v) (drop j xs), length-replicate (j - i) v, length-drop j xs)
-
-  pub filled-front : take i (filled i j v xs) ≡ take i xs
-  unfolding filled
-  filled-front = take-at (take i xs) _ i front
-
-  pub filled-rest : drop j (filled i j v xs) ≡ drop j xs
-  unfolding filled
-  filled-rest =
-      ap (λ (ys : List ℕ). drop j ys) (sym (append-assoc (take i xs) (replicate (j - i) v) (drop j xs)))
-      ∙ drop-at (take i xs ++ replicate (j - i) v) (drop j xs) j
-      (length-append (take i xs) (replicate (j - i) v) ∙ omega (arith, front, length-replicate (j - i) v))
-
-  pub filled-at : (k : ℕ) → i ≤ k → k < j → getD (filled i j v xs) k 0 ≡ v
-  unfolding filled
-  filled-at k l m =
-      let at : k ≡ length (take i xs) + (k - i) = omega (arith, front) in
-      ap (λ (n : ℕ). getD (take i xs ++ (replicate (j - i) v ++ drop j xs)) n 0) at
-      ∙ getD-append-add (take i xs) (replicate (j - i) v ++ drop j xs) (k - i) 0
-      ∙ List·getD-append (replicate (j - i) v) (drop j xs) 0 (k - i) (omega (arith, length-replicate (j - i) v))
-      ∙ getD-replicate (j - i) (k - i) v 0 (omega arith)
-
-  pub filled-low : (k : ℕ) → k < i → getD (filled i j v xs) k 0 ≡ getD xs k 0
-  unfolding filled
-  filled-low k l = List·getD-append (take i xs) _ 0 k (omega (arith, front)) ∙ getD-take i xs k 0 l
-
--- ---- the first n of one list in front of another's
-
-module _ (n : ℕ) (ws xs : List ℕ) (h : n ≤ length ws) (room : n ≤ length xs) where
-  pub length-front : length (take n ws ++ drop n xs) ≡ length xs
-  length-front = length-append (take n ws) (drop n xs) ∙ omega (arith, length-take-le n ws h, length-drop n xs)
-
-  pub front-rest : drop n (take n ws ++ drop n xs) ≡ drop n xs
-  front-rest = drop-at (take n ws) (drop n xs) n (length-take-le n ws h)
-
-  pub front-at : (k : ℕ) → k < n → getD (take n ws ++ drop n xs) k 0 ≡ getD ws k 0
-  front-at k l = List·getD-append (take n ws) (drop n xs) 0 k (omega (arith, length-take-le n ws h)) ∙ getD-take n ws k 0 l
+  pub turning-done : {now : List ℕ} {j : ℕ} → Turning xs old now j → length xs ≤ j → now ≡ in-front xs old
+  turning-done {now} {j} t h =
+      let same : j ≡ length xs = omega (arith, t .below) in
+      let rest : drop (length xs) (in-front xs old) ≡ drop (length xs) old = unfold in-front in (drop-at xs (drop (length xs) old) (length xs) refl) in
+      t .turned-to ∙ ap (λ (i : ℕ). turned i (in-front xs old) old) same ∙ turned-all (in-front xs old) old alike (length xs) rest
 
 -- ---- the work buffer after a call
 
+pub zeros-length : length (replicate {A = ℕ} work-words 0) ≡ 16384
+unfolding work-words
+zeros-length = length-replicate {A = ℕ} 16384 0
+
 -- a number that is neither 12 nor 13 leaves zeros
-pub work-zeros : (k : ℕ) (w : List ℕ) → (k ≡ 12 → ⊥) → (k ≡ 13 → ⊥) → work-left k w ≡ in-front (replicate work-words 0) w
+pub work-zeros : (k : ℕ) (w : List ℕ) → (k ≡ 12 → ⊥) → (k ≡ 13 → ⊥) → work-left k w ≡ cleared w
 unfolding work-left
 work-zeros k w a b = rw (ne-eqb k 12 a, ne-eqb k 13 b)
 
--- 12 and 13 leave it as it was
-pub work-same : (k : ℕ) (w : List ℕ) → (eqb k 12 || eqb k 13) ≡ true → work-left k w ≡ w
+-- an open gate leaves zeros
+pub left-open : {gate : ℕ} (w : List ℕ) → gate ≡ 0 → work-left gate w ≡ cleared w
+left-open {gate} w z = work-zeros gate w (λ e. omega (arith, z, e)) (λ e. omega (arith, z, e))
+
+-- a shut one the buffer as it was
+pub left-shut : {h : Head} {gate : ℕ} {work : List ℕ} {lent : List Buffer} → Behind h gate work lent → (gate ≡ 0 → ⊥) → work ≡ work-left gate work
 unfolding work-left
-work-same k w e = rw e
+left-shut {gate = gate} b n = let s : (eqb gate 12 || eqb gate 13) ≡ true = b .shut n in sym (rw s)
+
+-- from word k on the same, k among the first 16,384: cleared, they are the same
+pub cleared-past : (k : ℕ) (v w : List ℕ) → k ≤ 16384 → drop k v ≡ drop k w → cleared v ≡ cleared w
+unfolding cleared in-front
+cleared-past k v w l e =
+    let far : k + (16384 - k) ≡ length (replicate {A = ℕ} work-words 0) = omega (arith, zeros-length) in
+    ap (λ (xs : List ℕ). replicate work-words 0 ++ xs)
+    (ap (λ (i : ℕ). drop i v) (sym far) ∙ sym (drop-drop (16384 - k) k v) ∙ ap (drop (16384 - k)) e ∙ drop-drop (16384 - k) k w
+    ∙ ap (λ (i : ℕ). drop i w) far)

@@ -1,16 +1,16 @@
 -- From the records to the words: what check and surplus say of the words is what they say of the lent records.
 --   gate-first, gate-then     a number of the gate is the call's; where it is open the causes behind it decide
---   check-enough, surplus-enough    where the gate is open the buffers are long enough
+--   check-enough, check-long, surplus-enough    where the gate is open the buffers are long enough
 --   check-call, surplus-call  the calls' promises
 -- Assumes nothing.
 use mathlib.Core.Path.{_≡_, refl, sym, _∙_}
-use mathlib.Core.Bool.{Bool, true, false, _||_, not, cond}
+use mathlib.Core.Bool.{Bool, true, false, not, cond}
 use mathlib.Core.List.{List, _++_}
 use Prim.Native.Nat.{ℕ, _≤_, _<_}
 use native.Mathlib.Omega.{arith}
 use lib.Dec.{eqb}
 use lib.ListN.{length, take}
-use borrow.Author.Tests.{ltb-false, eqb-true, eqb-false}
+use borrow.Author.Tests.{eqb-true, eqb-false}
 use Rattle.theory.specs.Lists.{Pairs}
 use Rattle.theory.specs.Groups.{is-group, size}
 use Rattle.theory.specs.Splits.{shares-good}
@@ -24,12 +24,12 @@ use Rattle.verify.specs.Answers.{Check-says, Surplus-says}
 use Rattle.records.specs.declared.Pair.{Pair}
 use Rattle.records.specs.declared.Head.{Head}
 use Rattle.records.specs.Records.{held-list, agrees}
-use Rattle.kandurzo.specs.Buffers.{work-words}
+use Rattle.kandurzo.specs.Buffers.{buffer, any-short, work-words}
 use Rattle.kandurzo.specs.Gate.{gate-causes, gate-number}
-use Rattle.kandurzo.specs.Judging.{check-short, check-order, Check-call, surplus-short, surplus-order, Surplus-call, Check-on, Surplus-on}
+use Rattle.kandurzo.specs.Judging.{check-buffers, check-call-causes, Check-call, surplus-buffers, surplus-call-causes, Surplus-call, Check-on, Surplus-on}
 use Rattle.pairs.proofs.General.{by-test}
 use Rattle.kandurzo.proofs.Filling.{work-zeros}
-use Rattle.kandurzo.proofs.Gates.{work-in, work-in-list, work-in-left}
+use Rattle.kandurzo.proofs.Gates.{none-short, work-in, work-in-list, work-in-left}
 
 -- ---- the gate stands first
 
@@ -46,10 +46,6 @@ module _ (d short : Bool) (rest : List Cause) where
       go false true e = absurd (omega arith)
       go false false e = refl
 
-pub or-none : (a b : Bool) → (a || b) ≡ false → (a ≡ false) × (b ≡ false)
-or-none true b e = (e, absurd (let z : _≡_ {A = ℕ} 0 1 = cc in omega arith))
-or-none false b e = (refl, e)
-
 -- 7, 8, 9 or none
 check-few : (g : Pairs) (s xs : List ℕ) → check-number g s xs < 10
 unfolding check-number check-causes refusal cause
@@ -63,41 +59,39 @@ check-few g s xs = go (not (is-group g s)) (not (shares-good (size s) (g .pairs)
 
 -- ---- check
 
+module _ (h : Head) (members shares work : ℕ) (none : any-short (check-buffers h members shares work) ≡ false) where
+  pub check-enough : (h .n ≤ members) × (h .m ≤ shares) × (16384 ≤ work)
+  unfolding check-buffers buffer work-words
+  check-enough = let x = none-short _ none in (x .0, x .1 .0, x .1 .1)
+
+  pub check-long : 12288 ≤ work
+  check-long = omega (arith, check-enough .2)
+
 module _ (h : Head) (ps : List Pair) (members shares work : List ℕ) where
   abbrev short : Bool
-  short = check-short h (length members) (length shares) (length work)
-
-  pub check-enough : short ≡ false → (h .n ≤ length members) × (h .m ≤ length shares) × (16384 ≤ length work)
-  unfolding check-short work-words
-  check-enough e =
-      let x = or-none _ _ e in
-      let y = or-none _ _ (x .1) in
-      (ltb-false _ _ (x .0), ltb-false _ _ (y .0), ltb-false _ _ (y .1))
+  short = any-short (check-buffers h (length members) (length shares) (length work))
 
   abbrev gate : ℕ
   gate = gate-number h ps short
-
-  long : short ≡ false → 16384 ≤ length work
-  long e = check-enough e .2
 
   rest : List Cause
   rest = check-causes (held-list h ps) (take (h .n) members) (take (h .m) shares)
 
   module _ {v : Verdict} {work′ : List ℕ} (on : Check-on h gate members shares (work-in h ps short work) v work′) where
     pub check-call : Check-call h ps members shares work v work′
-    unfolding check-number check-order gate-number if-taken rest
+    unfolding check-number check-call-causes gate-number gate-causes if-taken rest
     check-call =
         by-test (eqb gate 0)
         (λ e.
         let z : gate ≡ 0 = eqb-true _ 0 e in
-        let says : Check-says (held-list h ps) (take (h .n) members) (take (h .m) shares) v = rw (work-in-list h ps short work long z) at (on .judged z) in
+        let says : Check-says (held-list h ps) (take (h .n) members) (take (h .m) shares) v = rw (work-in-list h ps short work (check-long h _ _ _) z) at (on .judged z) in
         let low = check-few (held-list h ps) (take (h .n) members) (take (h .m) shares) in
         record {
           number = says .number ∙ sym (gate-then (not (agrees h ps)) short rest z);
           p = rw (says .number) (says .p);
           q = rw (says .number) (says .q);
           optimal = says .optimal;
-          left = on .left ∙ work-in-left h ps short work long
+          left = on .left ∙ work-in-left h ps short work (check-long h _ _ _)
               ∙ work-zeros gate work (λ x. omega (arith, z, x)) (λ x. omega (arith, z, x))
               ∙ sym (work-zeros (v .number) work (λ x. omega (arith, says .number, low)) (λ x. omega (arith, says .number, low)));
         })
@@ -109,18 +103,18 @@ module _ (h : Head) (ps : List Pair) (members shares work : List ℕ) where
           p = sym (rw e);
           q = sym (rw e);
           optimal = λ x. absurd (n x);
-          left = on .left ∙ work-in-left h ps short work long;
+          left = on .left ∙ work-in-left h ps short work (check-long h _ _ _);
         }))
 
 -- ---- surplus
 
+pub surplus-enough : (h : Head) (first second : ℕ) → any-short (surplus-buffers h first second) ≡ false → (h .n ≤ first) × (h .n ≤ second)
+unfolding surplus-buffers buffer
+surplus-enough h first second e = none-short _ e
+
 module _ (h : Head) (ps : List Pair) (t s words : List ℕ) where
   abbrev too-short : Bool
-  too-short = surplus-short h (length t) (length s)
-
-  pub surplus-enough : too-short ≡ false → (h .n ≤ length t) × (h .n ≤ length s)
-  unfolding surplus-short
-  surplus-enough e = let x = or-none _ _ e in (ltb-false _ _ (x .0), ltb-false _ _ (x .1))
+  too-short = any-short (surplus-buffers h (length t) (length s))
 
   abbrev gate′ : ℕ
   gate′ = gate-number h ps too-short
@@ -128,9 +122,9 @@ module _ (h : Head) (ps : List Pair) (t s words : List ℕ) where
   rest′ : List Cause
   rest′ = surplus-causes (held-list h ps) (take (h .n) t) (take (h .n) s)
 
-  module _ (long : too-short ≡ false → 16384 ≤ length words) {d : Difference} (on : Surplus-on h gate′ t s (work-in h ps too-short words) d) where
+  module _ (long : too-short ≡ false → 12288 ≤ length words) {d : Difference} (on : Surplus-on h gate′ t s (work-in h ps too-short words) d) where
     pub surplus-call : Surplus-call h ps t s d
-    unfolding surplus-number surplus-order gate-number if-taken rest′
+    unfolding surplus-number surplus-call-causes gate-number gate-causes if-taken rest′
     surplus-call =
         by-test (eqb gate′ 0)
         (λ e.

@@ -1,7 +1,7 @@
 -- Read: from the bytes to words, and from the words to the lent records.
 --   file-few                    a file is refused by a number below 12: 12 is the work buffer's length alone
---   zeros-past, left-filled     zeros in front of the work buffer
 --   read-short, read-file-on    what read answers on words: of a short work buffer, and of any other
+--   Reads, reads-file           what is asked of a reader
 --   outcome-taken               what is taken
 --   read-enough, read-long      what the copy and the clearing ask
 --   read-says                   the call's promise
@@ -11,43 +11,42 @@ use mathlib.Core.Path.{_≡_, refl, sym, ap, _∙_}
 use mathlib.Core.Bool.{Bool, true, false, cond}
 use mathlib.Core.List.{List, [], _∷_, _++_}
 use mathlib.Core.Option.{Option, none, some}
-use Prim.Native.Nat.{ℕ, zero, suc, _+_, _*_, _-_, _≤_, _<_}
+use Prim.Native.Nat.{ℕ, zero, suc, _+_, _*_, _≤_, _<_}
 use native.Mathlib.Omega.{arith}
 use lib.Dec.{ltb}
-use lib.ListN.{length, drop, replicate, length-replicate}
-use lib.Seq.{drop-drop}
-use borrow.Author.Tests.{ltb-false, lt-ltb, le-ltb}
+use lib.ListN.{length, drop}
+use borrow.Author.Tests.{lt-ltb, le-ltb}
 use Rattle.theory.specs.Basics.{all}
 use Rattle.theory.specs.Lists as Lists
-use Rattle.theory.specs.Lists.{Pairs}
+use Rattle.theory.specs.Lists.{Pairs, is-list}
+use Rattle.theory.specs.Words.{laid-pairs}
 use Rattle.theory.specs.Refusals.{Cause, cause, refusal}
 use Rattle.theory.proofs.Lists.{listed}
+use Rattle.theory.proofs.Words.{length-laid}
 use Rattle.theory.proofs.Tests.{tests}
 use Rattle.pairs.specs.Held.{insert-pair}
 use Rattle.pairs.specs.Causes.{pair-causes}
-use Rattle.pairs.specs.Located.{ones-in}
 use Rattle.pairs.proofs.Keeps.{counts-once}
-use Rattle.pairs.proofs.Weights.{length-ones}
 use Rattle.pairfile.specs.Outcomes.{Outcome, refused, taken, _>>=_, _>>_, passed, judge}
 use Rattle.pairfile.specs.Lines.{modules-form, pairs-form, pair-form, Line, first, second, line-of}
 use Rattle.pairfile.specs.File.{line-or-1, line-due, count-line, modules-causes, modules-line, pairs-causes, pairs-line, pair-line-causes, pair-line, end-causes, read-pairs, read-file}
 use Rattle.pairfile.specs.Promise.{ones}
-use Rattle.pairfile.specs.Answers.{reading-of, pairs-of, words-used, FileRead}
+use Rattle.pairfile.specs.Answers.{reading-of, pairs-of, pairs-used, FileRead}
 use Rattle.pairfile.specs.declared.Reading.{Reading}
 use Rattle.pairfile.proofs.Taken.{refused-not-taken}
 use Rattle.pairfile.proofs.Accepts.{accepted}
 use Rattle.pairfile.proofs.Readings.{words-small}
 use Rattle.records.specs.declared.Pair.{Pair}
 use Rattle.records.specs.declared.Head.{Head}
-use Rattle.records.specs.Records.{held-list, agrees, narrow, put-back}
-use Rattle.records.proofs.Steps.{Enough-back}
+use Rattle.records.specs.Records.{held-list, agrees, put-back, Fits-records, Room-back}
 use Rattle.kandurzo.specs.declared.Edit.{Edit}
 use Rattle.kandurzo.specs.Listing.{head-of, as-records}
-use Rattle.kandurzo.specs.Buffers.{in-front, filled, work-words, work-left}
-use Rattle.kandurzo.specs.Reading.{read-outcome, read-head, records-front, Read-call, Read-on}
+use Rattle.kandurzo.specs.Buffers.{buffer, any-short, work-words, cleared, work-left}
+use Rattle.kandurzo.specs.Reading.{Reader, read-buffers, read-outcome, read-head, records-front, Read-call, Read-on}
 use Rattle.kandurzo.proofs.Outcomes.{answer}
-use Rattle.kandurzo.proofs.Filling.{work-zeros}
-use Rattle.kandurzo.proofs.Calls.{records-ones}
+use Rattle.kandurzo.proofs.Filling.{work-zeros, cleared-past}
+use Rattle.kandurzo.proofs.Gates.{none-short}
+use Rattle.kandurzo.proofs.Calls.{records-laid}
 use Rattle.kandurzo.proofs.Taken.{held-front, agrees-front}
 
 -- ---- the numbers of a file
@@ -118,42 +117,18 @@ file-few room bs =
     (count-few pairs-form (l .rest) (pairs-causes room) (λ n. unfold pairs-causes cause all low in refl))
     (λ k. bind-few (read-pairs (first l) (first k) [] (k .rest)) _ (pairs-few (first l) (first k) [] (k .rest)) (λ ps. taken-few _)))
 
--- ---- zeros in front of the work buffer
-
-zeros-length : length (replicate {A = ℕ} work-words 0) ≡ 16384
-unfolding work-words
-zeros-length = length-replicate {A = ℕ} 16384 0
-
--- where two buffers are the same from word k on, and k is in the first 16,384, zeros in front make them the same
-pub zeros-past : (k : ℕ) (v w : List ℕ) → k ≤ 16384 → drop k v ≡ drop k w →
-    in-front (replicate work-words 0) v ≡ in-front (replicate work-words 0) w
-unfolding in-front
-zeros-past k v w l e =
-    let far : k + (16384 - k) ≡ length (replicate {A = ℕ} work-words 0) = omega (arith, zeros-length) in
-    ap (λ (xs : List ℕ). replicate work-words 0 ++ xs)
-    (ap (λ (i : ℕ). drop i v) (sym far) ∙ sym (drop-drop (16384 - k) k v) ∙ ap (drop (16384 - k)) e ∙ drop-drop (16384 - k) k w
-    ∙ ap (λ (i : ℕ). drop i w) far)
-
-filled-zeros : (w : List ℕ) → filled 0 16384 0 w ≡ in-front (replicate work-words 0) w
-unfolding in-front work-words filled
-filled-zeros w = ap (λ (i : ℕ). replicate 16384 0 ++ drop i w) (sym (length-replicate {A = ℕ} 16384 0))
-
--- filled with zeros it is what read leaves
-pub left-filled : (k : ℕ) (w : List ℕ) → k < 13 → (k ≡ 12 → ⊥) → filled 0 16384 0 w ≡ work-left k w
-left-filled k w few h = filled-zeros w ∙ sym (work-zeros k w h (λ e. omega arith))
-
 -- ---- on words
 
 -- of a short work buffer: 12, and nothing is written
-pub read-short : (room : ℕ) (bytes work : List ℕ) → length work < 16384 →
-    Read-on room bytes work work (record { number = 12; head = record { n = 0; m = 0 }; count = 0 })
-unfolding read-outcome read-head reading-of pairs-of head-of work-words narrow
-read-short room bytes work h =
-    let s : read-outcome room (length work) bytes ≡ refused 12 = rw (lt-ltb (length work) 16384 h) in
+pub read-short : (read : Reader) (room : ℕ) (bytes work : List ℕ) → length work < 16384 →
+    Read-on read room bytes work work (record { number = 12; head = record { n = 0; m = 0 }; count = 0 })
+unfolding read-outcome read-buffers buffer any-short read-head reading-of pairs-of head-of work-words Fits-records
+read-short read room bytes work h =
+    let s : read-outcome read room (length work) bytes ≡ refused 12 = rw (lt-ltb (length work) 16384 h) in
     record {
       number = ap (λ (o : Outcome Pairs). reading-of o .number) (sym s);
       head = ap read-head (sym s);
-      pairs = nothing (ones-in 0 work) (length-ones 0 work) ∙ ap pairs-of (sym s);
+      pairs = nothing (laid-pairs 0 work) (length-laid 0 work) ∙ ap pairs-of (sym s);
       small = λ j l. absurd (omega (arith, l));
       past = refl;
     }
@@ -171,12 +146,12 @@ number-few room bytes = go (read-file room bytes) refl
     go (refused k) e = file-few room bytes k e
     go (taken g) e = omega arith
 
--- the words used are among the first 8,192
-used-few : (room : ℕ) (bytes : List ℕ) → words-used (read-file room bytes) ≤ 16384
-unfolding words-used
+-- the words used are among the first 12,288
+used-few : (room : ℕ) (bytes : List ℕ) → 8192 + pairs-used (read-file room bytes) ≤ 16384
+unfolding pairs-used
 used-few room bytes = go (read-file room bytes) refl
   where
-    go : (o : Outcome Pairs) → read-file room bytes ≡ o → words-used o ≤ 16384
+    go : (o : Outcome Pairs) → read-file room bytes ≡ o → 8192 + pairs-used o ≤ 16384
     go (refused k) e = omega arith
     go (taken g) e = omega (arith, listed g (accepted room bytes g e .list) .short)
 
@@ -184,24 +159,24 @@ module _ (room : ℕ) (bytes work after : List ℕ) (f : Reading) (long : 16384 
   read-past : work-left (f .number) after ≡ work-left (f .number) work
   read-past =
       let same : f .number ≡ reading-of (read-file room bytes) .number = ap (λ (q : Reading). q .number) (read .reading) in
-      let zeros : (w : List ℕ) → work-left (f .number) w ≡ in-front (replicate work-words 0) w =
+      let zeros : (w : List ℕ) → work-left (f .number) w ≡ cleared w =
       λ w. work-zeros (f .number) w (λ x. omega (arith, number-few room bytes)) (λ x. omega (arith, number-few room bytes)) in
-      zeros after ∙ zeros-past (words-used (read-file room bytes)) after work (used-few room bytes) (read .past) ∙ sym (zeros work)
+      zeros after ∙ cleared-past (8192 + pairs-used (read-file room bytes)) after work (used-few room bytes) (read .past .beyond) ∙ sym (zeros work)
 
   head-is : _≡_ {A = Head} (record { n = f .n; m = f .m }) (read-head (read-file room bytes))
   unfolding read-head head-of
   head-is = ap (λ (q : Reading). head-of (q .n) (q .m)) (read .reading)
 
-  fit-records : narrow (f .m) after
-  unfolding narrow
+  fit-records : Fits-records (f .m) after
+  unfolding Fits-records
   fit-records j l =
       (omega (arith, words-small read (2 * j) (omega arith)), omega (arith, words-small read (2 * j + 1) (omega arith)))
 
   -- of any other: the file's answer
-  pub read-file-on : Read-on room bytes work after (record { number = f .number; head = record { n = f .n; m = f .m }; count = f .m })
-  unfolding read-outcome work-words
+  pub read-file-on : Read-on read-file room bytes work after (record { number = f .number; head = record { n = f .n; m = f .m }; count = f .m })
+  unfolding read-outcome read-buffers buffer any-short work-words
   read-file-on =
-      let s : read-outcome room (length work) bytes ≡ read-file room bytes = rw (le-ltb (length work) 16384 long) in
+      let s : read-outcome read-file room (length work) bytes ≡ read-file room bytes = rw (le-ltb (length work) 16384 long) in
       record {
         number = ap (λ (q : Reading). q .number) (read .reading) ∙ ap (λ (o : Outcome Pairs). reading-of o .number) (sym s);
         head = head-is ∙ ap read-head (sym s);
@@ -210,89 +185,105 @@ module _ (room : ℕ) (bytes work after : List ℕ) (f : Reading) (long : 16384 
         past = read-past;
       }
 
+-- ---- a reader
+
+-- what is asked of one: what it takes is a list that fits, and every pair counts once
+pub record Reads (read : Reader) : Type 0 where
+  pub list : (room : ℕ) (bytes : List ℕ) (g : Pairs) → read room bytes ≡ taken g → is-list g ≡ true
+  pub fits : (room : ℕ) (bytes : List ℕ) (g : Pairs) → read room bytes ≡ taken g → length (g .pairs) ≤ room
+  pub once : (room : ℕ) (bytes : List ℕ) (g : Pairs) → read room bytes ≡ taken g → all counts-once (g .pairs) ≡ true
+
+pub reads-file : Reads read-file
+unfolding counts-once ones
+reads-file = record {
+  list = λ room bytes g e. accepted room bytes g e .list;
+  fits = λ room bytes g e. accepted room bytes g e .fits;
+  once = λ room bytes g e. accepted room bytes g e .once;
+}
+
 -- ---- the call
 
+read-room : {w : ℕ} → any-short (read-buffers w) ≡ false → 16384 ≤ w
+unfolding read-buffers buffer work-words
+read-room e = none-short _ e
+
 -- what is taken: the work buffer is long enough, and the file is taken
-pub outcome-taken : (room w : ℕ) (bytes : List ℕ) (g : Pairs) → read-outcome room w bytes ≡ taken g →
-    (16384 ≤ w) × (read-file room bytes ≡ taken g)
-unfolding read-outcome work-words
-outcome-taken room w bytes g = go (ltb w 16384) refl
+pub outcome-taken : (read : Reader) (room w : ℕ) (bytes : List ℕ) (g : Pairs) → read-outcome read room w bytes ≡ taken g →
+    (16384 ≤ w) × (read room bytes ≡ taken g)
+unfolding read-outcome
+outcome-taken read room w bytes g = go (any-short (read-buffers w)) refl
   where
-    go : (t : Bool) → ltb w 16384 ≡ t → cond t (refused 12) (read-file room bytes) ≡ taken g →
-        (16384 ≤ w) × (read-file room bytes ≡ taken g)
+    go : (t : Bool) → any-short (read-buffers w) ≡ t → cond t (refused 12) (read room bytes) ≡ taken g → (16384 ≤ w) × (read room bytes ≡ taken g)
     go true z e = absurd (refused-not-taken e)
-    go false z e = (ltb-false w 16384 z, e)
+    go false z e = (read-room z, e)
 
--- its pairs fit the list and the work buffer
-abbrev Fitting : (room w : ℕ) → List Lists.Pair → Type 0
-Fitting room w qs = (length qs ≤ room) × (length qs ≤ 4096) × (2 * length qs ≤ w)
+module _ {read : Reader} (reads : Reads read) where
+  -- its pairs fit the list and the words
+  abbrev Fitting : (room w : ℕ) → List Lists.Pair → Type 0
+  Fitting room w qs = (length qs ≤ room) × (length qs ≤ 4096) × (0 < length qs → 12288 ≤ w)
 
-outcome-fits : (room w : ℕ) (bytes : List ℕ) → Fitting room w (pairs-of (read-outcome room w bytes))
-unfolding pairs-of
-outcome-fits room w bytes = go (read-outcome room w bytes) refl
-  where
-    go : (o : Outcome Pairs) → read-outcome room w bytes ≡ o → Fitting room w (pairs-of o)
-    go (refused k) e = (omega arith, omega arith, omega arith)
-    go (taken g) e =
-        let t = outcome-taken room w bytes g e in
-        let a = accepted room bytes g (t .1) in
-        let few : length (g .pairs) ≤ 4096 = listed g (a .list) .short in
-        (a .fits, few, omega (arith, t .0))
+  outcome-fits : (room w : ℕ) (bytes : List ℕ) → Fitting room w (pairs-of (read-outcome read room w bytes))
+  unfolding pairs-of
+  outcome-fits room w bytes = go (read-outcome read room w bytes) refl
+    where
+      go : (o : Outcome Pairs) → read-outcome read room w bytes ≡ o → Fitting room w (pairs-of o)
+      go (refused k) e = (omega arith, omega arith, λ l. absurd (omega (arith, l)))
+      go (taken g) e =
+          let t = outcome-taken read room w bytes g e in
+          (reads .fits room bytes g (t .1), listed g (reads .list room bytes g (t .1)) .short, λ _. omega (arith, t .0))
 
--- the number: 12 of a short work buffer alone, and never 13
-outcome-number : (room w : ℕ) (bytes : List ℕ) →
-    ((reading-of (read-outcome room w bytes) .number ≡ 12 → ⊥) → 16384 ≤ w) × (reading-of (read-outcome room w bytes) .number < 13)
-unfolding read-outcome work-words
-outcome-number room w bytes = go (ltb w 16384) refl
-  where
-    go : (t : Bool) → ltb w 16384 ≡ t → let o = cond t (refused 12) (read-file room bytes) in
-        ((reading-of o .number ≡ 12 → ⊥) → 16384 ≤ w) × (reading-of o .number < 13)
-    go true z = unfold reading-of in (λ h. absurd (h refl), omega arith)
-    go false z = (λ h. ltb-false w 16384 z, omega (arith, number-few room bytes))
+  module _ (bytes : List ℕ) (ps : List Pair) (work after : List ℕ) (e : Edit) (on : Read-on read (length ps) bytes work after e) where
+    count-is : length (pairs-of (read-outcome read (length ps) (length work) bytes)) ≡ e .count
+    count-is = ap length (sym (on .pairs)) ∙ length-laid (e .count) after
 
-module _ (bytes : List ℕ) (ps : List Pair) (work after : List ℕ) (e : Edit) (on : Read-on (length ps) bytes work after e) where
-  count-is : length (pairs-of (read-outcome (length ps) (length work) bytes)) ≡ e .count
-  count-is = ap length (sym (on .pairs)) ∙ length-ones (e .count) after
+    -- what the copy asks
+    pub read-enough : length after ≡ length work → Room-back ps after (e .count)
+    read-enough same =
+        let f = outcome-fits (length ps) (length work) bytes in
+        record {
+          room = record {
+            enough = omega (arith, f .0, count-is);
+            few = omega (arith, f .1, count-is);
+            long = λ l. omega (arith, f .2 (omega (arith, l, count-is)), same);
+          };
+          fits = on .small;
+        }
 
-  -- what the copy asks
-  pub read-enough : length after ≡ length work → Enough-back ps after (e .count)
-  read-enough same =
-      let f = outcome-fits (length ps) (length work) bytes in
-      (omega (arith, f .0, count-is), omega (arith, f .1, count-is), omega (arith, f .2, count-is), on .small)
+    -- what the clearing asks: where it is not 12, the work buffer is long enough
+    pub read-long : length after ≡ length work → (e .number ≡ 12 → ⊥) → (e .number ≡ 13 → ⊥) → 16384 ≤ length after
+    unfolding read-outcome
+    read-long same n _ = go (any-short (read-buffers (length work))) refl (on .number)
+      where
+        go : (t : Bool) → any-short (read-buffers (length work)) ≡ t → e .number ≡ reading-of (cond t (refused 12) (read (length ps) bytes)) .number →
+            16384 ≤ length after
+        go true z k = absurd (n (unfold reading-of in k))
+        go false z k = omega (arith, read-room z, same)
 
-  -- what the clearing asks
-  pub read-long : length after ≡ length work → (e .number < 13) × ((e .number ≡ 12 → ⊥) → 16384 ≤ length after)
-  read-long same =
-      let k = outcome-number (length ps) (length work) bytes in
-      (omega (arith, on .number, k .1), λ h. omega (arith, k .0 (λ z. h (on .number ∙ z))))
+    -- READ: number, head, every record, and the work buffer
+    pub read-says : Read-call read bytes ps work (answer e) (put-back ps after (e .count)) (work-left (e .number) after)
+    unfolding put-back records-front
+    read-says =
+        record {
+          number = on .number;
+          head = on .head;
+          records =
+              rw (records-laid (e .count) after, on .pairs)
+              (ap (λ (i : ℕ). as-records (pairs-of (read-outcome read (length ps) (length work) bytes)) ++ drop i ps) (sym count-is));
+          left = on .past;
+        }
 
-  -- READ: number, head, every record, and the work buffer
-  pub read-says :
-      Read-call bytes ps work (answer e) (put-back ps after (e .count)) (work-left (e .number) after)
-  unfolding put-back records-front
-  read-says =
-      record {
-        number = on .number;
-        head = on .head;
-        records =
-            rw (records-ones (e .count) after, on .pairs)
-            (ap (λ (i : ℕ). as-records (pairs-of (read-outcome (length ps) (length work) bytes)) ++ drop i ps) (sym count-is));
-        left = on .past;
-      }
+  -- AFTER A TAKEN FILE the list holds exactly what the file names
+  module _ (bytes : List ℕ) (ps : List Pair) (w : ℕ) (g : Pairs) (e : read-outcome read (length ps) w bytes ≡ taken g) where
+    pub read-held : held-list (read-head (taken g)) (records-front (pairs-of (taken g)) ps) ≡ g
+    unfolding read-head reading-of pairs-of records-front
+    read-held =
+        held-front (g .n) (length (g .pairs)) (g .pairs) (drop (length (g .pairs)) ps) refl
+        (reads .once (length ps) bytes g (outcome-taken read (length ps) w bytes g e .1))
 
--- AFTER A TAKEN FILE the list holds exactly what the file names
-module _ (bytes : List ℕ) (ps : List Pair) (w : ℕ) (g : Pairs) (e : read-outcome (length ps) w bytes ≡ taken g) where
-  once : all counts-once (g .pairs) ≡ true
-  unfolding counts-once ones
-  once = accepted (length ps) bytes g (outcome-taken (length ps) w bytes g e .1) .once
-
-  pub read-held : held-list (read-head (taken g)) (records-front (pairs-of (taken g)) ps) ≡ g
-  unfolding read-head reading-of pairs-of records-front
-  read-held = held-front (g .n) (length (g .pairs)) (g .pairs) (drop (length (g .pairs)) ps) refl once
-
-  -- 13 never follows a taken file
-  pub read-agrees : agrees (read-head (taken g)) (records-front (pairs-of (taken g)) ps) ≡ true
-  unfolding read-head reading-of pairs-of records-front
-  read-agrees =
-      agrees-front (g .n) (length (g .pairs)) (g .pairs) (drop (length (g .pairs)) ps) refl once
-      (accepted (length ps) bytes g (outcome-taken (length ps) w bytes g e .1) .list)
+    -- 13 never follows a taken file
+    pub read-agrees : agrees (read-head (taken g)) (records-front (pairs-of (taken g)) ps) ≡ true
+    unfolding read-head reading-of pairs-of records-front
+    read-agrees =
+        let t = outcome-taken read (length ps) w bytes g e .1 in
+        agrees-front (g .n) (length (g .pairs)) (g .pairs) (drop (length (g .pairs)) ps) refl (reads .once (length ps) bytes g t)
+        (reads .list (length ps) bytes g t)

@@ -4,7 +4,7 @@
 --   some-modules     the found group has a module
 --   handed           with the float this is what solve hands out
 -- Assumes nothing.
-use mathlib.Core.Path.{_≡_, refl, _∙_}
+use mathlib.Core.Path.{_≡_, refl, sym, ap, _∙_}
 use mathlib.Core.Bool.{true}
 use mathlib.Core.List.{List, _++_}
 use Prim.Native.Nat.{ℕ, _≤_, _<_}
@@ -19,7 +19,9 @@ use Rattle.theory.proofs.Bounds.{size-bound}
 use Rattle.densest.specs.declared.Solution.{Solution}
 use Rattle.densest.specs.Solve.{Solves}
 use Rattle.kandurzo.specs.declared.Solved.{Solved}
-use Rattle.kandurzo.specs.Solving.{Fits-16-bits, Handed}
+use Rattle.kandurzo.specs.Buffers.{in-front}
+use Rattle.kandurzo.specs.Gate.{Fits-16-bits}
+use Rattle.kandurzo.specs.Solving.{Handed}
 use Rattle.kandurzo.proofs.Peels.{cores-narrowed, cores-in-front}
 
 module _ (g : Pairs) (held : is-list g ≡ true) (m : ℕ) (few : length (g .pairs) ≡ m) (members numbers sheet members′ numbers′ sheet′ : List ℕ)
@@ -38,16 +40,19 @@ module _ (g : Pairs) (held : is-list g ≡ true) (m : ℕ) (few : length (g .pai
       omega (arith, thin .shares (r .q) (take m sheet′) i low (split-good .1), getD-take m sheet′ i 0 l)
 
   pub sheet-solves : (cores shares : List ℕ) → m ≤ length sheet′ → m ≤ length shares →
-      Solves g members cores shares members′ (take (g .n) numbers′ ++ drop (g .n) cores) (take m sheet′ ++ drop m shares) r
+      Solves g members cores shares members′ (in-front (take (g .n) numbers′) cores) (in-front (take m sheet′) shares) r
+  unfolding in-front
   sheet-solves cores shares long enough =
       let lx = length-take-le m sheet′ long in
+      let front : in-front (take m sheet′) shares ≡ take m sheet′ ++ drop m shares =
+      ap (λ (i : ℕ). take m sheet′ ++ drop i shares) lx in
       record {
         members-long = s .members-long;
-        shares-long = omega (arith, length-append (take m sheet′) (drop m shares), lx, length-drop m shares);
+        shares-long = rw front (omega (arith, length-append (take m sheet′) (drop m shares), lx, length-drop m shares));
         members-rest = s .members-rest;
-        cores-are = cores-narrowed g numbers numbers′ (s .cores-are) cores;
-        shares-rest = rw few (drop-at (take m sheet′) (drop m shares) m lx);
-        solved = rw (few, take-at (take m sheet′) (drop m shares) m lx) (rw few at (s .solved));
+        cores-are = cores-narrowed g numbers numbers′ (s .cores-are) cores ∙ sym (cores-in-front g cores);
+        shares-rest = rw (front, few) (drop-at (take m sheet′) (drop m shares) m lx);
+        solved = rw (front, few, take-at (take m sheet′) (drop m shares) m lx) (rw few at (s .solved));
       }
 
 module _ (g : Pairs) (members cores shares members′ cores′ shares′ : List ℕ) (r : Solution)

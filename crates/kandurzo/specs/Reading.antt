@@ -1,32 +1,39 @@
 -- Document 01, "The list and its calls": what read makes of the bytes of a pair file.
---   read-outcome     the list that is read, or the refusal: 12, then the file's own
+--   Reader           what a file of some form says
+--   read-buffers, read-outcome  what is lent; the list that is read, or the refusal: 12, then the file's own
 --   read-head, records-front    the new head, and new records in front of the others
 --   Read-call        number, head, every record, and the work buffer
 --   Read-on          the same on words, before the records come in
 -- Assumes nothing: these are definitions.
 use mathlib.Core.Path.{_≡_}
 use mathlib.Core.Bool.{cond}
-use mathlib.Core.List.{List, _++_}
+use mathlib.Core.List.{List, [], _∷_, _++_}
 use Prim.Native.Nat.{ℕ}
-use lib.Dec.{ltb}
 use lib.ListN.{length, drop}
 use Rattle.theory.specs.Lists as Lists
 use Rattle.theory.specs.Lists.{Pairs}
-use Rattle.pairs.specs.Located.{ones-in}
+use Rattle.theory.specs.Words.{laid-pairs}
 use Rattle.pairfile.specs.Outcomes.{Outcome, refused}
-use Rattle.pairfile.specs.File.{read-file}
 use Rattle.pairfile.specs.Answers.{reading-of, pairs-of}
 use Rattle.records.specs.declared.Pair.{Pair}
 use Rattle.records.specs.declared.Head.{Head}
-use Rattle.records.specs.Records.{narrow}
+use Rattle.records.specs.Records.{Fits-records}
 use Rattle.kandurzo.specs.declared.Changed.{Changed}
 use Rattle.kandurzo.specs.declared.Edit.{Edit}
 use Rattle.kandurzo.specs.Listing.{head-of, as-records}
-use Rattle.kandurzo.specs.Buffers.{work-words, work-left}
+use Rattle.kandurzo.specs.Buffers.{Buffer, buffer, any-short, work-words, work-left}
 
--- 12, which is the work buffer's length alone; then lines in file order, for a list of `room` records
-unfoldable pub read-outcome : (room work : ℕ) → (bytes : List ℕ) → Outcome Pairs
-read-outcome room work bytes = cond (ltb work work-words) (refused 12) (read-file room bytes)
+-- a reader of files: what a file says, for a list of `room` records
+abbrev pub Reader : Type 0
+Reader = (room : ℕ) → (bytes : List ℕ) → Outcome Pairs
+
+-- 16,384 entries of work
+unfoldable pub read-buffers : (work : ℕ) → List Buffer
+read-buffers w = buffer w work-words ∷ []
+
+-- 12, which is the work buffer's length alone; then what the file says: lines in file order
+unfoldable pub read-outcome : Reader → (room work : ℕ) → (bytes : List ℕ) → Outcome Pairs
+read-outcome read room work bytes = cond (any-short (read-buffers work)) (refused 12) (read room bytes)
 
 -- a new head: the file's N and M; 0,0 beside a refusal
 unfoldable pub read-head : Outcome Pairs → Head
@@ -37,21 +44,21 @@ unfoldable pub records-front : (new : List Lists.Pair) → List Pair → List Pa
 records-front new ps = as-records new ++ drop (length new) ps
 
 -- what read answers of the bytes, and the lent records and the work buffer after it
-pub record Read-call (bytes : List ℕ) (ps : List Pair) (work : List ℕ) (r : Changed) (ps′ : List Pair) (work′ : List ℕ) : Type 0 where
-  pub number : r .number ≡ reading-of (read-outcome (length ps) (length work) bytes) .number
-  pub head : r .head ≡ read-head (read-outcome (length ps) (length work) bytes)
+pub record Read-call (read : Reader) (bytes : List ℕ) (ps : List Pair) (work : List ℕ) (r : Changed) (ps′ : List Pair) (work′ : List ℕ) : Type 0 where
+  pub number : r .number ≡ reading-of (read-outcome read (length ps) (length work) bytes) .number
+  pub head : r .head ≡ read-head (read-outcome read (length ps) (length work) bytes)
   -- the first M records are the file's pairs in rising order, the others are as before; a refused file has none and leaves the records as they were
-  pub records : ps′ ≡ records-front (pairs-of (read-outcome (length ps) (length work) bytes)) ps
+  pub records : ps′ ≡ records-front (pairs-of (read-outcome read (length ps) (length work) bytes)) ps
   pub left : work′ ≡ work-left (r .number) work
 
 -- ---- on words
 
 -- before the records come into the list: their pairs lie in the work buffer's first words
-pub record Read-on (room : ℕ) (bytes work work′ : List ℕ) (e : Edit) : Type 0 where
-  pub number : e .number ≡ reading-of (read-outcome room (length work) bytes) .number
-  pub head : e .head ≡ read-head (read-outcome room (length work) bytes)
-  pub pairs : ones-in (e .count) work′ ≡ pairs-of (read-outcome room (length work) bytes)
+pub record Read-on (read : Reader) (room : ℕ) (bytes work work′ : List ℕ) (e : Edit) : Type 0 where
+  pub number : e .number ≡ reading-of (read-outcome read room (length work) bytes) .number
+  pub head : e .head ≡ read-head (read-outcome read room (length work) bytes)
+  pub pairs : laid-pairs (e .count) work′ ≡ pairs-of (read-outcome read room (length work) bytes)
   -- they fit records
-  pub small : narrow (e .count) work′
+  pub small : Fits-records (e .count) work′
   -- nothing is written after 12, nor past the 16,384 words
   pub past : work-left (e .number) work′ ≡ work-left (e .number) work

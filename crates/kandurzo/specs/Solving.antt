@@ -1,9 +1,9 @@
 -- Document 01, "Solve": the found group, the core numbers, the load sheet, and the record.
---   solve-short              12: a lent buffer is shorter than stated
+--   solve-buffers            what is lent
+--   solve-call-causes        13, 12
 --   No-split, Unsplit        the condition of 15
 --   Solve-number             13, 12, 15
 --   declined                 the record beside a refusal
---   Fits-16-bits             a list whose numbers fit the buffers
 --   Handed                   what is handed out; free are only the shares of pairs inside the core of order K
 --   Solve-call               the call
 --   Solve-on                 the same on words, once the records are out
@@ -11,30 +11,37 @@
 --   Records-in-order         so the records of any two calls; the theorem is records-in-order
 -- Assumes nothing: these are definitions.
 use mathlib.Core.Path.{_≡_}
-use mathlib.Core.Bool.{Bool, true, _||_}
-use mathlib.Core.List.{List}
+use mathlib.Core.Bool.{true, not}
+use mathlib.Core.List.{List, [], _∷_}
 use mathlib.Core.Logic.{_↔_}
-use Prim.Native.Nat.{ℕ, _*_, _≤_, _<_}
+use Prim.Native.Nat.{ℕ, _*_, _<_}
 use lib.Dec.{ltb, leb, eqb}
-use lib.ListN.{length, getD, take, drop}
+use lib.ListN.{length, take, drop}
 use lib.Ieee.{lt, le, eq}
 use Rattle.theory.specs.Lists.{Pairs}
 use Rattle.theory.specs.Groups.{size, inside, Densest, Found}
-use Rattle.theory.specs.Cores.{core, core-number, core-numbers}
-use Rattle.theory.specs.Splits.{shares-good, is-split, greatest-load, rounded-up, outside-good}
+use Rattle.theory.specs.Cores.{core, core-numbers}
+use Rattle.theory.specs.Splits.{is-split, greatest-load, rounded-up, outside-good}
+use Rattle.theory.specs.Refusals.{Cause, cause, refusal}
 use Rattle.theory.specs.Ratio.{float-ratio}
 use Rattle.theory.specs.Promise.{Optimal}
+use Rattle.theory.specs.Words.{laid-list}
 use Rattle.records.specs.declared.Pair.{Pair}
 use Rattle.records.specs.declared.Head.{Head}
-use Rattle.records.specs.Records.{held-list}
+use Rattle.records.specs.Records.{held-list, agrees}
 use Rattle.kandurzo.specs.declared.Solved.{Solved}
-use Rattle.kandurzo.specs.Edits.{word-list}
-use Rattle.kandurzo.specs.Buffers.{in-front, work-words, work-left}
-use Rattle.kandurzo.specs.Gate.{gate-number}
+use Rattle.kandurzo.specs.Buffers.{Buffer, buffer, any-short, in-front, work-words, work-left}
 
--- 12: members or cores shorter than N, shares than M, the work buffer than 16,384
-unfoldable pub solve-short : Head → (members cores shares work : ℕ) → Bool
-solve-short h a c d w = ltb a (h .n) || (ltb c (h .n) || (ltb d (h .m) || ltb w work-words))
+-- N entries of members and of cores, M of shares, 16,384 of work
+unfoldable pub solve-buffers : Head → (members cores shares work : ℕ) → List Buffer
+solve-buffers h a c d w = buffer a (h .n) ∷ buffer c (h .n) ∷ buffer d (h .m) ∷ buffer w work-words ∷ []
+
+-- 13, 12; 15 comes after them, and its condition never holds
+unfoldable pub solve-call-causes : Head → List Pair → (members cores shares work : List ℕ) → List Cause
+solve-call-causes h ps a c d w =
+    cause 13 (not (agrees h ps))
+    ∷ cause 12 (any-short (solve-buffers h (length a) (length c) (length d) (length w)))
+    ∷ []
 
 -- no split at a group's size keeps all loads at or below its inside count
 unfoldable pub No-split : Pairs → (s : List ℕ) → Type 0
@@ -56,11 +63,6 @@ pub record Solve-number (gate : ℕ) (g : Pairs) (number : ℕ) : Type 0 where
 unfoldable pub declined : (number : ℕ) → Solved
 declined k = record { number = k; p = 0; q = 0; k = 0; coresize = 0; ratio = float-ratio 0 1 }
 
--- a list whose core numbers, and shares at up to 512 modules, fit the buffers' 16 bits
-pub record Fits-16-bits (g : Pairs) : Type 0 where
-  pub cores : (v : ℕ) → core-number g v < 65536
-  pub shares : (q : ℕ) (xs : List ℕ) (j : ℕ) → q ≤ 512 → shares-good q (g .pairs) xs ≡ true → getD xs j 0 < 65536
-
 -- in front of the buffers stand the found group's member bytes, the core numbers and a share for each pair; entries past them are as before
 pub record Handed (g : Pairs) (members cores shares : List ℕ) (r : Solved) (members′ cores′ shares′ : List ℕ) : Type 0 where
   pub members-rest : drop (g .n) members′ ≡ drop (g .n) members
@@ -80,7 +82,7 @@ pub record Handed (g : Pairs) (members cores shares : List ℕ) (r : Solved) (me
 
 -- what solve answers, and the lent buffers after it
 pub record Solve-call (h : Head) (ps : List Pair) (members cores shares work : List ℕ) (r : Solved) (members′ cores′ shares′ work′ : List ℕ) : Type 0 where
-  pub number : Solve-number (gate-number h ps (solve-short h (length members) (length cores) (length shares) (length work))) (held-list h ps) (r .number)
+  pub number : Solve-number (refusal (solve-call-causes h ps members cores shares work)) (held-list h ps) (r .number)
   pub handed : r .number ≡ 0 → Handed (held-list h ps) members cores shares r members′ cores′ shares′
   pub refused : (r .number ≡ 0 → ⊥) → (r ≡ declined (r .number)) × (members′ ≡ members) × (cores′ ≡ cores) × (shares′ ≡ shares)
   pub left : work′ ≡ work-left (r .number) work
@@ -88,7 +90,7 @@ pub record Solve-call (h : Head) (ps : List Pair) (members cores shares work : L
 -- on words: behind the gate, with the work buffer cleared
 pub record Solve-on (h : Head) (gate : ℕ) (members cores shares work : List ℕ) (r : Solved) (members′ cores′ shares′ work′ : List ℕ) : Type 0 where
   pub number : r .number ≡ gate
-  pub handed : gate ≡ 0 → Handed (word-list h work) members cores shares r members′ cores′ shares′
+  pub handed : gate ≡ 0 → Handed (laid-list (h .n) (h .m) work) members cores shares r members′ cores′ shares′
   pub refused : (gate ≡ 0 → ⊥) → (r ≡ declined gate) × (members′ ≡ members) × (cores′ ≡ cores) × (shares′ ≡ shares)
   pub left : work′ ≡ work-left gate work
 

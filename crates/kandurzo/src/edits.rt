@@ -1,20 +1,19 @@
 // Add and remove on words: the refusals in their order, then the change. The crate `pairs` does the looking up and the shifting.
 ghost use mathlib.Core.Path.{_≡_};
-ghost use mathlib.Core.Bool.{true, not};
+ghost use mathlib.Core.Bool.{not};
 ghost use mathlib.Core.List.{_∷_};
-ghost use Prim.Native.Nat.{_*_, _≤_, min, max};
-ghost use lib.ListN.{length};
-ghost use Rattle.theory.specs.Lists.{rising};
+ghost use Prim.Native.Nat.{min, max};
+ghost use Rattle.theory.specs.Words.{laid-pairs};
 ghost use Rattle.theory.specs.Refusals.{cause, refusal};
 ghost use Rattle.pairs.specs.Held.{is-held, place-of, smaller-first-pair};
 ghost use Rattle.pairs.specs.Causes.{pair-causes};
-ghost use Rattle.pairs.specs.Located.{ones-in};
+ghost use Rattle.pairs.specs.Located.{Rising-words};
 ghost use Rattle.kandurzo.specs.Listing.{is-full};
 ghost use Rattle.kandurzo.specs.Edits.{records-out, Ready, add-edit, add-words, remove-edit, remove-words};
 use crate::Edit;
 use pairs::Place;
-use pairs::delete_ends;
-use pairs::insert_ends;
+use pairs::delete;
+use pairs::insert;
 use pairs::lookup;
 use pairs::pair_number;
 use records::Head;
@@ -63,9 +62,9 @@ fn first_number(head: Head, agreed: bool, a: u32, b: u32) -> u32
 
 // Whether the pair of a and b is held among the first m, and its place.
 fn find(words: &[u32], m: usize, a: u32, b: u32) -> Place
-    requires { ⌜ (m ≤ 4096) × (2 * m ≤ length (now words)) × (rising (ones-in m (now words)) ≡ true) ⌝ }
-    ensures { λ r. ⌜ (r .held ≡ is-held (smaller-first-pair a b) (ones-in m (now (words .entry))))
-        × (r .at ≡ place-of (smaller-first-pair a b) (ones-in m (now (words .entry)))) ⌝ }
+    requires { ⌜ Rising-words m (now words) ⌝ }
+    ensures { λ r. ⌜ (r .held ≡ is-held (smaller-first-pair a b) (laid-pairs m (now (words .entry))))
+        × (r .at ≡ place-of (smaller-first-pair a b) (laid-pairs m (now (words .entry)))) ⌝ }
 {
     lookup(words, m, lesser(a, b), greater(a, b))
 }
@@ -105,7 +104,7 @@ pub(crate) fn add_on_words(
     if full(head, len) {
         return refused(11, head);
     }
-    insert_ends(words, m, place.at, lesser(a, b), greater(a, b));
+    insert(words, m, place.at, lesser(a, b), greater(a, b), 1);
     Edit {
         number: 0,
         head: Head {
@@ -137,7 +136,7 @@ pub(crate) fn remove_on_words(
     if !place.held {
         return refused(14, head);
     }
-    delete_ends(words, m, place.at);
+    delete(words, m, place.at);
     Edit {
         number: 0,
         head: Head {

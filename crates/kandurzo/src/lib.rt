@@ -7,6 +7,7 @@ mod reading;
 mod solving;
 
 ghost use mathlib.Core.Path.{_≡_};
+ghost use Rattle.pairfile.specs.File.{read-file};
 ghost use Rattle.kandurzo.specs.Listing.{started, changed-to, Add-says, Remove-says};
 ghost use Rattle.kandurzo.specs.Reading.{Read-call};
 ghost use Rattle.kandurzo.specs.Peeling.{Peel-call};
@@ -52,15 +53,15 @@ pub struct Solved {
     pub ratio: f64,
 }
 
-// Not part of the calls. A change of the words: the number, the head after it, and how many records come back to the list.
-pub struct Edit {
+// A change of the words: the number, the head after it, and how many records come back to the list.
+pub(crate) struct Edit {
     pub number: u32,
     pub head: Head,
     pub count: usize,
 }
 
-// Not part of the calls. What the first two refusals say: 13, 12 or 0, and how many records go out to the work buffer.
-pub struct Gate {
+// What the first two refusals say: 13, 12 or 0, and how many records go out to the work buffer.
+pub(crate) struct Gate {
     pub number: u32,
     pub out: usize,
 }
@@ -97,7 +98,7 @@ pub extern "C" fn kandurzo_add(head: Head, list: &mut [Pair], a: u32, b: u32) ->
     ensures { λ r. ⌜ Add-says head (now (list .entry)) a b r (now (list .exit)) ⌝ }
 {
     let agreed = agree(head, list);
-    let mut words = [0u32; 8192];
+    let mut words = [0u32; 12288];
     let out = records_out(head, agreed);
     copy_out(list, &mut words, out);
     let edit = add_on_words(head, agreed, list.len(), &mut words, a, b);
@@ -116,7 +117,7 @@ pub extern "C" fn kandurzo_remove(head: Head, list: &mut [Pair], a: u32, b: u32)
     ensures { λ r. ⌜ Remove-says head (now (list .entry)) a b r (now (list .exit)) ⌝ }
 {
     let agreed = agree(head, list);
-    let mut words = [0u32; 8192];
+    let mut words = [0u32; 12288];
     let out = records_out(head, agreed);
     copy_out(list, &mut words, out);
     let edit = remove_on_words(head, agreed, list.len(), &mut words, a, b);
@@ -157,7 +158,7 @@ pub use kandurzo_remove_from as remove_from;
 // 1, 4, 5, 10; 6. A refused file leaves every record as it was.
 #[no_mangle]
 pub extern "C" fn kandurzo_read(bytes: &[u8], list: &mut [Pair], work: &mut [u32]) -> Changed
-    ensures { λ r. ⌜ Read-call (now (bytes .entry)) (now (list .entry)) (now (work .entry)) r (now (list .exit)) (now (work .exit)) ⌝ }
+    ensures { λ r. ⌜ Read-call read-file (now (bytes .entry)) (now (list .entry)) (now (work .entry)) r (now (list .exit)) (now (work .exit)) ⌝ }
 {
     let answer = read_on_words(bytes, list.len(), work);
     copy_in(list, work, answer.count);
@@ -251,7 +252,7 @@ pub extern "C" fn kandurzo_surplus(
     ensures { λ r. ⌜ Surplus-call head (now (list .entry)) (now (first .entry)) (now (second .entry)) r ⌝ }
 {
     let agreed = agree(head, list);
-    let mut words = [0u32; 16384];
+    let mut words = [0u32; 12288];
     let gate = surplus_gate(head, agreed, first.len(), second.len());
     copy_out(list, &mut words, gate.out);
     surplus_on_words(head, gate.number, first, second, &mut words)

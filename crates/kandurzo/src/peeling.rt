@@ -4,45 +4,34 @@ ghost use Prim.Native.Nat.{ℕ, _≤_, _<_};
 ghost use lib.ListN.{length};
 ghost use Rattle.theory.specs.Leaving.{leaving};
 ghost use Rattle.theory.specs.Cores.{core-number, core-numbers};
-ghost use Rattle.kandurzo.specs.Buffers.{in-front};
-ghost use Rattle.kandurzo.specs.Gate.{gate-of, list-in-parts, In-parts, On-words};
-ghost use Rattle.kandurzo.specs.Peeling.{peel-short, Peel-on};
+ghost use Rattle.theory.specs.Words.{laid-list, Holds-list};
+ghost use Rattle.kandurzo.specs.Buffers.{in-front, any-short};
+ghost use Rattle.kandurzo.specs.Gate.{gate-of, Behind};
+ghost use Rattle.kandurzo.specs.Peeling.{peel-buffers, Peel-on};
 use crate::Gate;
-use crate::buffers::fill;
+use crate::buffers::clear;
+use crate::buffers::gate;
 use crate::buffers::narrow;
-use crate::judging::gate;
 use peel::peel;
 use records::Head;
 
-fn peel_short(head: Head, order: usize, cores: usize, work: usize) -> bool
-    ensures { λ r. ⌜ r ≡ peel-short head order cores work ⌝ }
+pub(crate) fn peel_gate(head: Head, agreed: bool, order: usize, cores: usize, work: usize) -> Gate
+    ensures { λ r. ⌜ r ≡ gate-of head agreed (any-short (peel-buffers head order cores work)) ⌝ }
 {
     let n = head.n as usize;
-    if order < n {
-        return true;
-    }
-    if cores < n {
-        return true;
-    }
-    work < 16384
+    gate(head, agreed, (order < n) | (cores < n) | (work < 16384))
 }
 
-pub(crate) fn peel_gate(head: Head, agreed: bool, order: usize, cores: usize, work: usize) -> Gate
-    ensures { λ r. ⌜ r ≡ gate-of head agreed (peel-short head order cores work) ⌝ }
-{
-    gate(head, agreed, peel_short(head, order, cores, work))
-}
-
-// Peel of the list in the words' parts; its 32-bit numbers are narrowed to the buffers' 16.
+// Peel of the list in the words; its 32-bit numbers are narrowed to the buffers' 16.
 fn peel_in(n: usize, m: usize, work: &[u32], order: &mut [u16], cores: &mut [u16])
-    requires { ⌜ In-parts n m (now work) ⌝ }
+    requires { ⌜ Holds-list n m (now work) ⌝ }
     requires { ⌜ n ≤ length (now order) ⌝ }
     requires { ⌜ n ≤ length (now cores) ⌝ }
-    requires { ⌜ ((v : ℕ) → core-number (list-in-parts n m (now work)) v < 65536) ⌝ }
+    requires { ⌜ ((v : ℕ) → core-number (laid-list n m (now work)) v < 65536) ⌝ }
     ensures { λ _. ⌜ now (order .exit) ≡
-        in-front (leaving (list-in-parts n m (now (work .entry)))) (now (order .entry)) ⌝ }
+        in-front (leaving (laid-list n m (now (work .entry)))) (now (order .entry)) ⌝ }
     ensures { λ _. ⌜ now (cores .exit) ≡
-        in-front (core-numbers (list-in-parts n m (now (work .entry)))) (now (cores .entry)) ⌝ }
+        in-front (core-numbers (laid-list n m (now (work .entry)))) (now (cores .entry)) ⌝ }
 {
     let mut leavers = [0u32; 512];
     let mut numbers = [0u32; 512];
@@ -63,7 +52,7 @@ fn peel_in(n: usize, m: usize, work: &[u32], order: &mut [u16], cores: &mut [u16
     narrow(&numbers, n, cores);
 }
 
-// Behind the gate the list's weights are set to 1, and the work buffer is cleared in the end.
+// The work buffer is cleared in the end.
 pub(crate) fn peel_on_words(
     head: Head,
     gate: u32,
@@ -71,8 +60,7 @@ pub(crate) fn peel_on_words(
     cores: &mut [u16],
     work: &mut [u32],
 )
-    requires { ⌜ On-words head gate (now work) × (gate ≡ 0 → head .n ≤ length (now order))
-        × (gate ≡ 0 → head .n ≤ length (now cores)) ⌝ }
+    requires { ⌜ Behind head gate (now work) (peel-buffers head (length (now order)) (length (now cores)) (length (now work))) ⌝ }
     ensures { λ _. ⌜ Peel-on head gate (now (order .entry)) (now (cores .entry)) (now (work .entry))
         (now (order .exit)) (now (cores .exit)) (now (work .exit)) ⌝ }
 {
@@ -81,7 +69,6 @@ pub(crate) fn peel_on_words(
     }
     let n = head.n as usize;
     let m = head.m as usize;
-    fill(work, 8192, 8192 + m, 1);
     peel_in(n, m, work, order, cores);
-    fill(work, 0, 16384, 0);
+    clear(work);
 }

@@ -1,17 +1,18 @@
-// Read on words: 12, then the file's own refusals; the pairs come to lie in the work buffer's first words, which are cleared in the end.
+// Read on words: 12, then the file's own refusals; the pairs come to lie in the work buffer, which is cleared in the end.
 ghost use mathlib.Core.Path.{_≡_};
-ghost use Prim.Native.Nat.{_≤_, _<_};
+ghost use Prim.Native.Nat.{_≤_};
 ghost use lib.ListN.{length};
+ghost use Rattle.pairfile.specs.File.{read-file};
 ghost use Rattle.kandurzo.specs.Buffers.{work-left};
 ghost use Rattle.kandurzo.specs.Reading.{Read-on};
 use crate::Edit;
-use crate::buffers::fill;
+use crate::buffers::clear;
 use pairfile::read_words;
 use records::Head;
 
 // The number, the new head, and how many records come into the list; none beside a refusal.
 pub(crate) fn read_on_words(bytes: &[u8], room: usize, work: &mut [u32]) -> Edit
-    ensures { λ r. ⌜ Read-on room (now (bytes .entry)) (now (work .entry)) (now (work .exit)) r ⌝ }
+    ensures { λ r. ⌜ Read-on read-file room (now (bytes .entry)) (now (work .entry)) (now (work .exit)) r ⌝ }
 {
     if work.len() < 16384 {
         return Edit {
@@ -32,13 +33,16 @@ pub(crate) fn read_on_words(bytes: &[u8], room: usize, work: &mut [u32]) -> Edit
     }
 }
 
-// Clears the work buffer's 16,384 words, unless 12 was given; 13 is never read's.
+// Clears the work buffer's 16,384 words, unless 12 or 13 was given.
 pub(crate) fn clear_words(number: u32, work: &mut [u32])
-    requires { ⌜ (number < 13) × ((number ≡ 12 → ⊥) → 16384 ≤ length (now work)) ⌝ }
+    requires { ⌜ ((number ≡ 12 → ⊥) → (number ≡ 13 → ⊥) → 16384 ≤ length (now work)) ⌝ }
     ensures { λ _. ⌜ now (work .exit) ≡ work-left number (now (work .entry)) ⌝ }
 {
     if number == 12 {
         return;
     }
-    fill(work, 0, 16384, 0);
+    if number == 13 {
+        return;
+    }
+    clear(work);
 }

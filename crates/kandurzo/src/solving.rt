@@ -3,33 +3,19 @@ ghost use mathlib.Core.Path.{_≡_};
 ghost use Prim.Native.Nat.{_≤_};
 ghost use lib.ListN.{length};
 ghost use Rattle.theory.specs.Ratio.{float-ratio};
+ghost use Rattle.theory.specs.Words.{laid-list, Holds-list};
 ghost use Rattle.densest.specs.Solve.{Solves};
-ghost use Rattle.kandurzo.specs.Gate.{gate-of, list-in-parts, In-parts, On-words};
-ghost use Rattle.kandurzo.specs.Solving.{solve-short, declined, Fits-16-bits, Solve-on};
+ghost use Rattle.kandurzo.specs.Buffers.{any-short};
+ghost use Rattle.kandurzo.specs.Gate.{gate-of, Fits-16-bits, Behind};
+ghost use Rattle.kandurzo.specs.Solving.{solve-buffers, declined, Solve-on};
 use crate::Gate;
 use crate::Solved;
-use crate::buffers::fill;
+use crate::buffers::clear;
+use crate::buffers::gate;
 use crate::buffers::narrow;
-use crate::judging::gate;
 use densest::Solution;
 use densest::solve;
 use records::Head;
-
-fn solve_short(head: Head, members: usize, cores: usize, shares: usize, work: usize) -> bool
-    ensures { λ r. ⌜ r ≡ solve-short head members cores shares work ⌝ }
-{
-    let n = head.n as usize;
-    if members < n {
-        return true;
-    }
-    if cores < n {
-        return true;
-    }
-    if shares < head.m as usize {
-        return true;
-    }
-    work < 16384
-}
 
 pub(crate) fn solve_gate(
     head: Head,
@@ -39,12 +25,14 @@ pub(crate) fn solve_gate(
     shares: usize,
     work: usize,
 ) -> Gate
-    ensures { λ r. ⌜ r ≡ gate-of head agreed (solve-short head members cores shares work) ⌝ }
+    ensures { λ r. ⌜ r ≡ gate-of head agreed (any-short (solve-buffers head members cores shares work)) ⌝ }
 {
+    let n = head.n as usize;
+    let m = head.m as usize;
     gate(
         head,
         agreed,
-        solve_short(head, members, cores, shares, work),
+        (members < n) | (cores < n) | (shares < m) | (work < 16384),
     )
 }
 
@@ -70,7 +58,7 @@ fn refused(number: u32) -> Solved
     }
 }
 
-// Group, core numbers and load sheet of the list in the words' parts; core numbers and shares are narrowed to the buffers' 16 bits.
+// Group, core numbers and load sheet of the list in the words; core numbers and shares are narrowed to the buffers' 16 bits.
 fn sheet_in(
     n: usize,
     m: usize,
@@ -79,12 +67,12 @@ fn sheet_in(
     cores: &mut [u16],
     shares: &mut [u16],
 ) -> Solution
-    requires { ⌜ In-parts n m (now work) ⌝ }
+    requires { ⌜ Holds-list n m (now work) ⌝ }
     requires { ⌜ n ≤ length (now members) ⌝ }
     requires { ⌜ n ≤ length (now cores) ⌝ }
     requires { ⌜ m ≤ length (now shares) ⌝ }
-    requires { ⌜ Fits-16-bits (list-in-parts n m (now work)) ⌝ }
-    ensures { λ r. ⌜ Solves (list-in-parts n m (now (work .entry))) (now (members .entry))
+    requires { ⌜ Fits-16-bits (laid-list n m (now work)) ⌝ }
+    ensures { λ r. ⌜ Solves (laid-list n m (now (work .entry))) (now (members .entry))
         (now (cores .entry)) (now (shares .entry)) (now (members .exit)) (now (cores .exit)) (now (shares .exit)) r ⌝ }
 {
     let mut numbers = [0u32; 512];
@@ -128,7 +116,7 @@ fn record_of(found: Solution) -> Solved
     }
 }
 
-// Behind the gate the list's weights are set to 1, and the work buffer is cleared in the end.
+// The work buffer is cleared in the end.
 pub(crate) fn solve_on_words(
     head: Head,
     gate: u32,
@@ -137,8 +125,8 @@ pub(crate) fn solve_on_words(
     shares: &mut [u16],
     work: &mut [u32],
 ) -> Solved
-    requires { ⌜ On-words head gate (now work) × (gate ≡ 0 → head .n ≤ length (now members))
-        × (gate ≡ 0 → head .n ≤ length (now cores)) × (gate ≡ 0 → head .m ≤ length (now shares)) ⌝ }
+    requires { ⌜ Behind head gate (now work)
+        (solve-buffers head (length (now members)) (length (now cores)) (length (now shares)) (length (now work))) ⌝ }
     ensures { λ r. ⌜ Solve-on head gate (now (members .entry)) (now (cores .entry)) (now (shares .entry)) (now (work .entry)) r
         (now (members .exit)) (now (cores .exit)) (now (shares .exit)) (now (work .exit)) ⌝ }
 {
@@ -147,8 +135,7 @@ pub(crate) fn solve_on_words(
     }
     let n = head.n as usize;
     let m = head.m as usize;
-    fill(work, 8192, 8192 + m, 1);
     let found = sheet_in(n, m, work, members, cores, shares);
-    fill(work, 0, 16384, 0);
+    clear(work);
     record_of(found)
 }

@@ -59,20 +59,20 @@ typed-as {R = R} P x fits = go (R .mir) (P .lawful .typed x (P .val x ∷ []) fi
     go (τ ∷ σ ∷ τs) t = absurd (t .1)
 
 module _ {M : Type 1} {𝓤 : URA M} {H : Heap 𝓤} {A : Atoms 𝓤} (W : Given 𝓤 H A) where
-  abbrev number : (w : Width) → Plain W (UInt w)
-  number w = record { val = vint w; tells = uint-tells w; makes = uint-makes 𝓤 H A W w; copy = uint-copy 𝓤 H A W w; lawful = uint-lawful 𝓤 H A W w }
+  abbrev pub plain-number : (w : Width) → Plain W (UInt w)
+  plain-number w = record { val = vint w; tells = uint-tells w; makes = uint-makes 𝓤 H A W w; copy = uint-copy 𝓤 H A W w; lawful = uint-lawful 𝓤 H A W w }
 
   abbrev pub plain-byte : Plain W (UInt w8)
-  plain-byte = number w8
+  plain-byte = plain-number w8
 
   abbrev pub plain-half : Plain W (UInt w16)
-  plain-half = number w16
+  plain-half = plain-number w16
 
   abbrev pub plain-word : Plain W (UInt w32)
-  plain-word = number w32
+  plain-word = plain-number w32
 
   abbrev pub plain-count : Plain W (UInt w64)
-  plain-count = number w64
+  plain-count = plain-number w64
 
   abbrev pub plain-truth : Plain W Boolean
   plain-truth = record { val = vbool; tells = bool-tells; makes = bool-makes 𝓤 H A W; copy = bool-copy 𝓤 H A W; lawful = bool-lawful 𝓤 H A W }

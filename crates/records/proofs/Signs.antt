@@ -58,7 +58,7 @@ module _ {n : ℕ} where
     tells = λ κs. tells;
   }
 
-  abbrev number-kind : (w : Width) → Kind {n = n} (plain (λ _. UInt w)) yes
+  abbrev pub number-kind : (w : Width) → Kind {n = n} (plain (λ _. UInt w)) yes
   number-kind w = data-kind (UInt w) (vint w) (uint-tells w) (λ x f. refl)
 
   abbrev pub word-kind : Kind {n = n} (plain (λ _. UInt w32)) yes
@@ -104,7 +104,7 @@ module _ {n : ℕ} where
   stays-of [] ks ds = tt
   stays-of (s ∷ ss) ks ds = (ds .0 .stay, stays-of ss (ks .1) (ds .1))
 
-  abbrev spells-of : (ss : List (Slot n)) (ks : Kepts ss) → Kinds ss ks → (κs : Lfts n) → Spells (typesAt ss κs)
+  abbrev pub spells-of : (ss : List (Slot n)) (ks : Kepts ss) → Kinds ss ks → (κs : Lfts n) → Spells (typesAt ss κs)
   spells-of [] ks ds κs = tt
   spells-of (s ∷ ss) ks ds κs = (ds .0 .spell κs, spells-of ss (ks .1) (ds .1) κs)
 

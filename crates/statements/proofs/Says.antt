@@ -6,12 +6,12 @@
 --   surplus-says    surplus
 -- Assumes nothing.
 use mathlib.Core.Path.{_≡_, refl, sym, ap, _∙_}
-use mathlib.Core.Bool.{Bool, true, false, _&&_, not, cond}
+use mathlib.Core.Bool.{Bool, true, false, _&&_, _||_, not, cond, or-false}
 use mathlib.Core.List.{List, [], _++_}
 use mathlib.Core.Logic.{inl}
 use Prim.Native.Nat.{ℕ, zero, suc}
 use native.Mathlib.Omega.{arith}
-use lib.Dec.{eqb}
+use lib.Dec.{eqb, ltb}
 use lib.ListN.{length, take}
 use borrow.Author.Tests.{eqb-true, ne-eqb, not-false}
 use Rattle.theory.specs.Groups.{is-group}
@@ -32,9 +32,9 @@ use Rattle.verify.specs.declared.Difference.{Difference}
 use Rattle.kandurzo.specs.declared.Solved.{Solved}
 use Rattle.kandurzo.specs.Buffers as ours
 use Rattle.kandurzo.specs.Gate.{gate-causes, gate-number}
-use Rattle.kandurzo.specs.Peeling.{peel-short, peel-number, Peel-call}
-use Rattle.kandurzo.specs.Solving.{solve-short, declined, Handed, Solve-call}
-use Rattle.kandurzo.specs.Judging.{check-short, check-order, Check-call, surplus-short, surplus-order, Surplus-call}
+use Rattle.kandurzo.specs.Peeling.{peel-buffers, peel-call-causes, Peel-call}
+use Rattle.kandurzo.specs.Solving.{solve-buffers, solve-call-causes, declined, Handed, Solve-call}
+use Rattle.kandurzo.specs.Judging.{check-buffers, check-call-causes, Check-call, surplus-buffers, surplus-call-causes, Surplus-call}
 use Rattle.kandurzo.proofs.Gates.{gate-open}
 use Rattle.kandurzo.proofs.Taken.{held-few}
 use Rattle.kandurzo.proofs.Judgements.{check-enough, surplus-enough}
@@ -105,15 +105,15 @@ list-says = refusal-lent
 module _ (h : Head) (ps : List Pair) (order cores work : List ℕ) (r : ℕ) (order′ cores′ work′ : List ℕ)
     (call : Peel-call h ps order cores work r order′ cores′ work′) where
   peel-order : r ≡ peel-refusal (h .n) (h .m) (ends-of ps) (length order) (length cores) (length work)
-  unfolding peel-number peel-short ours.work-words peel-refusal
-  peel-order = call .number ∙ gate-order h ps (peel-short h (length order) (length cores) (length work))
+  unfolding peel-call-causes gate-number gate-causes peel-buffers ours.buffer ours.any-short ours.work-words peel-refusal
+  peel-order = call .number ∙ gate-order h ps (ours.any-short (peel-buffers h (length order) (length cores) (length work))) ∙ simp or-false
 
   peel-agreed : r ≡ 0 → agrees h ps ≡ true
-  unfolding peel-number
+  unfolding peel-call-causes gate-number gate-causes
   peel-agreed z = gate-open h ps _ (sym (call .number) ∙ z) .0
 
   peel-as : Peel-says (h .n) (h .m) (ends-of ps) r order order′ cores cores′ work work′
-  unfolding Peel-says kept-or work-left in-front ours.work-left ours.work-words ours.in-front if-taken
+  unfolding Peel-says kept-or work-left in-front ours.work-left ours.cleared ours.work-words ours.in-front if-taken
   peel-as =
       rw (← peel-order) (
         refl,
@@ -134,25 +134,30 @@ module _ (h : Head) (ps : List Pair) (members shares work : List ℕ) (v : Verdi
   abbrev causes : List Cause
   causes = check-causes (held-list h ps) (take (h .n) members) (take (h .m) shares)
 
+  -- 12 as document 03 writes it
   abbrev short : Bool
-  short = check-short h (length members) (length shares) (length work)
+  short = ltb (length members) (h .n) || (ltb (length shares) (h .m) || ltb (length work) 16384)
+
+  same-short : ours.any-short (check-buffers h (length members) (length shares) (length work)) ≡ short
+  unfolding check-buffers ours.buffer ours.any-short ours.work-words
+  same-short = simp or-false
 
   check-agreed : v .number ≡ 0 → agrees h ps ≡ true
-  unfolding check-order
-  check-agreed z = agreed h ps short causes (sym (call .number) ∙ z)
+  unfolding check-call-causes gate-causes
+  check-agreed z = agreed h ps _ causes (sym (call .number) ∙ z)
 
   check-order-as : v .number ≡ plain.check-refusal (h .n) (h .m) (ends-of ps) members shares (length work)
-  unfolding check-order check-number check-short ours.work-words plain.check-refusal
+  unfolding check-call-causes gate-causes check-number plain.check-refusal
   check-order-as =
-      call .number
+      call .number ∙ ap (λ (b : Bool). refusal (gate-causes (not (agrees h ps)) b ++ causes)) same-short
       ∙ sym (turned (eqb (refused h ps) 0) 13 _ ∙ orders h ps short _ causes (λ e s.
-      let n = check-enough h ps members shares work s in
+      let n = check-enough h _ _ _ (same-short ∙ s) in
       let z : refused h ps ≡ 0 = refused-none h ps e in
       let l = check-plain (h .n) (h .m) (ends-of ps) members shares (length work) z (n .0) (n .1) (n .2) in
       sym (rw (← (same-list h ps e), z, s) at l)))
 
   check-as : Check-says (h .n) (h .m) (ends-of ps) members shares v work work′
-  unfolding Check-says work-left in-front ours.work-left ours.work-words ours.in-front if-taken
+  unfolding Check-says work-left in-front ours.work-left ours.cleared ours.work-words ours.in-front if-taken
   check-as =
       rw (← check-order-as) (
         refl,
@@ -179,23 +184,27 @@ module _ (h : Head) (ps : List Pair) (t s : List ℕ) (d : Difference) (call : S
   both = surplus-causes (held-list h ps) (take (h .n) t) (take (h .n) s)
 
   abbrev either-short : Bool
-  either-short = surplus-short h (length t) (length s)
+  either-short = ltb (length t) (h .n) || ltb (length s) (h .n)
+
+  same-either : ours.any-short (surplus-buffers h (length t) (length s)) ≡ either-short
+  unfolding surplus-buffers ours.buffer ours.any-short
+  same-either = simp or-false
 
   surplus-order-as : d .number ≡ surplus-refusal (h .n) (h .m) (ends-of ps) t s
-  unfolding surplus-order surplus-causes refusal cause surplus-short surplus-refusal plain.list-in
+  unfolding surplus-call-causes gate-causes surplus-causes refusal cause surplus-refusal plain.list-in
   surplus-order-as =
-      call .number
+      call .number ∙ ap (λ (b : Bool). refusal (gate-causes (not (agrees h ps)) b ++ both)) same-either
       ∙ sym (turned (eqb (refused h ps) 0) 13 _ ∙ orders h ps either-short _ both (λ e l.
-      let n = surplus-enough h ps t s [] l in
+      let n = surplus-enough h _ _ (same-either ∙ l) in
       rw (same-list h ps e, members-plain (g h ps) t (n .0), members-plain (g h ps) s (n .1))
       (two-sets (is-group (weighted (g h ps)) (take (h .n) t)) (is-group (weighted (g h ps)) (take (h .n) s)))))
 
   differs : (k : ℕ) → d .number ≡ k → Differs k (g h ps) (take (h .n) t) (take (h .n) s) d
-  unfolding Differs if-taken surplus-order
+  unfolding Differs if-taken surplus-call-causes gate-causes
   differs zero z = (
     z,
     rw z at (call .value)
-        ∙ rw (same-list h ps (agreed h ps either-short both (sym (call .number) ∙ z))) (surplus-plain (g h ps) (take (h .n) t) (take (h .n) s)),
+        ∙ rw (same-list h ps (agreed h ps _ both (sym (call .number) ∙ z))) (surplus-plain (g h ps) (take (h .n) t) (take (h .n) s)),
   )
   differs (suc k) z = (z, rw (ne-eqb (d .number) 0 (λ e. omega (arith, e, z))) at (call .value))
 
@@ -217,12 +226,14 @@ declined-as k a x c y d z r e b = rw e (refl, refl, refl, refl, refl, refl, b .0
 module _ (h : Head) (ps : List Pair) (members cores shares work : List ℕ) (r : Solved) (members′ cores′ shares′ work′ : List ℕ)
     (call : Solve-call h ps members cores shares work r members′ cores′ shares′ work′) where
   solve-order : r .number ≡ solve-refusal (h .n) (h .m) (ends-of ps) (length members) (length cores) (length shares) (length work)
-  unfolding solve-short ours.work-words solve-refusal
-  solve-order = call .number .outright ∙ gate-order h ps (solve-short h (length members) (length cores) (length shares) (length work))
+  unfolding solve-call-causes gate-number gate-causes solve-buffers ours.buffer ours.any-short ours.work-words solve-refusal
+  solve-order =
+      call .number .outright ∙ gate-order h ps (ours.any-short (solve-buffers h (length members) (length cores) (length shares) (length work)))
+      ∙ simp or-false
 
   -- the found group and a split at its size are handed out, so 15 never comes; or the call is refused
   solve-as : (k : ℕ) → r .number ≡ k → Solve-as k (g h ps) r members members′ cores cores′ shares shares′
-  unfolding Solve-as
+  unfolding Solve-as solve-call-causes gate-number gate-causes
   solve-as zero e =
       let a : agrees h ps ≡ true = gate-open h ps _ (sym (call .number .outright) ∙ e) .0 in
       let out : Handed (weighted (g h ps)) members cores shares r members′ cores′ shares′ = rw (same-list h ps a) at (call .handed e) in (
@@ -235,7 +246,7 @@ module _ (h : Head) (ps : List Pair) (members cores shares work : List ℕ) (r :
       declined-as (suc k) members members′ cores cores′ shares shares′ r (no .0 ∙ ap declined e) (no .1, no .2, no .3)
 
   solve-states : Solve-says (h .n) (h .m) (ends-of ps) r members members′ cores cores′ shares shares′ work work′
-  unfolding Solve-says work-left in-front ours.work-left ours.work-words ours.in-front
+  unfolding Solve-says work-left in-front ours.work-left ours.cleared ours.work-words ours.in-front
   solve-states = rw (← solve-order) (solve-as (r .number) refl, call .left)
 
 pub solve-says : Solve-stated

@@ -183,7 +183,7 @@ pub agree-spec : {M : Type 1} → stated.statement M
 unfolding code.routine tablesOf
 agree-spec 𝓤 H 𝓜 𝓖 𝓡 =
     states 𝓤 H 𝓜 𝓖 𝓡 code.env f.ended kinds (f.clauses 𝓤 H (𝓖 .A) (𝓜 .mem) (𝓡 .run)) #records·agree code.function (code.unfolded 𝓤 H 𝓜 𝓡)
-    (λ κs qs bounds a g are.
+    (λ κs qs bounds a g are _.
     walk 𝓤 H (𝓖 .A) (givenOf 𝓤 H 𝓜 𝓖) (𝓜 .mem) (𝓡 .run) (tablesOf 𝓤 H 𝓜 (tables 𝓤 H 𝓜 𝓡 code.env)) (record {
       begins = cited 𝓤 H _ 𝓜 𝓡 code.env begin-def.name begin-def.routine code.calls-records·begin (begin-thm.met 𝓤 H 𝓜 𝓖 𝓡);
       tests = cited 𝓤 H _ 𝓜 𝓡 code.env tested-def.name tested-def.routine code.calls-records·tested (tested-thm.met 𝓤 H 𝓜 𝓖 𝓡);

@@ -1,23 +1,28 @@
 -- `narrow` meets its contract: the entries before j are as they will be. Assumes nothing.
-use mathlib.Core.Path.{refl, sym}
-use mathlib.Core.List.{_++_}
-use Prim.Native.Nat.{_-_}
+use mathlib.Core.Path.{_≡_, sym}
+use Prim.Native.Nat.{_-_, _≤_}
 use native.Mathlib.Omega.{arith}
-use lib.ListN.{take, drop}
-use Rattle.kandurzo.proofs.Filling.{Turning, turning-start, turning-step, turning-done, length-front, front-rest, front-at}
+use lib.ListN.{length, take}
+use lib.Seq.{length-take-le, getD-take}
+use Rattle.kandurzo.proofs.Filling.{Turning, turning-start, turning-step, turning-done}
 use Rattle.kandurzo.proofs.buffers.narrow.Statement.{statement}
 use Rattle.kandurzo.proofs.buffers.narrow.Tie as tie
 
 abbrev Inv-loop : tie.InvT-loop
-Inv-loop words n to₀ j₀ to j = Turning 0 n (take n words ++ drop n to₀) to₀ to j
+Inv-loop words n to₀ j₀ to j = Turning (take n words) to₀ to j
 
 abbrev μ-loop : tie.MeasureT-loop
 μ-loop words n to₀ j₀ to j = n - j
 
+-- the words that go over: n of them, for which there is room
+count : (c : tie.Start Inv-loop μ-loop) → length (take (c .args .n) (c .args .words .now)) ≡ c .args .n
+count c = length-take-le (c .args .n) (c .args .words .now) (c .pre .0)
+
+room : (c : tie.Start Inv-loop μ-loop) → length (take (c .args .n) (c .args .words .now)) ≤ length (c .args .to .now)
+room c = omega (arith, count c, c .pre .1 .0)
+
 loop-holds : tie.Need-loop-holds Inv-loop μ-loop
-loop-holds c =
-    let a = c .args in
-    turning-start 0 (a .n) _ (a .to .now) (length-front (a .n) (a .words .now) (a .to .now) (c .pre .0) (c .pre .1 .0)) (c .pre .1 .0) (omega arith) refl
+loop-holds c = turning-start (take (c .args .n) (c .args .words .now)) (c .args .to .now) (room c)
 
 mul-to : tie.Need-mul-to Inv-loop μ-loop
 mul-to c = omega arith
@@ -42,20 +47,18 @@ loop-less c = omega arith
 
 loop-again : tie.Need-loop-again Inv-loop μ-loop
 loop-again c =
-    let a = c .before .before .before .args in
-    let h = c .before .before .before .pre in
-    turning-step 0 (a .n) _ (a .to .now) (length-front (a .n) (a .words .now) (a .to .now) (h .0) (h .1 .0)) (h .1 .0) (c .before .before .loop .inv) (c .before .loop-test .taken)
-    (sym (front-at (a .n) (a .words .now) (a .to .now) (h .0) (h .1 .0) (c .before .before .loop .j) (c .before .loop-test .taken)))
+    let s = c .before .before .before in
+    let a = s .args in
+    turning-step (take (a .n) (a .words .now)) (a .to .now) (room s) (c .before .before .loop .inv) (omega (arith, count s, c .before .loop-test .taken))
+    (sym (getD-take (a .n) (a .words .now) (c .before .before .loop .j) 0 (c .before .loop-test .taken)))
 
 same-length : tie.Need-same-length Inv-loop μ-loop
 same-length c = c .before .loop .inv .long
 
 returns : tie.Need-returns Inv-loop μ-loop
 returns c =
-    let a = c .before .before .args in
-    let h = c .before .before .pre in
-    turning-done 0 (a .n) _ (a .to .now) (length-front (a .n) (a .words .now) (a .to .now) (h .0) (h .1 .0)) (h .1 .0) (c .before .loop .inv) (omega arith)
-    (front-rest (a .n) (a .words .now) (a .to .now) (h .0) (h .1 .0))
+    let s = c .before .before in
+    turning-done (take (s .args .n) (s .args .words .now)) (s .args .to .now) (room s) (c .before .loop .inv) (omega (arith, count s))
 
 pub narrow-spec : {M : Type 1} → statement M
 narrow-spec =

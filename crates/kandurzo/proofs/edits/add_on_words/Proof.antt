@@ -3,8 +3,11 @@ use mathlib.Core.Path.{_≡_, refl, sym, _∙_}
 use mathlib.Core.Bool.{not}
 use native.Mathlib.Omega.{arith}
 use borrow.Author.Needs.{needs}
+use Rattle.theory.specs.Lists.{pair}
+use Rattle.theory.specs.Words.{laid-list}
+use Rattle.pairs.specs.Held.{smaller-first-pair}
 use Rattle.kandurzo.specs.Listing.{head-of}
-use Rattle.kandurzo.specs.Edits.{word-list, pair-place, add-on-number, add-edit, add-words}
+use Rattle.kandurzo.specs.Edits.{pair-place, add-on-number, add-edit, add-words}
 use Rattle.kandurzo.proofs.Orders.{First, add-first, add-10, add-11, add-taken}
 use Rattle.kandurzo.proofs.Changes.{edit-refused, edit-taken, few, find-asks, insert-asks}
 use Rattle.kandurzo.proofs.edits.add_on_words.Statement.{statement}
@@ -24,11 +27,11 @@ refused-requires : tie.Need-refused-requires
 refused-requires c κs = search needs
 
 returns : tie.Need-returns
-unfolding add-edit add-words add-on-number pair-place word-list
+unfolding add-edit add-words add-on-number pair-place laid-list
 returns c =
     let x = c .before .before .first-number in
     let some = c .before .if1 .taken in
-    edit-refused _ _ _ _ _ _ (x .result) (add-first _ (word-list _ _) _ _ _ (λ z. some (x .ensures ∙ z)) ∙ sym (x .ensures)) some (c .refused .ensures)
+    edit-refused _ _ _ _ _ _ (x .result) (add-first _ (laid-list _ _ _) _ _ _ (λ z. some (x .ensures ∙ z)) ∙ sym (x .ensures)) some (c .refused .ensures)
 
 cast-m : tie.Need-cast-m
 cast-m c = search needs
@@ -43,9 +46,9 @@ same-length : tie.Need-same-length
 same-length c = search needs
 
 returns-2 : tie.Need-returns-2
-unfolding add-edit add-words add-on-number pair-place word-list
+unfolding add-edit add-words add-on-number pair-place laid-list
 returns-2 c =
-    edit-refused _ _ _ _ _ _ 10 (add-10 _ (word-list _ _) _ _ _ (fine (c .before .before .before .before .before)) (sym (c .before .before .find .ensures .0) ∙ c .before .if2 .taken)) (λ z. omega arith)
+    edit-refused _ _ _ _ _ _ 10 (add-10 _ (laid-list _ _ _) _ _ _ (fine (c .before .before .before .before .before)) (sym (c .before .before .find .ensures .0) ∙ c .before .if2 .taken)) (λ z. omega arith)
     (c .refused2 .ensures)
 
 full-requires : tie.Need-full-requires
@@ -58,10 +61,10 @@ same-length-2 : tie.Need-same-length-2
 same-length-2 c = search needs
 
 returns-3 : tie.Need-returns-3
-unfolding add-edit add-words add-on-number pair-place word-list
+unfolding add-edit add-words add-on-number pair-place laid-list
 returns-3 c =
     let free = sym (c .before .before .before .before .find .ensures .0) ∙ c .before .before .before .if2 .left in
-    edit-refused _ _ _ _ _ _ 11 (add-11 _ (word-list _ _) _ _ _ (fine (c .before .before .before .before .before .before .before)) free (sym (c .before .before .full .ensures) ∙ c .before .if3 .taken)) (λ z. omega arith)
+    edit-refused _ _ _ _ _ _ 11 (add-11 _ (laid-list _ _ _) _ _ _ (fine (c .before .before .before .before .before .before .before)) free (sym (c .before .before .full .ensures) ∙ c .before .if3 .taken)) (λ z. omega arith)
     (c .refused3 .ensures)
 
 lesser-requires : tie.Need-lesser-requires
@@ -70,8 +73,8 @@ lesser-requires c κs = search needs
 greater-requires : tie.Need-greater-requires
 greater-requires c κs = search needs
 
-insert-ends-requires : tie.Need-insert-ends-requires
-insert-ends-requires c κs =
+insert-requires : tie.Need-insert-requires
+insert-requires c κs =
     let s = begin (c .before .before .before .before .before .before .before .before .before) in
     insert-asks (s .args .a) (s .args .b) (s .pre) (fine (c .before .before .before .before .before .before .before .before .before)) (c .before .before .before .before .before .before .find .ensures .1) (sym (c .before .before .before .before .full .ensures) ∙ c .before .before .before .if3 .left)
 
@@ -85,12 +88,12 @@ same-length-3 : tie.Need-same-length-3
 same-length-3 c = search needs
 
 returns-4 : tie.Need-returns-4
-unfolding add-edit add-words add-on-number pair-place word-list head-of
+unfolding add-edit add-words add-on-number pair-place laid-list head-of smaller-first-pair pair
 returns-4 c =
     let look = c .before .before .before .before .before .before .before .before .before .before .find .ensures in
     let free = sym (look .0) ∙ c .before .before .before .before .before .before .before .before .before .if2 .left in
-    edit-taken _ _ _ _ _ _ (add-taken _ (word-list _ _) _ _ _ (fine (c .before .before .before .before .before .before .before .before .before .before .before .before .before)) free (sym (c .before .before .before .before .before .before .before .before .full .ensures) ∙ c .before .before .before .before .before .before .before .if3 .left)) refl
-    (c .before .before .before .insert-ends .ensures ∙ rw (look .1, c .before .before .before .before .before .lesser .ensures, c .before .before .before .before .greater .ensures))
+    edit-taken _ _ _ _ _ _ (add-taken _ (laid-list _ _ _) _ _ _ (fine (c .before .before .before .before .before .before .before .before .before .before .before .before .before)) free (sym (c .before .before .before .before .before .before .before .before .full .ensures) ∙ c .before .before .before .before .before .before .before .if3 .left)) refl
+    (c .before .before .before .insert .ensures ∙ rw (look .1, c .before .before .before .before .before .lesser .ensures, c .before .before .before .before .greater .ensures))
 
 pub add-on-words-spec : {M : Type 1} → statement M
 add-on-words-spec =
@@ -110,7 +113,7 @@ add-on-words-spec =
     returns-3
     lesser-requires
     greater-requires
-    insert-ends-requires
+    insert-requires
     add-t17
     add-t20
     same-length-3

@@ -4,8 +4,9 @@ use mathlib.Core.Bool.{not}
 use native.Mathlib.Omega.{arith}
 use borrow.Author.Needs.{needs}
 use borrow.Author.Tests.{not-true, not-false}
+use Rattle.theory.specs.Words.{laid-list}
 use Rattle.kandurzo.specs.Listing.{head-of}
-use Rattle.kandurzo.specs.Edits.{word-list, pair-place, remove-on-number, remove-edit, remove-words}
+use Rattle.kandurzo.specs.Edits.{pair-place, remove-on-number, remove-edit, remove-words}
 use Rattle.kandurzo.proofs.Orders.{First, remove-first, remove-14, remove-taken}
 use Rattle.kandurzo.proofs.Changes.{edit-refused, edit-taken, find-asks, delete-asks}
 use Rattle.kandurzo.proofs.edits.remove_on_words.Statement.{statement}
@@ -25,11 +26,11 @@ refused-requires : tie.Need-refused-requires
 refused-requires c κs = search needs
 
 returns : tie.Need-returns
-unfolding remove-edit remove-words remove-on-number pair-place word-list
+unfolding remove-edit remove-words remove-on-number pair-place laid-list
 returns c =
     let x = c .before .before .first-number in
     let some = c .before .if1 .taken in
-    edit-refused _ _ _ _ _ _ (x .result) (remove-first _ (word-list _ _) _ _ (λ z. some (x .ensures ∙ z)) ∙ sym (x .ensures)) some (c .refused .ensures)
+    edit-refused _ _ _ _ _ _ (x .result) (remove-first _ (laid-list _ _ _) _ _ (λ z. some (x .ensures ∙ z)) ∙ sym (x .ensures)) some (c .refused .ensures)
 
 cast-m : tie.Need-cast-m
 cast-m c = search needs
@@ -44,13 +45,13 @@ same-length : tie.Need-same-length
 same-length c = search needs
 
 returns-2 : tie.Need-returns-2
-unfolding remove-edit remove-words remove-on-number pair-place word-list
+unfolding remove-edit remove-words remove-on-number pair-place laid-list
 returns-2 c =
-    edit-refused _ _ _ _ _ _ 14 (remove-14 _ (word-list _ _) _ _ (fine (c .before .before .before .before .before .before)) (sym (c .before .before .before .find .ensures .0) ∙ not-true _ (c .before .if2 .taken))) (λ z. omega arith)
+    edit-refused _ _ _ _ _ _ 14 (remove-14 _ (laid-list _ _ _) _ _ (fine (c .before .before .before .before .before .before)) (sym (c .before .before .before .find .ensures .0) ∙ not-true _ (c .before .if2 .taken))) (λ z. omega arith)
     (c .refused2 .ensures)
 
-delete-ends-requires : tie.Need-delete-ends-requires
-delete-ends-requires c κs =
+delete-requires : tie.Need-delete-requires
+delete-requires c κs =
     let s = begin (c .before .before .before .before .before .before) in
     let look = c .before .before .before .find .ensures in
     delete-asks (s .args .a) (s .args .b) (s .pre) (fine (c .before .before .before .before .before .before)) (look .1) (sym (look .0) ∙ not-false _ (c .before .if2 .left))
@@ -65,11 +66,11 @@ same-length-2 : tie.Need-same-length-2
 same-length-2 c = search needs
 
 returns-3 : tie.Need-returns-3
-unfolding remove-edit remove-words remove-on-number pair-place word-list head-of
+unfolding remove-edit remove-words remove-on-number pair-place laid-list head-of
 returns-3 c =
     let look = c .before .before .before .before .before .before .before .find .ensures in
-    edit-taken _ _ _ _ _ _ (remove-taken _ (word-list _ _) _ _ (fine (c .before .before .before .before .before .before .before .before .before .before)) (sym (look .0) ∙ not-false _ (c .before .before .before .before .before .if2 .left))) refl
-    (c .before .before .before .delete-ends .ensures ∙ rw (look .1))
+    edit-taken _ _ _ _ _ _ (remove-taken _ (laid-list _ _ _) _ _ (fine (c .before .before .before .before .before .before .before .before .before .before)) (sym (look .0) ∙ not-false _ (c .before .before .before .before .before .if2 .left))) refl
+    (c .before .before .before .delete .ensures ∙ rw (look .1))
 
 pub remove-on-words-spec : {M : Type 1} → statement M
 remove-on-words-spec =
@@ -83,7 +84,7 @@ remove-on-words-spec =
     refused-requires-2
     same-length
     returns-2
-    delete-ends-requires
+    delete-requires
     sub-t16
     same-length-2
     returns-3)

@@ -1,15 +1,20 @@
--- `check_in` meets its contract: the parts of the words hold the list. Assumes nothing.
+-- `check_in` meets its contract: the words, cut in two, hold the list. Assumes nothing.
+use Prim.Native.Nat.{_≤_}
 use borrow.Author.Needs.{needs}
 use denote.Ref.{now}
-use Rattle.kandurzo.proofs.Parts.{cut-list, cut-held}
+use Rattle.theory.proofs.Words.{holds-few, cut-list, cut-held}
 use Rattle.kandurzo.proofs.judging.check_in.Statement.{statement}
 use Rattle.kandurzo.proofs.judging.check_in.Tie as tie
 
+-- n is at most 512, m at most 4,096
+few : (s : tie.Start) → (s .args .n ≤ 512) × (s .args .m ≤ 4096)
+few s = holds-few (s .args .n) (s .args .m) (now (s .args .work)) (s .pre .0 .listed)
+
 mul-ends : tie.Need-mul-ends
-mul-ends c = search needs
+mul-ends c = search (needs, few (c .before .before .before))
 
 add-weights : tie.Need-add-weights
-add-weights c = search needs
+add-weights c = search (needs, few (c .before .before .before))
 
 sub-check-words : tie.Need-sub-check-words
 sub-check-words c = search needs
@@ -18,7 +23,7 @@ part-check-words-start : tie.Need-part-check-words-start
 part-check-words-start c = search needs
 
 part-check-words-end : tie.Need-part-check-words-end
-part-check-words-end c = search needs
+part-check-words-end c = search (needs, few (c .before .before .before))
 
 sub-check-words-2 : tie.Need-sub-check-words-2
 sub-check-words-2 c = search needs
@@ -27,7 +32,7 @@ part-check-words-start-2 : tie.Need-part-check-words-start-2
 part-check-words-start-2 c = search needs
 
 part-check-words-end-2 : tie.Need-part-check-words-end-2
-part-check-words-end-2 c = search needs
+part-check-words-end-2 c = search (needs, few (c .before .before .before .before))
 
 check-words-requires : tie.Need-check-words-requires
 check-words-requires c κs = let s = c .before .before .before .before .before in (cut-held (s .args .n) (s .args .m) (now (s .args .work)) (s .pre .0), s .pre .1)

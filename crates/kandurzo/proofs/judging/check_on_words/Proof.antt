@@ -1,12 +1,20 @@
--- `check_on_words` meets its contract: nothing behind a shut gate; else the list in the parts, and zeros in the end. Assumes nothing.
-use mathlib.Core.Path.{refl}
+-- `check_on_words` meets its contract: nothing behind a shut gate; else the list in the words, and zeros in the end. Assumes nothing.
+use mathlib.Core.Path.{refl, sym, _∙_}
 use borrow.Author.Needs.{needs}
-use Rattle.kandurzo.proofs.Parts.{shut-left, room, weighed-list, weighed-parts, weighed-long, weighed-cleared}
+use Rattle.kandurzo.proofs.Filling.{left-open, left-shut}
+use Rattle.kandurzo.proofs.Judgements.{check-enough}
 use Rattle.kandurzo.proofs.judging.check_on_words.Statement.{statement}
 use Rattle.kandurzo.proofs.judging.check_on_words.Tie as tie
 
+-- the function's entry, and the open gate
+abbrev begin : tie.Else1 → tie.Start
+begin c = c .before .before .before .before
+
+abbrev opened : tie.After-check-in-arg → tie.Else1
+opened c = c .before .before .before
+
 returns : tie.Need-returns
-returns c = let n = c .if1 .taken in record { judged = λ z. absurd (n z); refused = λ _. refl; left = shut-left (c .before .before .before .before .pre .0) n }
+returns c = let n = c .if1 .taken in record { judged = λ z. absurd (n z); refused = λ _. refl; left = left-shut (c .before .before .before .before .pre) n }
 
 cast-n : tie.Need-cast-n
 cast-n c = search needs
@@ -14,45 +22,27 @@ cast-n c = search needs
 cast-m : tie.Need-cast-m
 cast-m c = search needs
 
-add-fill : tie.Need-add-fill
-add-fill c = search needs
-
-fill-requires : tie.Need-fill-requires
-fill-requires c κs = room (c .before .before .before .before .before .before .before .pre .0) (c .before .before .before .if1 .left)
-
 check-in-requires : tie.Need-check-in-requires
 check-in-requires c κs =
-    let h = c .before .before .before .before .before .before .before .before .before .before .before .pre in
-    let z = c .before .before .before .before .before .before .before .if1 .left in
-    (weighed-parts (h .0) z (c .before .before .before .fill .ensures), (h .1 z, h .2 z))
+    let z = opened c .if1 .left in
+    let h = begin (opened c) .pre in
+    let e = check-enough _ _ _ _ (h .long z) in
+    (h .holds z, (e .0, e .1))
 
-fill-requires-2 : tie.Need-fill-requires-2
-fill-requires-2 c κs = weighed-long (c .before .before .before .before .before .before .before .before .before .before .before .before .before .pre .0) (c .before .before .before .before .before .before .before .before .before .if1 .left) (c .before .before .before .before .before .fill .ensures)
+clear-requires : tie.Need-clear-requires
+clear-requires c κs = let o = opened (c .before .before) in check-enough _ _ _ _ (begin o .pre .long (o .if1 .left)) .2
 
 same-length : tie.Need-same-length
 same-length c = search needs
 
 returns-2 : tie.Need-returns-2
 returns-2 c =
-    let on = c .before .before .before .before .before .before .before .before .before .before .before .before .before .before .before .before .pre .0 in
-    let z = c .before .before .before .before .before .before .before .before .before .before .before .before .if1 .left in
-    let w = c .before .before .before .before .before .before .before .before .fill .ensures in
+    let z = opened (c .before .before .before .before .before) .if1 .left in
     record {
-      judged = λ _. rw (weighed-list on z w) at (c .before .before .before .before .check-in .ensures);
+      judged = λ _. c .before .before .before .before .check-in .ensures;
       refused = λ n. absurd (n z);
-      left = weighed-cleared on z w (c .before .before .fill2 .ensures);
+      left = c .before .before .clear .ensures ∙ sym (left-open _ z);
     }
 
 pub check-on-words-spec : {M : Type 1} → statement M
-check-on-words-spec =
-    tie.close
-    (tie.spec
-    returns
-    cast-n
-    cast-m
-    add-fill
-    fill-requires
-    check-in-requires
-    fill-requires-2
-    same-length
-    returns-2)
+check-on-words-spec = tie.close (tie.spec returns cast-n cast-m check-in-requires clear-requires same-length returns-2)

@@ -1,21 +1,24 @@
 -- `surplus_gate` meets its contract. Assumes nothing.
 use mathlib.Core.Path.{ap, _∙_}
-use mathlib.Core.Bool.{Bool}
+use mathlib.Core.Bool.{Bool, or-false}
 use borrow.Author.Needs.{needs}
+use Rattle.kandurzo.specs.Buffers.{buffer, any-short}
 use Rattle.kandurzo.specs.Gate.{gate-of}
+use Rattle.kandurzo.specs.Judging.{surplus-buffers}
 use Rattle.kandurzo.proofs.judging.surplus_gate.Statement.{statement}
 use Rattle.kandurzo.proofs.judging.surplus_gate.Tie as tie
 
-surplus-short-requires : tie.Need-surplus-short-requires
-surplus-short-requires c κs = search needs
+cast-n : tie.Need-cast-n
+cast-n c = search needs
 
 gate-requires : tie.Need-gate-requires
 gate-requires c κs = search needs
 
 returns : tie.Need-returns
+unfolding surplus-buffers buffer any-short
 returns c =
     let a = c .before .before .args in
-    c .gate .ensures ∙ ap (λ (b : Bool). gate-of (a .head) (a .agreed) b) (c .before .surplus-short .ensures)
+    c .gate .ensures ∙ ap (λ (b : Bool). gate-of (a .head) (a .agreed) b) (simp or-false)
 
 pub surplus-gate-spec : {M : Type 1} → statement M
-surplus-gate-spec = tie.close (tie.spec surplus-short-requires gate-requires returns)
+surplus-gate-spec = tie.close (tie.spec cast-n gate-requires returns)

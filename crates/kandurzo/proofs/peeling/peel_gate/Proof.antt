@@ -1,21 +1,24 @@
 -- `peel_gate` meets its contract. Assumes nothing.
 use mathlib.Core.Path.{ap, _∙_}
-use mathlib.Core.Bool.{Bool}
+use mathlib.Core.Bool.{Bool, or-assoc, or-false}
 use borrow.Author.Needs.{needs}
+use Rattle.kandurzo.specs.Buffers.{buffer, any-short, work-words}
 use Rattle.kandurzo.specs.Gate.{gate-of}
+use Rattle.kandurzo.specs.Peeling.{peel-buffers}
 use Rattle.kandurzo.proofs.peeling.peel_gate.Statement.{statement}
 use Rattle.kandurzo.proofs.peeling.peel_gate.Tie as tie
 
-peel-short-requires : tie.Need-peel-short-requires
-peel-short-requires c κs = search needs
+cast-n : tie.Need-cast-n
+cast-n c = search needs
 
 gate-requires : tie.Need-gate-requires
 gate-requires c κs = search needs
 
 returns : tie.Need-returns
+unfolding peel-buffers buffer any-short work-words
 returns c =
     let a = c .before .before .args in
-    c .gate .ensures ∙ ap (λ (b : Bool). gate-of (a .head) (a .agreed) b) (c .before .peel-short .ensures)
+    c .gate .ensures ∙ ap (λ (b : Bool). gate-of (a .head) (a .agreed) b) (simp (or-assoc, or-false))
 
 pub peel-gate-spec : {M : Type 1} → statement M
-peel-gate-spec = tie.close (tie.spec peel-short-requires gate-requires returns)
+peel-gate-spec = tie.close (tie.spec cast-n gate-requires returns)

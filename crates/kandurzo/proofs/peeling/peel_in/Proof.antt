@@ -1,4 +1,4 @@
--- `peel_in` meets its contract: peel on the parts, narrowed. Assumes nothing.
+-- `peel_in` meets its contract: peel on the words cut in two, narrowed. Assumes nothing.
 use mathlib.Core.Path.{_≡_, _∙_}
 use Prim.Native.Nat.{_≤_}
 use native.Mathlib.Omega.{arith}
@@ -7,14 +7,13 @@ use lib.ListN.{length}
 use denote.Ref.{now}
 use Rattle.theory.specs.Lists.{Pairs}
 use Rattle.theory.specs.Leaving.{leaving}
-use Rattle.theory.specs.Words.{list-in}
+use Rattle.theory.specs.Words.{laid-list}
 use Rattle.theory.specs.Promise.{Leaving-steps}
 use Rattle.theory.proofs.Lists.{listed}
+use Rattle.theory.proofs.Words.{holds-few, cut-list, cut-held}
 use Rattle.theory.proofs.Leaving.{leaving-steps}
 use Rattle.theory.proofs.Bounds.{leaving-below}
-use Rattle.kandurzo.specs.Gate.{list-in-parts}
-use Rattle.kandurzo.proofs.Parts.{cut-list, cut-held}
-use Rattle.kandurzo.proofs.Peels.{narrowed, narrow-long, narrow-fits, cores-long, cores-fit, cores-narrowed, cores-in-front}
+use Rattle.kandurzo.proofs.Peels.{narrowed, narrow-long, narrow-fits, cores-long, cores-fit, cores-narrowed}
 use Rattle.kandurzo.proofs.peeling.peel_in.Statement.{statement}
 use Rattle.kandurzo.proofs.peeling.peel_in.Tie as tie
 
@@ -23,13 +22,17 @@ abbrev begin : tie.After-peel → tie.Start
 begin c = c .before .before .before .before .before .before .before .before .before
 
 abbrev list-of : tie.Start → Pairs
-list-of s = list-in-parts (s .args .n) (s .args .m) (now (s .args .work))
+list-of s = laid-list (s .args .n) (s .args .m) (now (s .args .work))
+
+-- n is at most 512, m at most 4,096
+few : (s : tie.Start) → (s .args .n ≤ 512) × (s .args .m ≤ 4096)
+few s = holds-few (s .args .n) (s .args .m) (now (s .args .work)) (s .pre .0 .listed)
 
 mul-ends : tie.Need-mul-ends
-mul-ends c = search needs
+mul-ends c = search (needs, few (c .before .before .before))
 
 add-weights : tie.Need-add-weights
-add-weights c = search needs
+add-weights c = search (needs, few (c .before .before .before))
 
 sub-peel : tie.Need-sub-peel
 sub-peel c = search needs
@@ -38,7 +41,7 @@ part-peel-start : tie.Need-part-peel-start
 part-peel-start c = search needs
 
 part-peel-end : tie.Need-part-peel-end
-part-peel-end c = search needs
+part-peel-end c = search (needs, few (c .before .before .before))
 
 sub-peel-2 : tie.Need-sub-peel-2
 sub-peel-2 c = search needs
@@ -47,7 +50,7 @@ part-peel-start-2 : tie.Need-part-peel-start-2
 part-peel-start-2 c = search needs
 
 part-peel-end-2 : tie.Need-part-peel-end-2
-part-peel-end-2 c = search needs
+part-peel-end-2 c = search (needs, few (c .before .before .before .before))
 
 slice-aggregate-peel : tie.Need-slice-aggregate-peel
 slice-aggregate-peel c = search needs
@@ -61,24 +64,24 @@ slice-aggregate-peel-3 c = search needs
 peel-requires : tie.Need-peel-requires
 peel-requires c κs =
     let s = c .before .before .before .before .before .before .before .before in
-    let l = listed (list-of s) (s .pre .0 .0) in
-    let some : 1 ≤ s .args .n = unfold list-in-parts list-in in (l .some) in
-    let few : s .args .n ≤ 512 = unfold list-in-parts list-in in (l .few) in (
+    let l = listed (list-of s) (s .pre .0 .listed) in
+    let some : 1 ≤ s .args .n = unfold laid-list in (l .some) in
+    let low = few s .0 in (
       cut-held (s .args .n) (s .args .m) (now (s .args .work)) (s .pre .0),
-      record { some = omega arith; few = some; order-long = few; cores-long = few; place-long = few },
+      record { some = omega arith; few = some; order-long = low; cores-long = low; place-long = low },
     )
 
 slice-aggregate-narrow : tie.Need-slice-aggregate-narrow
 slice-aggregate-narrow c = search needs
 
 narrow-requires : tie.Need-narrow-requires
-unfolding list-in-parts list-in
+unfolding laid-list
 narrow-requires c κs =
     let v = c .before .before .before .before .before in
     let a = begin v .args in
     let done = rw (cut-list (a .n) (a .m) (now (a .work))) at (v .peel .ensures) in
     let g = list-of (begin v) in
-    let l = listed g (begin v .pre .0 .0) in
+    let l = listed g (begin v .pre .0 .listed) in
     let long : length (leaving g) ≡ a .n = unfold Leaving-steps in (leaving-steps g .0) in (
       narrow-long _ (leaving g) _ _ long (done .order-is),
       (
@@ -91,7 +94,7 @@ slice-aggregate-narrow-2 : tie.Need-slice-aggregate-narrow-2
 slice-aggregate-narrow-2 c = search needs
 
 narrow-requires-2 : tie.Need-narrow-requires-2
-unfolding list-in-parts list-in
+unfolding laid-list
 narrow-requires-2 c κs =
     let v = c .before .before .before .before .before .before .before .before .before .before in
     let a = begin v .args in
@@ -106,7 +109,7 @@ same-length-2 : tie.Need-same-length-2
 same-length-2 c = search needs
 
 returns : tie.Need-returns
-unfolding list-in-parts list-in
+unfolding laid-list
 returns c =
     let v = c .before .before .before .before .before .before .before .before .before .before .before .before .before in
     let a = begin v .args in
@@ -114,7 +117,7 @@ returns c =
     let g = list-of (begin v) in
     let cores = now (a .cores) in (
       c .before .before .before .before .before .before .before .narrow .ensures ∙ narrowed (a .n) (leaving g) _ _ (unfold Leaving-steps in (leaving-steps g .0)) (done .order-is) (now (a .order)),
-      c .before .before .narrow2 .ensures ∙ cores-narrowed g _ _ (done .cores-are) cores ∙ cores-in-front g cores,
+      c .before .before .narrow2 .ensures ∙ cores-narrowed g _ _ (done .cores-are) cores,
     )
 
 pub peel-in-spec : {M : Type 1} → statement M

@@ -1,16 +1,28 @@
--- `peel_on_words` meets its contract: nothing behind a shut gate; else the list in the parts, and zeros in the end. Assumes nothing.
+-- `peel_on_words` meets its contract: nothing behind a shut gate; else the list in the words, and zeros in the end. Assumes nothing.
 use mathlib.Core.Path.{sym, _∙_}
 use borrow.Author.Needs.{needs}
 use borrow.Author.Tests.{eq-eqb, ne-eqb}
 use Rattle.theory.specs.Refusals.{if-taken}
-use Rattle.kandurzo.proofs.Parts.{few, shut-left, room, weighed-list, weighed-parts, weighed-long, weighed-cleared}
-use Rattle.kandurzo.proofs.Peels.{core-numbers-few}
+use Rattle.kandurzo.proofs.Filling.{left-open, left-shut}
+use Rattle.kandurzo.proofs.Peels.{peel-enough}
 use Rattle.kandurzo.proofs.peeling.peel_on_words.Statement.{statement}
 use Rattle.kandurzo.proofs.peeling.peel_on_words.Tie as tie
 
+-- the function's entry, and the open gate before peel_in and after it
+abbrev begin : tie.Else1 → tie.Start
+begin c = c .before .before .before .before
+
+abbrev opened : tie.After-peel-in-arg3 → tie.Else1
+opened c = c .before .before .before .before .before
+
+abbrev peeled : tie.After-clear-arg → tie.After-peel-in-arg3
+peeled c = c .before .before .before .before .before .before
+
 returns : tie.Need-returns
 unfolding if-taken
-returns c = let n = ne-eqb _ 0 (c .if1 .taken) in record { order-is = sym (rw n); cores-are = sym (rw n); left = shut-left (c .before .before .before .before .pre .0) (c .if1 .taken) }
+returns c =
+    let n = ne-eqb _ 0 (c .if1 .taken) in
+    record { order-is = sym (rw n); cores-are = sym (rw n); left = left-shut (c .before .before .before .before .pre) (c .if1 .taken) }
 
 cast-n : tie.Need-cast-n
 cast-n c = search needs
@@ -18,21 +30,15 @@ cast-n c = search needs
 cast-m : tie.Need-cast-m
 cast-m c = search needs
 
-add-fill : tie.Need-add-fill
-add-fill c = search needs
-
-fill-requires : tie.Need-fill-requires
-fill-requires c κs = room (c .before .before .before .before .before .before .before .pre .0) (c .before .before .before .if1 .left)
-
 peel-in-requires : tie.Need-peel-in-requires
 peel-in-requires c κs =
-    let h = c .before .before .before .before .before .before .before .before .before .before .before .before .before .pre in
-    let z = c .before .before .before .before .before .before .before .before .before .if1 .left in
-    let w = c .before .before .before .before .before .fill .ensures in
-    (weighed-parts (h .0) z w, (h .1 z, (h .2 z, λ v. rw (weighed-list (h .0) z w) (core-numbers-few _ _ v (few (h .0) z)))))
+    let z = opened c .if1 .left in
+    let h = begin (opened c) .pre in
+    let e = peel-enough _ _ _ _ (h .long z) in
+    (h .holds z, (e .0, (e .1, h .fits z .cores)))
 
-fill-requires-2 : tie.Need-fill-requires-2
-fill-requires-2 c κs = weighed-long (c .before .before .before .before .before .before .before .before .before .before .before .before .before .before .before .before .before .before .before .pre .0) (c .before .before .before .before .before .before .before .before .before .before .before .before .before .before .before .if1 .left) (c .before .before .before .before .before .before .before .before .before .before .before .fill .ensures)
+clear-requires : tie.Need-clear-requires
+clear-requires c κs = let o = opened (peeled c) in peel-enough _ _ _ _ (begin o .pre .long (o .if1 .left)) .2
 
 same-length : tie.Need-same-length
 same-length c = search needs
@@ -46,25 +52,11 @@ same-length-3 c = search needs
 returns-2 : tie.Need-returns-2
 unfolding if-taken
 returns-2 c =
-    let on = c .before .before .before .before .before .before .before .before .before .before .before .before .before .before .before .before .before .before .before .before .before .before .pre .0 in
-    let y = c .before .before .before .before .before .before .before .before .before .before .before .before .before .before .before .before .before .before .if1 .left in
-    let z = eq-eqb _ 0 y in
-    let w = c .before .before .before .before .before .before .before .before .before .before .before .before .before .before .fill .ensures in
-    let done = rw (weighed-list on y w) at (c .before .before .before .before .before .before .before .before .peel-in .ensures) in
-    record { order-is = done .0 ∙ sym (rw z); cores-are = done .1 ∙ sym (rw z); left = weighed-cleared on y w (c .before .before .fill2 .ensures) }
+    let z = opened (peeled (c .before .before .before)) .if1 .left in
+    let k = eq-eqb _ 0 z in
+    let done = c .before .before .before .before .before .before .before .before .peel-in .ensures in
+    record { order-is = done .0 ∙ sym (rw k); cores-are = done .1 ∙ sym (rw k); left = c .before .before .clear .ensures ∙ sym (left-open _ z) }
 
 pub peel-on-words-spec : {M : Type 1} → statement M
 peel-on-words-spec =
-    tie.close
-    (tie.spec
-    returns
-    cast-n
-    cast-m
-    add-fill
-    fill-requires
-    peel-in-requires
-    fill-requires-2
-    same-length
-    same-length-2
-    same-length-3
-    returns-2)
+    tie.close (tie.spec returns cast-n cast-m peel-in-requires clear-requires same-length same-length-2 same-length-3 returns-2)

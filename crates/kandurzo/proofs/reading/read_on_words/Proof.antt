@@ -5,7 +5,7 @@ use Rattle.kandurzo.proofs.reading.read_on_words.Statement.{statement}
 use Rattle.kandurzo.proofs.reading.read_on_words.Tie as tie
 
 returns : tie.Need-returns
-returns c = read-short _ _ _ (c .if1 .taken)
+returns c = read-short _ _ _ _ (c .if1 .taken)
 
 read-words-requires : tie.Need-read-words-requires
 read-words-requires c κs = search needs

@@ -1,4 +1,4 @@
--- `sheet_in` meets its contract: solve on the parts, narrowed. Assumes nothing.
+-- `sheet_in` meets its contract: solve on the words cut in two, narrowed. Assumes nothing.
 use mathlib.Core.Path.{_≡_}
 use Prim.Native.Nat.{ℕ, _≤_}
 use native.Mathlib.Omega.{arith}
@@ -6,12 +6,9 @@ use borrow.Author.Needs.{needs}
 use lib.ListN.{length, replicate}
 use denote.Ref.{now}
 use Rattle.theory.specs.Lists.{Pairs}
-use Rattle.theory.specs.Words.{list-in, pairs-in}
-use Rattle.theory.proofs.Tables.{length-table}
-use Rattle.theory.proofs.Lists.{listed}
+use Rattle.theory.specs.Words.{laid-list}
+use Rattle.theory.proofs.Words.{length-laid, holds-few, cut-list, cut-held}
 use Rattle.densest.specs.Solve.{Solves}
-use Rattle.kandurzo.specs.Gate.{list-in-parts}
-use Rattle.kandurzo.proofs.Parts.{cut-list, cut-held}
 use Rattle.kandurzo.proofs.Peels.{cores-long, cores-fit}
 use Rattle.kandurzo.proofs.Sheets.{sheet-small, sheet-solves}
 use Rattle.kandurzo.proofs.solving.sheet_in.Statement.{statement}
@@ -22,12 +19,12 @@ abbrev begin : tie.After-solve → tie.Start
 begin c = c .before .before .before .before .before .before .before .before .before .before
 
 abbrev list-of : tie.Start → Pairs
-list-of s = list-in-parts (s .args .n) (s .args .m) (now (s .args .work))
+list-of s = laid-list (s .args .n) (s .args .m) (now (s .args .work))
 
 -- it has m pairs
 pairs-m : (s : tie.Start) → length (list-of s .pairs) ≡ s .args .m
-unfolding list-in-parts list-in pairs-in
-pairs-m s = length-table (s .args .m) _
+unfolding laid-list
+pairs-m s = length-laid (s .args .m) (now (s .args .work))
 
 -- what solve left, of that list
 done : (c : tie.After-solve) →
@@ -35,11 +32,15 @@ done : (c : tie.After-solve) →
     (c .solve .last .1 .1 .1 .1 .1 .0) (c .solve .last .1 .1 .1 .1 .1 .1 .0) (c .solve .result)
 done c = let a = begin c .args in rw (cut-list (a .n) (a .m) (now (a .work))) at (c .solve .ensures)
 
+-- n is at most 512, m at most 4,096
+few : (s : tie.Start) → (s .args .n ≤ 512) × (s .args .m ≤ 4096)
+few s = holds-few (s .args .n) (s .args .m) (now (s .args .work)) (s .pre .0 .listed)
+
 mul-ends : tie.Need-mul-ends
-mul-ends c = search needs
+mul-ends c = search (needs, few (c .before .before .before .before))
 
 add-weights : tie.Need-add-weights
-add-weights c = search needs
+add-weights c = search (needs, few (c .before .before .before .before))
 
 sub-solve : tie.Need-sub-solve
 sub-solve c = search needs
@@ -48,7 +49,7 @@ part-solve-start : tie.Need-part-solve-start
 part-solve-start c = search needs
 
 part-solve-end : tie.Need-part-solve-end
-part-solve-end c = search needs
+part-solve-end c = search (needs, few (c .before .before .before .before))
 
 sub-solve-2 : tie.Need-sub-solve-2
 sub-solve-2 c = search needs
@@ -57,7 +58,7 @@ part-solve-start-2 : tie.Need-part-solve-start-2
 part-solve-start-2 c = search needs
 
 part-solve-end-2 : tie.Need-part-solve-end-2
-part-solve-end-2 c = search needs
+part-solve-end-2 c = search (needs, few (c .before .before .before .before .before))
 
 slice-aggregate-solve : tie.Need-slice-aggregate-solve
 slice-aggregate-solve c = search needs
@@ -69,14 +70,13 @@ solve-requires : tie.Need-solve-requires
 solve-requires c κs =
     let s = c .before .before .before .before .before .before .before .before .before in
     let h = s .pre in
-    let few : s .args .n ≤ 512 = unfold list-in-parts list-in in (listed (list-of s) (h .0 .0) .few) in
-    (cut-held (s .args .n) (s .args .m) (now (s .args .work)) (h .0), (h .1 .0, few, h .0 .1))
+    (cut-held (s .args .n) (s .args .m) (now (s .args .work)) (h .0), (h .1 .0, few s .0, few s .1))
 
 slice-aggregate-narrow : tie.Need-slice-aggregate-narrow
 slice-aggregate-narrow c = search needs
 
 narrow-requires : tie.Need-narrow-requires
-unfolding list-in-parts list-in
+unfolding laid-list
 narrow-requires c κs =
     let v = c .before .before .before .before .before .before in
     let h = begin v .pre in
@@ -91,8 +91,8 @@ narrow-requires-2 c κs =
     let v = c .before .before .before .before .before .before .before .before .before .before .before in
     let s = begin v in
     let h = s .pre in (
-      omega (arith, done v .shares-long, h .0 .1),
-      (h .1 .1 .1 .0, sheet-small (list-of s) (h .0 .0) (s .args .m) (pairs-m s) _ _ _ _ _ _ _ (done v) (h .1 .1 .1 .1)),
+      omega (arith, done v .shares-long, few s .1),
+      (h .1 .1 .1 .0, sheet-small (list-of s) (h .0 .listed) (s .args .m) (pairs-m s) _ _ _ _ _ _ _ (done v) (h .1 .1 .1 .1)),
     )
 
 same-length : tie.Need-same-length
@@ -105,14 +105,14 @@ same-length-3 : tie.Need-same-length-3
 same-length-3 c = search needs
 
 returns : tie.Need-returns
-unfolding list-in-parts list-in
+unfolding laid-list
 returns c =
     let v = c .before .before .before .before .before .before .before .before .before .before .before .before .before .before in
     let s = begin v in
     let h = s .pre in
     rw (c .before .before .narrow2 .ensures, c .before .before .before .before .before .before .before .narrow .ensures)
-    (sheet-solves (list-of s) (h .0 .0) (s .args .m) (pairs-m s) _ _ _ _ _ _ _ (done v) (now (s .args .cores)) (now (s .args .shares))
-    (omega (arith, done v .shares-long, h .0 .1)) (h .1 .1 .1 .0))
+    (sheet-solves (list-of s) (h .0 .listed) (s .args .m) (pairs-m s) _ _ _ _ _ _ _ (done v) (now (s .args .cores)) (now (s .args .shares))
+    (omega (arith, done v .shares-long, few s .1)) (h .1 .1 .1 .0))
 
 pub sheet-in-spec : {M : Type 1} → statement M
 sheet-in-spec =

@@ -1,13 +1,26 @@
--- `solve_on_words` meets its contract: nothing behind a shut gate; else the list in the parts, and zeros in the end. Assumes nothing.
+-- `solve_on_words` meets its contract: nothing behind a shut gate; else the list in the words, and zeros in the end. Assumes nothing.
 use mathlib.Core.Path.{refl, sym, ap, _∙_}
 use borrow.Author.Needs.{needs}
 use Rattle.kandurzo.specs.declared.Solved.{Solved}
 use Rattle.kandurzo.specs.Solving.{declined}
-use Rattle.kandurzo.proofs.Parts.{few, shut-left, room, weighed-list, weighed-parts, weighed-long, weighed-cleared}
-use Rattle.kandurzo.proofs.Solves.{ones-fit}
+use Rattle.kandurzo.proofs.Filling.{left-open, left-shut}
+use Rattle.kandurzo.proofs.Solves.{solve-enough}
 use Rattle.kandurzo.proofs.Sheets.{some-modules, handed}
 use Rattle.kandurzo.proofs.solving.solve_on_words.Statement.{statement}
 use Rattle.kandurzo.proofs.solving.solve_on_words.Tie as tie
+
+-- the function's entry, and the open gate before sheet_in and after it
+abbrev begin : tie.Else1 → tie.Start
+begin c = c .before .before .before .before .before
+
+abbrev opened : tie.After-sheet-in-arg4 → tie.Else1
+opened c = c .before .before .before .before .before .before
+
+abbrev solved : tie.After-clear-arg → tie.After-sheet-in
+solved c = c .before .before .before .before .before .before .before
+
+abbrev cleared : tie.After-slice-known8 → tie.After-clear-arg
+cleared c = c .before .before .before
 
 refused-requires : tie.Need-refused-requires
 refused-requires c κs = search needs
@@ -17,7 +30,12 @@ unfolding declined
 returns c =
     let n = c .before .if1 .taken in
     let e = c .refused .ensures in
-    record { number = ap (λ (r : Solved). r .number) e; handed = λ z. absurd (n z); refused = λ _. (e, refl, refl, refl); left = shut-left (c .before .before .before .before .before .before .pre .0) n }
+    record {
+      number = ap (λ (r : Solved). r .number) e;
+      handed = λ z. absurd (n z);
+      refused = λ _. (e, refl, refl, refl);
+      left = left-shut (c .before .before .before .before .before .before .pre) n;
+    }
 
 cast-n : tie.Need-cast-n
 cast-n c = search needs
@@ -25,26 +43,21 @@ cast-n c = search needs
 cast-m : tie.Need-cast-m
 cast-m c = search needs
 
-add-fill : tie.Need-add-fill
-add-fill c = search needs
-
-fill-requires : tie.Need-fill-requires
-fill-requires c κs = room (c .before .before .before .before .before .before .before .before .pre .0) (c .before .before .before .if1 .left)
-
 sheet-in-requires : tie.Need-sheet-in-requires
 sheet-in-requires c κs =
-    let h = c .before .before .before .before .before .before .before .before .before .before .before .before .before .before .before .pre in
-    let z = c .before .before .before .before .before .before .before .before .before .before .if1 .left in
-    let w = c .before .before .before .before .before .before .fill .ensures in
-    (weighed-parts (h .0) z w, (h .1 z, (h .2 z, (h .3 z, rw (weighed-list (h .0) z w) (ones-fit _ _ (few (h .0) z))))))
+    let z = opened c .if1 .left in
+    let h = begin (opened c) .pre in
+    let e = solve-enough _ _ _ _ _ (h .long z) in
+    (h .holds z, (e .0, (e .1, (e .2, h .fits z))))
 
-fill-requires-2 : tie.Need-fill-requires-2
-fill-requires-2 c κs = weighed-long (c .before .before .before .before .before .before .before .before .before .before .before .before .before .before .before .before .before .before .before .before .before .before .before .pre .0) (c .before .before .before .before .before .before .before .before .before .before .before .before .before .before .before .before .before .before .if1 .left) (c .before .before .before .before .before .before .before .before .before .before .before .before .before .before .fill .ensures)
+clear-requires : tie.Need-clear-requires
+clear-requires c κs = let o = opened (solved c .before) in solve-enough _ _ _ _ _ (begin o .pre .long (o .if1 .left)) .3
 
 record-of-requires : tie.Need-record-of-requires
 record-of-requires c κs =
-    let parts = weighed-parts (c .before .before .before .before .before .before .before .before .before .before .before .before .before .before .before .before .before .before .before .before .before .before .before .before .before .before .pre .0) (c .before .before .before .before .before .before .before .before .before .before .before .before .before .before .before .before .before .before .before .before .before .if1 .left) (c .before .before .before .before .before .before .before .before .before .before .before .before .before .before .before .before .before .fill .ensures) in
-    some-modules _ (parts .0) _ refl _ _ _ _ _ _ _ (c .before .before .before .before .before .before .before .before .before .before .sheet-in .ensures)
+    let v = solved (cleared c) in
+    let o = opened (v .before) in
+    some-modules _ (begin o .pre .holds (o .if1 .left) .listed) _ refl _ _ _ _ _ _ _ (v .sheet-in .ensures)
 
 same-length : tie.Need-same-length
 same-length c = search needs
@@ -60,15 +73,14 @@ same-length-4 c = search needs
 
 returns-2 : tie.Need-returns-2
 returns-2 c =
-    let on = c .before .before .before .before .before .before .before .before .before .before .before .before .before .before .before .before .before .before .before .before .before .before .before .before .before .before .before .pre .0 in
-    let z = c .before .before .before .before .before .before .before .before .before .before .before .before .before .before .before .before .before .before .before .before .before .before .if1 .left in
-    let w = c .before .before .before .before .before .before .before .before .before .before .before .before .before .before .before .before .before .before .fill .ensures in
+    let v = solved (cleared (c .before)) in
+    let z = opened (v .before) .if1 .left in
     let r = c .record-of .ensures in
     record {
       number = ap (λ (s : Solved). s .number) r ∙ sym z;
-      handed = λ _. rw r (rw (weighed-list on z w) at (handed _ _ _ _ _ _ _ _ (c .before .before .before .before .before .before .before .before .before .before .before .sheet-in .ensures)));
+      handed = λ _. rw r (handed _ _ _ _ _ _ _ _ (v .sheet-in .ensures));
       refused = λ n. absurd (n z);
-      left = weighed-cleared on z w (c .before .before .before .fill2 .ensures);
+      left = c .before .before .before .clear .ensures ∙ sym (left-open _ z);
     }
 
 pub solve-on-words-spec : {M : Type 1} → statement M
@@ -79,10 +91,8 @@ solve-on-words-spec =
     returns
     cast-n
     cast-m
-    add-fill
-    fill-requires
     sheet-in-requires
-    fill-requires-2
+    clear-requires
     record-of-requires
     same-length
     same-length-2

@@ -2,8 +2,8 @@
 use borrow.Author.Needs.{needs}
 use Rattle.theory.specs.Refusals.{cause, refusal, if-taken}
 use Rattle.kandurzo.specs.Gate.{gate-causes, records-through, gate-of}
-use Rattle.kandurzo.proofs.judging.gate.Statement.{statement}
-use Rattle.kandurzo.proofs.judging.gate.Tie as tie
+use Rattle.kandurzo.proofs.buffers.gate.Statement.{statement}
+use Rattle.kandurzo.proofs.buffers.gate.Tie as tie
 
 returns : tie.Need-returns
 unfolding gate-of refusal gate-causes cause records-through if-taken
