@@ -1,40 +1,39 @@
 -- From what read and solve say, one after the other, to the answer.
 --   answer-of         the answer, of what read and solve return
---   ends-enough, length-ends    what copy_out asks, and that it leaves as many words
+--   out-past          copy_out leaves the words past the pairs as they were
+--   room-out, length-out    what copy_out asks, and that it leaves as many words
 --   sheeted           the contract of sheet_file
 --   answers           the contract of solve_file, from it
 -- Assumes nothing.
 use mathlib.Core.Path.{_≡_, refl, sym, ap, _∙_, subst}
-use mathlib.Core.Bool.{Bool, true, false, cond}
-use mathlib.Core.List.{List, _++_}
-use Prim.Native.Nat.{ℕ, _*_, _≤_}
+use mathlib.Core.Bool.{Bool, true, false, _||_, cond}
+use mathlib.Core.List.{List}
+use Prim.Native.Nat.{ℕ, _+_, _*_, _≤_}
 use native.Mathlib.Omega.{arith}
 use borrow.Author.Tests.{le-ltb}
-use lib.ListN.{length, take, drop, replicate}
-use lib.Seq.{length-take-le, drop-append-seam}
-use Rattle.theory.proofs.Tests.{tests}
+use lib.ListN.{length, take, length-map}
+use lib.Seq.{length-take-le}
 use Rattle.theory.specs.Lists.{Pairs, is-list}
 use Rattle.theory.specs.Refusals.{cause, refusal}
+use Rattle.theory.specs.Words.{laid-pairs, put-at}
 use Rattle.theory.proofs.Lists.{Listed, listed}
+use Rattle.theory.proofs.Words.{length-put, put-below, put-past, put-drop}
 use Rattle.pairfile.specs.Outcomes.{Outcome, refused, taken}
 use Rattle.pairfile.specs.File.{read-file}
-use Rattle.pairfile.specs.Answers.{reading-of, pairs-of}
+use Rattle.pairfile.specs.Answers.{reading-of, pairs-of, Same-past}
 use Rattle.records.specs.declared.Pair.{Pair}
 use Rattle.records.specs.declared.Head.{Head}
-use Rattle.records.specs.Records.{held-list, agrees, ends-of, laid-out}
-use Rattle.records.proofs.Copies.{length-ends-of, length-laid-out, laid-out-none, pairs-laid-out}
-use Rattle.records.proofs.Steps.{Enough}
-use Rattle.pairs.specs.Located.{ones-in}
-use Rattle.pairs.proofs.Weights.{ones-at}
+use Rattle.records.specs.Records.{as-pair, held-list, agrees, ends-of, weights-of, laid-out, Room-out}
+use Rattle.records.proofs.Copies.{length-ends-of, length-laid-out, laid-out-none, laid-out-pairs, agrees-room}
 use Rattle.kandurzo.specs.declared.Changed.{Changed}
 use Rattle.kandurzo.specs.declared.Solved.{Solved}
-use Rattle.kandurzo.specs.Buffers.{work-words}
+use Rattle.kandurzo.specs.Buffers.{buffer, any-short, work-words}
 use Rattle.kandurzo.specs.Gate.{gate-causes, gate-number}
 use Rattle.kandurzo.specs.Listing.{head-of}
-use Rattle.kandurzo.specs.Reading.{read-outcome, read-head, records-front, Read-call}
-use Rattle.kandurzo.specs.Solving.{solve-short, declined, Handed, Solve-call}
+use Rattle.kandurzo.specs.Reading.{read-buffers, read-outcome, read-head, records-front, Read-call}
+use Rattle.kandurzo.specs.Solving.{solve-buffers, solve-call-causes, declined, Handed, Solve-call}
 use Rattle.kandurzo.proofs.Gates.{gate-open}
-use Rattle.kandurzo.proofs.Readings.{read-held, read-agrees}
+use Rattle.kandurzo.proofs.Readings.{reads-file, read-held, read-agrees}
 use Rattle.kandurzo.proofs.Taken.{held-is-list}
 use Rattle.answer.specs.declared.Answer.{Answer}
 use Rattle.answer.specs.Answers.{refusal-of, Room-enough, solved-of, Handed-over, Sheeted, Answers}
@@ -50,25 +49,42 @@ answer-of file found = record {
   coresize = found .coresize;
 }
 
+-- the words past the first m pairs are as they were
+out-past : (ps : List Pair) (ws : List ℕ) (m : ℕ) → Room-out ps ws m → 12288 ≤ length ws → Same-past m ws (laid-out ps ws m)
+unfolding laid-out weights-of
+out-past ps ws m room long =
+    let es : List ℕ = ends-of (take m ps) in
+    let cs : List ℕ = weights-of (take m ps) in
+    let front : length (take m ps) ≡ m = length-take-le m ps (room .enough) in
+    let es-long : length es ≡ 2 * m = length-ends-of (take m ps) ∙ ap (λ (k : ℕ). 2 * k) front in
+    let cs-long : length cs ≡ m = length-map (take m ps) (λ p. as-pair p .w) ∙ front in
+    let es-room : 0 + length es ≤ length ws = omega (arith, es-long, room .few, long) in
+    let cs-room : 8192 + length cs ≤ length (put-at 0 es ws) = omega (arith, cs-long, room .few, long, length-put 0 es ws es-room) in
+    record {
+      between = λ t l h. put-below 8192 cs (put-at 0 es ws) cs-room t h ∙ put-past 0 es ws es-room t (omega (arith, es-long, l));
+      beyond = put-drop 8192 cs (put-at 0 es ws) cs-room (8192 + m) (omega (arith, cs-long))
+          ∙ put-drop 0 es ws es-room (8192 + m) (omega (arith, es-long, room .few));
+    }
+
 -- nothing is refused by the gate where head and list agree and no buffer is short
 gate-none : (h : Head) (ps : List Pair) (short : Bool) → agrees h ps ≡ true → short ≡ false → gate-number h ps short ≡ 0
 unfolding gate-number gate-causes refusal cause
 gate-none h ps short agreed enough = simp (agreed, enough)
 
 module _ (bytes : List ℕ) (ps : List Pair) (work : List ℕ) (list-long : length ps ≡ 4096) (work-long : length work ≡ 16384)
-    (file : Changed) (ps′ : List Pair) (work′ : List ℕ) (work-kept : length work′ ≡ 16384) (says : Read-call bytes ps work file ps′ work′) where
+    (file : Changed) (ps′ : List Pair) (work′ : List ℕ) (work-kept : length work′ ≡ 16384) (says : Read-call read-file bytes ps work file ps′ work′) where
   abbrev h : Head
   h = file .head
 
   -- the buffers are as long as read asks
-  outcome-is : read-outcome (length ps) (length work) bytes ≡ read-file 4096 bytes
-  unfolding read-outcome work-words
+  outcome-is : read-outcome read-file (length ps) (length work) bytes ≡ read-file 4096 bytes
+  unfolding read-outcome read-buffers any-short buffer work-words
   outcome-is =
-      ap (λ (t : Bool). cond t (refused 12) (read-file (length ps) bytes)) (le-ltb (length work) 16384 (omega (arith, work-long)))
+      ap (λ (t : Bool). cond (t || false) (refused 12) (read-file (length ps) bytes)) (le-ltb (length work) 16384 (omega (arith, work-long)))
       ∙ ap (λ (n : ℕ). read-file n bytes) list-long
 
   module _ (o : Outcome Pairs) (e : read-file 4096 bytes ≡ o) where
-    outcome-as : read-outcome (length ps) (length work) bytes ≡ o
+    outcome-as : read-outcome read-file (length ps) (length work) bytes ≡ o
     outcome-as = outcome-is ∙ e
 
     number-as : file .number ≡ reading-of o .number
@@ -82,10 +98,10 @@ module _ (bytes : List ℕ) (ps : List Pair) (work : List ℕ) (list-long : leng
 
   module _ (g : Pairs) (e : read-file 4096 bytes ≡ taken g) where
     held-as : held-list h ps′ ≡ g
-    held-as = rw (head-as (taken g) e, records-as (taken g) e) (read-held bytes ps (length work) g (outcome-as (taken g) e))
+    held-as = rw (head-as (taken g) e, records-as (taken g) e) (read-held reads-file bytes ps (length work) g (outcome-as (taken g) e))
 
     agreed : agrees h ps′ ≡ true
-    agreed = rw (head-as (taken g) e, records-as (taken g) e) (read-agrees bytes ps (length work) g (outcome-as (taken g) e))
+    agreed = rw (head-as (taken g) e, records-as (taken g) e) (read-agrees reads-file bytes ps (length work) g (outcome-as (taken g) e))
 
     good : is-list g ≡ true
     good = subst (λ (u : Pairs). is-list u ≡ true) held-as (held-is-list h ps′ agreed)
@@ -99,19 +115,9 @@ module _ (bytes : List ℕ) (ps : List Pair) (work : List ℕ) (list-long : leng
     m-as = ap (λ (u : Head). u .m) (head-as (taken g) e)
 
     -- the words hold the file's pairs once as many records as were read have gone out
-    ends-as : (ends : List ℕ) → ones-in (h .m) (laid-out ps′ ends (h .m)) ≡ g .pairs
-    unfolding held-list ones-in agrees
-    ends-as ends =
-        let few = (simp tests at agreed) .0 in
-        pairs-laid-out ps′ ends (h .m) few (replicate (h .m) 1) (λ j l. ones-at (h .m) j l) ∙ ap (λ (u : Pairs). u .pairs) held-as
-
-    ends-past : (ends : List ℕ) → drop (2 * h .m) (laid-out ps′ ends (h .m)) ≡ drop (2 * h .m) ends
-    unfolding laid-out agrees
-    ends-past ends =
-        let few = (simp tests at agreed) .0 in
-        let e : length (ends-of (take (h .m) ps′)) ≡ 2 * h .m = length-ends-of (take (h .m) ps′) ∙ ap (λ (k : ℕ). 2 * k) (length-take-le (h .m) ps′ few) in
-        subst (λ (k : ℕ). drop k (ends-of (take (h .m) ps′) ++ drop (2 * h .m) ends) ≡ drop (2 * h .m) ends) e
-        (drop-append-seam (ends-of (take (h .m) ps′)) (drop (2 * h .m) ends))
+    pairs-as : (words : List ℕ) → Room-out ps′ words (h .m) → laid-pairs (h .m) (laid-out ps′ words (h .m)) ≡ g .pairs
+    unfolding held-list
+    pairs-as words room = laid-out-pairs ps′ words (h .m) room ∙ ap (λ (u : Pairs). u .pairs) held-as
 
     few-taken : h .m ≤ 4096
     few-taken = omega (arith, m-as, listed g good .short)
@@ -130,22 +136,22 @@ module _ (bytes : List ℕ) (ps : List Pair) (work : List ℕ) (list-long : leng
       go (taken g) e = few-taken g e
 
   -- what copy_out asks of the words, and that it leaves as many
-  module _ (kept : length ps′ ≡ 4096) (ends : List ℕ) (long : 8192 ≤ length ends) where
-    pub ends-enough : Enough ps′ ends (h .m)
-    ends-enough = (omega (arith, few-records, kept), few-records, omega (arith, few-records, long))
+  module _ (kept : length ps′ ≡ 4096) (words : List ℕ) (long : 12288 ≤ length words) where
+    pub room-out : Room-out ps′ words (h .m)
+    room-out = record { enough = omega (arith, few-records, kept); few = few-records; long = λ _. long }
 
-    pub length-ends : length (laid-out ps′ ends (h .m)) ≡ length ends
-    length-ends = length-laid-out ps′ ends (h .m) (ends-enough .0) (ends-enough .2)
+    pub length-out : length (laid-out ps′ words (h .m)) ≡ length words
+    length-out = length-laid-out ps′ words (h .m) room-out
 
-  module _ (members cores shares ends : List ℕ) (room : Room-enough (length members) (length cores) (length shares) (length ends))
+  module _ (members cores shares words : List ℕ) (room : Room-enough (length members) (length cores) (length shares) (length words))
       (found : Solved) (members′ cores′ shares′ work″ : List ℕ)
       (finds : Solve-call h ps′ members cores shares work′ found members′ cores′ shares′ work″) where
     abbrev short : Bool
-    short = solve-short h (length members) (length cores) (length shares) (length work′)
+    short = any-short (solve-buffers h (length members) (length cores) (length shares) (length work′))
 
     module _ (g : Pairs) (e : read-file 4096 bytes ≡ taken g) where
       enough : short ≡ false
-      unfolding solve-short work-words
+      unfolding solve-buffers any-short buffer work-words
       enough =
           let l : Listed g = listed g (good g e) in
           simp (
@@ -156,6 +162,7 @@ module _ (bytes : List ℕ) (ps : List Pair) (work : List ℕ) (list-long : leng
           )
 
       solved : found .number ≡ 0
+      unfolding solve-call-causes gate-number gate-causes
       solved = finds .number .outright ∙ gate-none h ps′ short (agreed g e) enough
 
       handed : Handed g members cores shares found members′ cores′ shares′
@@ -177,14 +184,18 @@ module _ (bytes : List ℕ) (ps : List Pair) (work : List ℕ) (list-long : leng
         ratio = handed .float i;
       }
 
-      over : Handed-over g members cores shares ends (answer-of file found) members′ cores′ shares′ (laid-out ps′ ends (h .m))
+      -- what copy_out asks
+      out : Room-out ps′ words (h .m)
+      out = agrees-room h ps′ words (agreed g e) (room .words-long)
+
+      over : Handed-over g members cores shares words (answer-of file found) members′ cores′ shares′ (laid-out ps′ words (h .m))
       over = record {
         number = number-none;
         modules = n-as g e;
         pairs = m-as g e;
         handed = subst (λ (u : Solved). Handed g members cores shares u members′ cores′ shares′) record-as handed;
-        ends-are = ends-as g e ends;
-        ends-rest = ends-past g e ends;
+        pairs-are = pairs-as g e words out;
+        words-rest = out-past ps′ words (h .m) out (room .words-long);
       }
 
     module _ (k : ℕ) (e : read-file 4096 bytes ≡ refused k) where
@@ -197,6 +208,7 @@ module _ (bytes : List ℕ) (ps : List Pair) (work : List ℕ) (list-long : leng
           omega (arith, l .some, n-none)
 
       declines : (found ≡ declined (found .number)) × (members′ ≡ members) × (cores′ ≡ cores) × (shares′ ≡ shares)
+      unfolding solve-call-causes gate-number gate-causes
       declines = finds .refused (λ z. shut (sym (finds .number .outright) ∙ z))
 
       answer-none : answer-of file found ≡ refusal-of k
@@ -207,19 +219,19 @@ module _ (bytes : List ℕ) (ps : List Pair) (work : List ℕ) (list-long : leng
           let h-is : h ≡ head-of 0 0 = none-read k e in
           record { number = number-is i; n = h-is i .n; m = h-is i .m; p = d i .p; q = d i .q; k = d i .k; coresize = d i .coresize }
 
-      ends-stay : laid-out ps′ ends (h .m) ≡ ends
+      words-stay : laid-out ps′ words (h .m) ≡ words
       unfolding head-of
-      ends-stay = ap (λ (u : Head). laid-out ps′ ends (u .m)) (none-read k e) ∙ laid-out-none ps′ ends
+      words-stay = ap (λ (u : Head). laid-out ps′ words (u .m)) (none-read k e) ∙ laid-out-none ps′ words
 
-    pub sheeted : Sheeted bytes members cores shares ends (answer-of file found) members′ cores′ shares′ (laid-out ps′ ends (h .m))
+    pub sheeted : Sheeted bytes members cores shares words (answer-of file found) members′ cores′ shares′ (laid-out ps′ words (h .m))
     sheeted = record {
       taken = over;
-      refused = λ k e. let d = declines k e in (answer-none k e, d .1, d .2, d .3, ends-stay k e);
+      refused = λ k e. let d = declines k e in (answer-none k e, d .1, d .2, d .3, words-stay k e);
     }
 
 -- the group alone
-pub answers : {bytes members cores shares ends : List ℕ} {r : Answer} {members′ cores′ shares′ ends′ : List ℕ} →
-    Sheeted bytes members cores shares ends r members′ cores′ shares′ ends′ → Answers bytes members r members′
+pub answers : {bytes members cores shares words : List ℕ} {r : Answer} {members′ cores′ shares′ words′ : List ℕ} →
+    Sheeted bytes members cores shares words r members′ cores′ shares′ words′ → Answers bytes members r members′
 unfolding solved-of
 answers s = record {
   taken = λ g e.

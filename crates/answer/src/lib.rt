@@ -27,25 +27,25 @@ fn count(head: Head) -> usize
     head.m as usize
 }
 
-// Reads the file and solves its list: the member bytes mark the found group, then core numbers, load sheet, and the list's ends, two words a
-// pair. A refused file has the head 0,0: no record goes out, and solve declines.
+// Reads the file and solves its list: the member bytes mark the found group, then core numbers, load sheet, and the list in words. A refused
+// file has the head 0,0: no record goes out, and solve declines.
 pub fn sheet_file(
     bytes: &[u8],
     members: &mut [u8],
     cores: &mut [u16],
     shares: &mut [u16],
-    ends: &mut [u32],
+    words: &mut [u32],
 ) -> Answer
-    requires { ⌜ Room-enough (length (now members)) (length (now cores)) (length (now shares)) (length (now ends)) ⌝ }
-    ensures { λ r. ⌜ Sheeted (now (bytes .entry)) (now (members .entry)) (now (cores .entry)) (now (shares .entry)) (now (ends .entry)) r
-        (now (members .exit)) (now (cores .exit)) (now (shares .exit)) (now (ends .exit)) ⌝ }
+    requires { ⌜ Room-enough (length (now members)) (length (now cores)) (length (now shares)) (length (now words)) ⌝ }
+    ensures { λ r. ⌜ Sheeted (now (bytes .entry)) (now (members .entry)) (now (cores .entry)) (now (shares .entry)) (now (words .entry)) r
+        (now (members .exit)) (now (cores .exit)) (now (shares .exit)) (now (words .exit)) ⌝ }
 {
     let mut list = [Pair { a: 0, b: 0 }; 4096];
     let mut work = [0u32; 16384];
     let file = read(bytes, &mut list, &mut work);
     let head = file.head;
     let held = count(head);
-    copy_out(&list, ends, held);
+    copy_out(&list, words, held);
     let found = solve(head, &list, members, cores, shares, &mut work);
     Answer {
         number: file.number,
@@ -65,6 +65,6 @@ pub fn solve_file(bytes: &[u8], members: &mut [u8]) -> Answer
 {
     let mut cores = [0u16; 512];
     let mut shares = [0u16; 4096];
-    let mut ends = [0u32; 8192];
-    sheet_file(bytes, members, &mut cores, &mut shares, &mut ends)
+    let mut words = [0u32; 12288];
+    sheet_file(bytes, members, &mut cores, &mut shares, &mut words)
 }

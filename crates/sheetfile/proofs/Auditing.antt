@@ -1,5 +1,4 @@
 -- A sheet that has been read, judged.
---   list-ones, held-ones                         a list in words with weights of 1, as check and peel take it
 --   checked, cores-few                           what check says of whole buffers; how many core numbers there are
 --   p-differs, q-differs, k-differs, size-differs, head-agrees     what each way through judge_head gives
 --   check-then                                   where check accepts, the causes behind decide
@@ -10,59 +9,49 @@
 use mathlib.Core.Path.{_≡_, refl, sym, ap, _∙_}
 use mathlib.Core.Bool.{Bool, true, false, _&&_, cond, not, and-false}
 use mathlib.Core.List.{List, [], _∷_, _++_}
-use Prim.Native.Nat.{ℕ, zero, suc, _≤_}
+use Prim.Native.Nat.{ℕ, zero, suc, _+_, _*_, _-_, _≤_}
 use native.Mathlib.Omega.{arith}
 use borrow.Author.Tests.{eq-eqb, ne-eqb}
 use lib.Dec.{eqb}
 use lib.ListN.{length, take, drop, replicate, length-replicate}
 use lib.Seq.{take-all, length-take-le, take-at}
-use Rattle.theory.specs.Lists.{Pair, Pairs, is-list}
+use Rattle.theory.specs.Lists.{Pairs, is-list}
 use Rattle.theory.specs.Groups.{inside, size}
 use Rattle.theory.specs.Splits.{rounded-up}
-use Rattle.theory.specs.Words.{list-in, Held-words}
+use Rattle.theory.specs.Words.{list-in, laid-list, Holds-list}
 use Rattle.theory.specs.Cores.{core-number, core-numbers}
 use Rattle.theory.specs.Refusals.{Cause, cause, refusal, if-taken}
 use Rattle.theory.specs.Check.{check-causes, check-number}
 use Rattle.theory.proofs.Tests.{tests}
 use Rattle.theory.proofs.Tables.{length-table}
 use Rattle.theory.proofs.Refusals.{refusal-none, refusal-passed}
+use Rattle.theory.proofs.Lists.{listed}
+use Rattle.theory.proofs.Words.{cut-list, holds-few}
 use Rattle.pairs.proofs.Causes.{refusal-first}
-use Rattle.pairs.proofs.Weights.{length-ones, ones-at, pairs-ones}
-use Rattle.theory.proofs.Lists.{Listed, listed}
 use Rattle.pairfile.specs.Outcomes.{taken, _>>=_, _>>_, passed, judge}
 use Rattle.pairfile.specs.Answers.{FileRead}
 use Rattle.pairfile.specs.declared.Reading.{Reading}
 use Rattle.pairfile.proofs.Judged.{judge-refused}
-use Rattle.pairfile.proofs.Accepts.{accepted as file-accepted}
-use Rattle.pairfile.proofs.Readings.{reading-taken, reading-refused}
+use Rattle.pairfile.proofs.Readings.{reading-taken, reading-holds, reading-refused}
 use Rattle.verify.specs.Answers.{refused-by, Check-says}
 use Rattle.verify.specs.declared.Verdict.{Verdict}
 use Rattle.sheetfile.specs.Sheet.{Sheet, read-sheet}
 use Rattle.sheetfile.specs.Audit.{ratio-good, core-good, head-causes, sheet-causes, audit-sheet, audit, verdict-of}
-use Rattle.sheetfile.specs.Answers.{list-of, sheet-of, SheetRead, at-least, judged-head, Ones, Blank, Beside}
-use Rattle.sheetfile.specs.declared.SheetHead.{SheetHead}
+use Rattle.sheetfile.specs.Answers.{sheet-of, SheetRead, at-least, judged-head, Audit-buffers, Beside}
+use Rattle.sheetfile.specs.declared.sheet.SheetHead.{SheetHead}
 use Rattle.sheetfile.proofs.Reading.{unless-some, unless-none}
 use Rattle.sheetfile.proofs.Tallies.{core-size}
 
--- ---- weights of 1
-
-module _ {n m : ℕ} {ends weights : List ℕ} (o : Ones n m ends weights) where
-  pub list-ones : list-in n m ends weights ≡ list-of n m ends
-  unfolding list-in list-of
-  list-ones = ap (λ (ps : List Pair). record { n = n; pairs = ps }) (pairs-ones m ends weights (o .once))
-
-  pub held-ones : Held-words n m ends weights
-  held-ones = record { listed = rw list-ones (o .held); ends-long = o .long; weights-long = o .weights-long }
-
--- what check says of the whole of two buffers
-pub checked : {n m : ℕ} {ends weights : List ℕ} → Ones n m ends weights → {s xs : List ℕ} {v : Verdict} → length s ≡ n → length xs ≡ m →
-    Check-says (list-in n m ends weights) (take n s) (take m xs) v → Check-says (list-of n m ends) s xs v
-checked {n} {m} o {s} {xs} ls lx c = rw (list-ones o, take-all n s (omega (arith, ls)), take-all m xs (omega (arith, lx))) at c
+-- what check says of the whole of two buffers, the list being cut out of the words
+pub checked : (n m : ℕ) (words : List ℕ) {s xs : List ℕ} {v : Verdict} → length s ≡ n → length xs ≡ m →
+    Check-says (list-in n m (take (2 * m - 0) words) (take (8192 + m - 8192) (drop 8192 words))) (take n s) (take m xs) v →
+    Check-says (laid-list n m words) s xs v
+checked n m words {s} {xs} ls lx c = rw (cut-list n m words, take-all n s (omega (arith, ls)), take-all m xs (omega (arith, lx))) at c
 
 -- there are as many core numbers as modules
-pub cores-few : {n m : ℕ} {ends cores members : List ℕ} → Beside n m ends cores members → length cores ≤ 512
-unfolding core-numbers list-of
-cores-few {n} {m} {ends} b = omega (arith, b .few, ap {B = ℕ} length (b .numbers), length-table n (core-number (list-of n m ends)))
+pub cores-few : {g : Pairs} {cores members : List ℕ} → is-list g ≡ true → Beside g cores members → length cores ≤ 512
+unfolding core-numbers
+cores-few {g} good b = omega (arith, listed g good .few, ap {B = ℕ} length (b .numbers), length-table (g .n) (core-number g))
 
 -- ---- judge_head
 
@@ -192,10 +181,7 @@ module _ (g : Pairs) (bytes : List ℕ) {s xs : List ℕ} {h : SheetHead} (r : S
 
 -- ---- audit_list
 
-module _ {n m : ℕ} {ends weights cores members shares : List ℕ} (o : Ones n m ends weights) (b : Blank n m cores members shares) where
-  listing : Listed (list-of n m ends)
-  listing = listed (list-of n m ends) (o .held)
-
+module _ {n m : ℕ} {words cores members shares : List ℕ} (h : Holds-list n m words) (b : Audit-buffers n m cores members shares) where
   members-size : length (take n members) ≡ n
   members-size = length-take-le n members (b .members-long)
 
@@ -203,27 +189,20 @@ module _ {n m : ℕ} {ends weights cores members shares : List ℕ} (o : Ones n 
   shares-size = length-take-le m shares (b .shares-long)
 
   -- what audit_beside asks of the parts in front
-  pub parts-ready : (cores′ : List ℕ) → cores′ ≡ core-numbers (list-of n m ends) ++ drop n cores →
-      Beside (length (take n members)) (length (take m shares)) ends (take n cores′) (take n members)
-      × Ones (length (take n members)) (length (take m shares)) ends weights
-  unfolding core-numbers list-of
+  pub parts-ready : (cores′ : List ℕ) → cores′ ≡ core-numbers (laid-list n m words) ++ drop n cores →
+      Holds-list (length (take n members)) (length (take m shares)) words
+      × Beside (laid-list (length (take n members)) (length (take m shares)) words) (take n cores′) (take n members)
+  unfolding core-numbers laid-list
   parts-ready cores′ e =
-      let size : length (core-numbers (list-of n m ends)) ≡ n = length-table n (core-number (list-of n m ends)) in
-      rw (members-size, shares-size) (
-        record {
-          few = listing .few;
-          short = omega (arith, listing .short, length-ones m ends);
-          long = o .long;
-          numbers = ap (take n) e ∙ take-at (core-numbers (list-of n m ends)) (drop n cores) n size;
-          unmarked = b .unmarked;
-        },
-        o,
-      )
+      let g : Pairs = laid-list n m words in
+      let size : length (core-numbers g) ≡ n = length-table n (core-number g) in
+      rw (members-size, shares-size)
+      (h, record { numbers = ap (take n) e ∙ take-at (core-numbers g) (drop n cores) n size; unmarked = b .unmarked })
 
   -- and what it answers
   pub parts-audited : (sheet : List ℕ) {v : Verdict} →
-      v ≡ verdict-of (audit-sheet (list-of (length (take n members)) (length (take m shares)) ends) sheet) →
-      v ≡ verdict-of (audit-sheet (list-of n m ends) sheet)
+      v ≡ verdict-of (audit-sheet (laid-list (length (take n members)) (length (take m shares)) words) sheet) →
+      v ≡ verdict-of (audit-sheet (laid-list n m words) sheet)
   parts-audited sheet e = rw (members-size, shares-size) at e
 
 -- ---- audit
@@ -233,35 +212,27 @@ take-zeros zero k h = refl
 take-zeros (suc n) zero h = absurd (omega arith)
 take-zeros (suc n) (suc k) h = ap (λ (xs : List ℕ). 0 ∷ xs) (take-zeros n k (omega arith))
 
-module _ (file sheet : List ℕ) {old ends : List ℕ} {r : Reading} (f : FileRead 4096 file old ends r) where
+module _ (file sheet : List ℕ) {old words : List ℕ} {r : Reading} (f : FileRead 4096 file old words r) where
   pub file-refused : (r .number ≡ 0 → ⊥) → refused-by (r .number) ≡ verdict-of (audit file sheet)
   unfolding audit _>>=_ verdict-of
   file-refused n = rw (reading-refused f n)
 
   module _ (z : r .number ≡ 0) where
     -- the list in the words, and arrays to work in
-    pub list-ready : 8192 ≤ length ends →
-        Ones (r .n) (r .m) ends (replicate 4096 1) × Blank (r .n) (r .m) (replicate 512 0) (replicate 512 0) (replicate 4096 0)
-    unfolding list-of
+    pub list-ready : 12288 ≤ length words →
+        Holds-list (r .n) (r .m) words × Audit-buffers (r .n) (r .m) (replicate 512 0) (replicate 512 0) (replicate 4096 0)
     list-ready long =
-        let good : is-list (list-of (r .n) (r .m) ends) ≡ true = file-accepted 4096 file _ (reading-taken f z) .list in
-        let l : Listed (list-of (r .n) (r .m) ends) = listed (list-of (r .n) (r .m) ends) good in
-        let few : r .m ≤ 4096 = omega (arith, l .short, length-ones (r .m) ends) in
-        let n-few : r .n ≤ 512 = l .few in (
+        let held : Holds-list (r .n) (r .m) words = reading-holds f z long in
+        let few = holds-few (r .n) (r .m) words (held .listed) in (
+          held,
           record {
-            held = good;
-            long = omega (arith, few);
-            weights-long = omega (arith, few, length-replicate {A = ℕ} 4096 1);
-            once = λ j h. ones-at 4096 j (omega (arith, few));
-          },
-          record {
-            cores-long = omega (arith, n-few, length-replicate {A = ℕ} 512 0);
-            members-long = omega (arith, n-few, length-replicate {A = ℕ} 512 0);
-            shares-long = omega (arith, few, length-replicate {A = ℕ} 4096 0);
-            unmarked = take-zeros (r .n) 512 n-few;
+            cores-long = omega (arith, few .0, length-replicate {A = ℕ} 512 0);
+            members-long = omega (arith, few .0, length-replicate {A = ℕ} 512 0);
+            shares-long = omega (arith, few .1, length-replicate {A = ℕ} 4096 0);
+            unmarked = take-zeros (r .n) 512 (few .0);
           },
         )
 
-    pub list-audited : {v : Verdict} → v ≡ verdict-of (audit-sheet (list-of (r .n) (r .m) ends) sheet) → v ≡ verdict-of (audit file sheet)
-    unfolding audit _>>=_ list-of
+    pub list-audited : {v : Verdict} → v ≡ verdict-of (audit-sheet (laid-list (r .n) (r .m) words) sheet) → v ≡ verdict-of (audit file sheet)
+    unfolding audit _>>=_
     list-audited e = rw (reading-taken f z) e

@@ -15,7 +15,6 @@ use lib.Seq.{getD-take}
 use Rattle.theory.specs.Basics.{mark}
 use Rattle.theory.specs.Lists.{Pairs}
 use Rattle.theory.specs.Refusals.{cause, refusal}
-use Rattle.pairs.specs.Located.{ones-in}
 use Rattle.pairfile.specs.Text.{text, between}
 use Rattle.pairfile.specs.Lines.{first, second, is-place, places}
 use Rattle.pairfile.specs.Outcomes.{Outcome, taken, _>>=_, _>>_, passed, judge}
@@ -39,9 +38,9 @@ use Rattle.sheetfile.specs.Sheet.{
   ratio-causes,
   read-sheet,
 }
-use Rattle.sheetfile.specs.Answers.{unless-number, PartRead, NumbersRead, list-of, Beside, BodyRead, sheet-of, SheetRead}
-use Rattle.sheetfile.specs.declared.Lines.{Lines}
-use Rattle.sheetfile.specs.declared.SheetHead.{SheetHead}
+use Rattle.sheetfile.specs.Answers.{unless-number, PartRead, NumbersRead, Beside, BodyRead, sheet-of, SheetRead}
+use Rattle.sheetfile.specs.declared.sheet.Lines.{Lines}
+use Rattle.sheetfile.specs.declared.sheet.SheetHead.{SheetHead}
 use Rattle.sheetfile.proofs.Reading.{line-small, ends-reading, goes-on}
 
 -- ---- read_body
@@ -49,18 +48,18 @@ use Rattle.sheetfile.proofs.Reading.{line-small, ends-reading, goes-on}
 abbrev part : (entries : List ℕ) → Lines → (bytes : List ℕ) → Part
 part es r bs = record { entries = es; rest = drop (r .next) bs }
 
-module _ {n m : ℕ} {ends cores s₀ : List ℕ} (b : Beside n m ends cores s₀) (bs : List ℕ) (at q : ℕ) {s : List ℕ} {r₁ : Lines}
+module _ {g : Pairs} {cores s₀ : List ℕ} (b : Beside g cores s₀) {bs : List ℕ} (at q : ℕ) {s : List ℕ} {r₁ : Lines}
     (f₁ : PartRead bs (read-members q 0 s₀ (drop at bs)) s r₁) where
   abbrev body : Outcome Body
-  body = read-body (list-of n m ends) q (drop at bs)
+  body = read-body g q (drop at bs)
 
   after-members : body ≡ (do
     members ← unless-number (r₁ .number) (part s r₁ bs)
     rest ← read-numbers cores (members .rest)
-    shares ← read-shares (ones-in m ends) [] rest
+    shares ← read-shares (g .pairs) [] rest
     judge (rest-causes (shares .rest))
     taken (record { members = members .entries; shares = shares .entries }))
-  unfolding read-body list-of
+  unfolding read-body
   after-members = rw (← b .unmarked, f₁ .found, b .numbers)
 
   pub members-refused : (xs : List ℕ) → (r₁ .number ≡ 0 → ⊥) → BodyRead body s xs (r₁ .number)
@@ -69,7 +68,7 @@ module _ {n m : ℕ} {ends cores s₀ : List ℕ} (b : Beside n m ends cores s�
   module _ (z₁ : r₁ .number ≡ 0) {r₂ : Lines} (f₂ : NumbersRead bs (read-numbers cores (drop (r₁ .next) bs)) r₂) where
     after-numbers : body ≡ (do
       rest ← unless-number (r₂ .number) (drop (r₂ .next) bs)
-      shares ← read-shares (ones-in m ends) [] rest
+      shares ← read-shares (g .pairs) [] rest
       judge (rest-causes (shares .rest))
       taken (record { members = s; shares = shares .entries }))
     after-numbers = after-members ∙ goes-on (r₁ .number) _ _ z₁ ∙ rw (f₂ .found)
@@ -78,7 +77,7 @@ module _ {n m : ℕ} {ends cores s₀ : List ℕ} (b : Beside n m ends cores s�
     numbers-refused xs h = record { found = after-numbers ∙ ends-reading (r₂ .number) _ _ _ h }
 
     module _ (z₂ : r₂ .number ≡ 0) {xs : List ℕ} {r₃ : Lines}
-        (f₃ : PartRead bs (read-shares (ones-in m ends) [] (drop (r₂ .next) bs)) xs r₃) where
+        (f₃ : PartRead bs (read-shares (g .pairs) [] (drop (r₂ .next) bs)) xs r₃) where
       after-shares : body ≡ (do
         shares ← unless-number (r₃ .number) (part xs r₃ bs)
         judge (rest-causes (shares .rest))

@@ -27,7 +27,7 @@ use Rattle.pairfile.specs.declared.FoundLine.the-variants.{Malformed}
 use Rattle.pairfile.proofs.Judged.{LineHas, malformed}
 use Rattle.sheetfile.specs.Sheet.{member-form, number-form, share-form, third, due, judged-line, member-line, number-line, share-line}
 use Rattle.sheetfile.specs.Answers.{unless-number, LineRead}
-use Rattle.sheetfile.specs.declared.OneLine.{OneLine}
+use Rattle.sheetfile.specs.declared.sheet.OneLine.{OneLine}
 
 -- a refused line
 abbrev pub refused-line : (number : ℕ) → OneLine

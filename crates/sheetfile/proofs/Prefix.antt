@@ -2,7 +2,7 @@
 --   Alike, alike-then, alike-same                  the first bytes give what all of them give, and what follows does
 --   due-alike, line-alike                          a line
 --   members-alike, numbers-alike, shares-alike     lines one after another
---   body-cut, read-cut                             all lines after the head, and the whole sheet
+--   body-trimmed, read-trimmed                     all lines after the head, and the whole sheet
 --   sheet-first                                    Sheet-first: a sheet is decided by its first 100,000 bytes
 --   audit-first                                    Audit-first: both files are decided by their first bytes
 -- Assumes nothing.
@@ -58,67 +58,67 @@ use Rattle.sheetfile.specs.Promise.{Sheet-first, Audit-first}
 -- ---- refused alike, or taken alike
 
 -- what w bytes of a sheet give and what all of them give, where at most j are read: a refusal by the same number, or the same thing with the bytes
--- after it cut short
-data Alike {A : Type 0} (cut : ℕ → A → A) (w j : ℕ) (o o′ : Outcome A) : Type 0 where
-  refused-alike : (k : ℕ) → o ≡ refused k → o′ ≡ refused k → Alike cut w j o o′
-  taken-alike : (a : A) (v : ℕ) → o ≡ taken (cut v a) → o′ ≡ taken a → w ≤ v + j → Alike cut w j o o′
+-- after it trimmed
+data Alike {A : Type 0} (trim : ℕ → A → A) (w j : ℕ) (o o′ : Outcome A) : Type 0 where
+  refused-alike : (k : ℕ) → o ≡ refused k → o′ ≡ refused k → Alike trim w j o o′
+  taken-alike : (a : A) (v : ℕ) → o ≡ taken (trim v a) → o′ ≡ taken a → w ≤ v + j → Alike trim w j o o′
 
 -- then go on with what was taken: at most k more
-alike-then : {A B : Type 0} {cut : ℕ → A → A} {cut′ : ℕ → B → B} {w i j : ℕ} {o o′ : Outcome A} (k : ℕ) (f : A → Outcome B) → i + k ≤ j →
-    Alike cut w i o o′ → ((a : A) (v : ℕ) → w ≤ v + i → Alike cut′ v k (f (cut v a)) (f a)) → Alike cut′ w j (_>>=_ o f) (_>>=_ o′ f)
+alike-then : {A B : Type 0} {trim : ℕ → A → A} {trim′ : ℕ → B → B} {w i j : ℕ} {o o′ : Outcome A} (k : ℕ) (f : A → Outcome B) → i + k ≤ j →
+    Alike trim w i o o′ → ((a : A) (v : ℕ) → w ≤ v + i → Alike trim′ v k (f (trim v a)) (f a)) → Alike trim′ w j (_>>=_ o f) (_>>=_ o′ f)
 unfolding _>>=_
 alike-then k f le (refused-alike m p q) next = refused-alike m (rw p) (rw q)
-alike-then {cut = cut} {cut′} {w} {i} {j} {o} {o′} k f le (taken-alike a v p q h) next = go (next a v h)
+alike-then {trim = trim} {trim′} {w} {i} {j} {o} {o′} k f le (taken-alike a v p q h) next = go (next a v h)
   where
-    go : Alike cut′ v k (f (cut v a)) (f a) → Alike cut′ w j (_>>=_ o f) (_>>=_ o′ f)
+    go : Alike trim′ v k (f (trim v a)) (f a) → Alike trim′ w j (_>>=_ o f) (_>>=_ o′ f)
     go (refused-alike m r s) = refused-alike m (rw p r) (rw q s)
     go (taken-alike b u r s m) = taken-alike b u (rw p r) (rw q s) (omega arith)
 
--- or with what is the same however short the bytes are cut
-alike-same : {A B : Type 0} {cut : ℕ → A → A} {w i : ℕ} {o o′ : Outcome A} (f : A → Outcome B) →
-    Alike cut w i o o′ → ((a : A) (v : ℕ) → w ≤ v + i → f (cut v a) ≡ f a) → _>>=_ o f ≡ _>>=_ o′ f
+-- or with what is the same however far the bytes are trimmed
+alike-same : {A B : Type 0} {trim : ℕ → A → A} {w i : ℕ} {o o′ : Outcome A} (f : A → Outcome B) →
+    Alike trim w i o o′ → ((a : A) (v : ℕ) → w ≤ v + i → f (trim v a) ≡ f a) → _>>=_ o f ≡ _>>=_ o′ f
 unfolding _>>=_
 alike-same f (refused-alike m p q) same = rw (p, q)
 alike-same f (taken-alike a v p q h) same = rw (p, q) (same a v h)
 
--- a line, a number and some lines, each with the bytes after it cut short
-abbrev cut-line : ℕ → Line → Line
-cut-line v l = record { numbers = l .numbers; rest = take v (l .rest) }
+-- a line, a number and some lines, each with the bytes after it trimmed
+abbrev trim-line : ℕ → Line → Line
+trim-line v l = record { numbers = l .numbers; rest = take v (l .rest) }
 
-abbrev cut-number : ℕ → Number → Number
-cut-number v x = record { value = x .value; rest = take v (x .rest) }
+abbrev trim-number : ℕ → Number → Number
+trim-number v x = record { value = x .value; rest = take v (x .rest) }
 
-abbrev cut-part : ℕ → Part → Part
-cut-part v x = record { entries = x .entries; rest = take v (x .rest) }
+abbrev trim-part : ℕ → Part → Part
+trim-part v x = record { entries = x .entries; rest = take v (x .rest) }
 
 -- ---- lines
 
 -- the line that is due
 due-alike : (form : List ℕ) (w : ℕ) (bs : List ℕ) → parted form ≡ true → span form ≤ w →
-    Alike cut-line w (span form) (due (line-of form (take w bs))) (due (line-of form bs))
+    Alike trim-line w (span form) (due (line-of form (take w bs))) (due (line-of form bs))
 unfolding due
 due-alike form w bs p h = go (line-cut form w bs p h)
   where
-    go : LineCut form w bs → Alike cut-line w (span form) (due (line-of form (take w bs))) (due (line-of form bs))
+    go : LineCut form w bs → Alike trim-line w (span form) (due (line-of form (take w bs))) (due (line-of form bs))
     go (neither d e) = refused-alike 101 (rw e) (rw d)
     go (both l v d e r) = taken-alike l v (rw e) (rw d) r
 
 -- and judged: its own cause and the number picked do not go by the bytes after it
 line-alike : (form : List ℕ) (own : Line → Cause) (pick : Line → ℕ) (w : ℕ) (bs : List ℕ) → parted form ≡ true → span form ≤ w →
-    ((l : Line) (v : ℕ) → own (cut-line v l) ≡ own l) → ((l : Line) (v : ℕ) → pick (cut-line v l) ≡ pick l) →
-    Alike cut-number w (span form) (judged-line form own pick (take w bs)) (judged-line form own pick bs)
+    ((l : Line) (v : ℕ) → own (trim-line v l) ≡ own l) → ((l : Line) (v : ℕ) → pick (trim-line v l) ≡ pick l) →
+    Alike trim-number w (span form) (judged-line form own pick (take w bs)) (judged-line form own pick bs)
 unfolding judged-line judge passed _>>_
 line-alike form own pick w bs p h same-own same-pick =
     alike-then 0 _ (omega arith) (due-alike form w bs p h)
     (λ l v m. rw (same-own l v, same-pick l v) (go (record { value = pick l; rest = l .rest }) v (refusal (own l ∷ []))))
   where
-    go : (x : Number) (v k : ℕ) → Alike cut-number v 0 (_>>_ (passed k) (taken (cut-number v x))) (_>>_ (passed k) (taken x))
+    go : (x : Number) (v k : ℕ) → Alike trim-number v 0 (_>>_ (passed k) (taken (trim-number v x))) (_>>_ (passed k) (taken x))
     go x v zero = taken-alike x v refl refl (omega arith)
     go x v (suc k) = refused-alike (suc k) refl refl
 
 -- one line after another: a member line and a number line have at most 12 bytes, a share line 21
 members-alike : (left low : ℕ) (s : List ℕ) (w : ℕ) (bs : List ℕ) → 12 * left ≤ w →
-    Alike cut-part w (12 * left) (read-members left low s (take w bs)) (read-members left low s bs)
+    Alike trim-part w (12 * left) (read-members left low s (take w bs)) (read-members left low s bs)
 unfolding read-members member-line first member-form text parted starts-plain span is-place is-digit between
 members-alike zero low s w bs h = taken-alike (record { entries = s; rest = bs }) w refl refl (omega arith)
 members-alike (suc left) low s w bs h =
@@ -134,7 +134,7 @@ numbers-alike (c ∷ cs) w bs h =
     (λ x v m. numbers-alike cs v (x .rest) (omega arith))
 
 shares-alike : (ps : List Pair) (xs : List ℕ) (w : ℕ) (bs : List ℕ) → 21 * length ps ≤ w →
-    Alike cut-part w (21 * length ps) (read-shares ps xs (take w bs)) (read-shares ps xs bs)
+    Alike trim-part w (21 * length ps) (read-shares ps xs (take w bs)) (read-shares ps xs bs)
 unfolding read-shares share-line first second third share-form text parted starts-plain span is-place is-digit between
 shares-alike [] xs w bs h = taken-alike (record { entries = xs; rest = bs }) w refl refl (omega arith)
 shares-alike (p ∷ ps) xs w bs h =
@@ -144,21 +144,21 @@ shares-alike (p ∷ ps) xs w bs h =
 -- ---- the whole
 
 -- the end of the first bytes is the end of the sheet, or none
-end-cut : (w : ℕ) (bs : List ℕ) → 1 ≤ w → rest-causes (take w bs) ≡ rest-causes bs
+end-trimmed : (w : ℕ) (bs : List ℕ) → 1 ≤ w → rest-causes (take w bs) ≡ rest-causes bs
 unfolding rest-causes
-end-cut zero bs h = absurd (omega arith)
-end-cut (suc w) [] h = refl
-end-cut (suc w) (b ∷ bs) h = rw (lt-ltb 0 (suc (length (take w bs))) (omega arith), lt-ltb 0 (suc (length bs)) (omega arith))
+end-trimmed zero bs h = absurd (omega arith)
+end-trimmed (suc w) [] h = refl
+end-trimmed (suc w) (b ∷ bs) h = rw (lt-ltb 0 (suc (length (take w bs))) (omega arith), lt-ltb 0 (suc (length bs)) (omega arith))
 
 -- all lines after the head, and one byte more, which shows whether bytes follow
-body-cut : (g : Pairs) (q w : ℕ) (bs : List ℕ) → 12 * q + 12 * g .n + 21 * length (g .pairs) + 1 ≤ w → read-body g q (take w bs) ≡ read-body g q bs
+body-trimmed : (g : Pairs) (q w : ℕ) (bs : List ℕ) → 12 * q + 12 * g .n + 21 * length (g .pairs) + 1 ≤ w → read-body g q (take w bs) ≡ read-body g q bs
 unfolding read-body core-numbers
-body-cut g q w bs h =
+body-trimmed g q w bs h =
     let n : length (core-numbers g) ≡ g .n = length-table (g .n) (core-number g) in
     alike-same _ (members-alike q 0 (replicate (g .n) 0) w bs (omega arith))
     (λ m v a. alike-same _ (numbers-alike (core-numbers g) v (m .rest) (omega (arith, n)))
     (λ r u b. alike-same _ (shares-alike (g .pairs) [] u r (omega (arith, n)))
-    (λ x t c. rw (end-cut t (x .rest) (omega (arith, n))))))
+    (λ x t c. rw (end-trimmed t (x .rest) (omega (arith, n))))))
 
 -- Q is at most N
 ratio-unmet : (n q : ℕ) → refusal (ratio-causes n q) ≡ 0 → q ≤ n
@@ -166,9 +166,9 @@ unfolding ratio-causes cause refusal between
 ratio-unmet n q e = by-test (between 1 n q) (λ t. (simp tests at t) .1) (λ t. absurd (omega (arith, rw t at e)))
 
 -- the whole sheet: the head has at most 40 bytes
-read-cut : (g : Pairs) (w : ℕ) (bs : List ℕ) → 40 + 24 * g .n + 21 * length (g .pairs) + 1 ≤ w → read-sheet g (take w bs) ≡ read-sheet g bs
+read-trimmed : (g : Pairs) (w : ℕ) (bs : List ℕ) → 40 + 24 * g .n + 21 * length (g .pairs) + 1 ≤ w → read-sheet g (take w bs) ≡ read-sheet g bs
 unfolding read-sheet sheet first second third fourth judge passed _>>_ head-form text parted starts-plain span is-place is-digit between
-read-cut g w bs h =
+read-trimmed g w bs h =
     alike-same _ (due-alike head-form w bs refl (omega arith))
     (λ l v m. go l v (refusal (ratio-causes (g .n) (second l))) refl m)
   where
@@ -176,12 +176,12 @@ read-cut g w bs h =
         (do
           passed k
           body ← read-body g (second l) (take v (l .rest))
-          taken (sheet (cut-line v l) body)) ≡
+          taken (sheet (trim-line v l) body)) ≡
         (do
           passed k
           body ← read-body g (second l) (l .rest)
           taken (sheet l body))
-    go l v zero e m = rw (body-cut g (second l) v (l .rest) (omega (arith, ratio-unmet (g .n) (second l) e)))
+    go l v zero e m = rw (body-trimmed g (second l) v (l .rest) (omega (arith, ratio-unmet (g .n) (second l) e)))
     go l v (suc k) e m = refl
 
 pub sheet-first : Sheet-first
@@ -192,9 +192,9 @@ sheet-first w file bs h = go (read-file 4096 file) refl
     go (refused k) e = refl
     go (taken g) e =
         let l : Listed g = listed g (accepted 4096 file g e .list) in
-        rw (read-cut g w bs (omega (arith, l .few, l .short)))
+        rw (read-trimmed g w bs (omega (arith, l .few, l .short)))
 
--- both files cut
+-- both files trimmed
 pub audit-first : Audit-first
 unfolding Audit-first Sheet-first Read-first audit
 audit-first v w file bs h k = rw (reads-first 4096 v file h) (sheet-first w file bs k)

@@ -20,11 +20,10 @@ use lib.Seq.{take-all, drop-cons, take-suc, take-set-le, getD-set-same}
 use Rattle.theory.specs.Basics.{mark}
 use Rattle.theory.specs.Lists.{Pair, pair}
 use Rattle.theory.specs.Refusals.{cause, refusal}
+use Rattle.theory.specs.Words.{laid-pairs}
 use Rattle.theory.proofs.Tests.{tests}
-use Rattle.pairs.specs.Located.{ones-in}
+use Rattle.theory.proofs.Words.{length-laid, laid-at}
 use Rattle.pairs.proofs.General.{all-at}
-use Rattle.pairs.proofs.Weights.{length-ones}
-use Rattle.pairs.proofs.Words.{ones-pair}
 use Rattle.pairfile.specs.Text.{text, between}
 use Rattle.pairfile.specs.Numbers.{Number}
 use Rattle.pairfile.specs.Lines.{Line, first, is-place, places, line-of}
@@ -45,8 +44,8 @@ use Rattle.sheetfile.specs.Sheet.{
   read-shares,
 }
 use Rattle.sheetfile.specs.Answers.{unless-number, LineRead, PartRead, NumbersRead}
-use Rattle.sheetfile.specs.declared.OneLine.{OneLine}
-use Rattle.sheetfile.specs.declared.Lines.{Lines}
+use Rattle.sheetfile.specs.declared.sheet.OneLine.{OneLine}
+use Rattle.sheetfile.specs.declared.sheet.Lines.{Lines}
 
 -- a line that is taken: it is of its form, its own cause is not met, and its number is the one picked
 pub record Accepted-line (form : List ℕ) (test : Line → Bool) (pick : Line → ℕ) (bs : List ℕ) (a : Number) : Type 0 where
@@ -157,7 +156,8 @@ module _ {bs : List ℕ} {at q : ℕ} {old s : List ℕ} {i low k : ℕ} (m : Ma
       pub marked-index : r .value < length s
       unfolding member-line first
       marked-index =
-          let a = accepted-line member-form 102 (λ l. not (leb low (first l) && ltb (first l) (length s))) first (drop i bs) (line-at r bs) (l .found ∙ unless-none (r .number) (line-at r bs) taken-line) in
+          let a = accepted-line member-form 102 (λ l. not (leb low (first l) && ltb (first l) (length s))) first (drop i bs) (line-at r bs)
+          (l .found ∙ unless-none (r .number) (line-at r bs) taken-line) in
           let t = simp tests at (not-false (leb low (first (a .line)) && ltb (first (a .line)) (length s)) (a .unmet)) in
           omega (arith, t .1, a .picked)
 
@@ -210,28 +210,28 @@ module _ {bs : List ℕ} {at : ℕ} {cores : List ℕ} {i v : ℕ} (m : Counted 
 -- ---- share lines
 
 -- the first j share lines, up to i, have been read, and their shares are in the buffer
-pub record Shared (bs : List ℕ) (at : ℕ) (ends old xs : List ℕ) (i j : ℕ) : Type 0 where
+pub record Shared (bs : List ℕ) (at : ℕ) (words old xs : List ℕ) (i j : ℕ) : Type 0 where
   pub within : i ≤ length bs
   pub upto : j ≤ length old
   pub size : length xs ≡ length old
-  pub left : read-shares (ones-in (length old) ends) [] (drop at bs) ≡ read-shares (drop j (ones-in (length old) ends)) (take j xs) (drop i bs)
+  pub left : read-shares (laid-pairs (length old) words) [] (drop at bs) ≡ read-shares (drop j (laid-pairs (length old) words)) (take j xs) (drop i bs)
 
-pub shared-start : (bs : List ℕ) (at : ℕ) (ends xs : List ℕ) → at ≤ length bs → Shared bs at ends xs xs at 0
-shared-start bs at ends xs h = record { within = h; upto = omega arith; size = refl; left = refl }
+pub shared-start : (bs : List ℕ) (at : ℕ) (words xs : List ℕ) → at ≤ length bs → Shared bs at words xs xs at 0
+shared-start bs at words xs h = record { within = h; upto = omega arith; size = refl; left = refl }
 
-module _ {bs : List ℕ} {at : ℕ} {ends old xs : List ℕ} {i j : ℕ} (m : Shared bs at ends old xs i j) where
+module _ {bs : List ℕ} {at : ℕ} {words old xs : List ℕ} {i j : ℕ} (m : Shared bs at words old xs i j) where
   abbrev pairs : List Pair
-  pairs = ones-in (length old) ends
+  pairs = laid-pairs (length old) words
 
   pub shared-done : length xs ≤ j → PartRead bs (read-shares pairs [] (drop at bs)) xs (read-to i)
   unfolding read-shares unless-number
   shared-done h =
       record {
-        found = m .left ∙ rw (drop-all j pairs (omega (arith, h, m .size, length-ones (length old) ends)), take-all j xs h);
+        found = m .left ∙ rw (drop-all j pairs (omega (arith, h, m .size, length-laid (length old) words)), take-all j xs h);
         within = m .within;
       }
 
-  module _ (more : j < length xs) {r : OneLine} (l : LineRead bs (share-line (getD ends (2 * j) 0) (getD ends (2 * j + 1) 0) (drop i bs)) r) where
+  module _ (more : j < length xs) {r : OneLine} (l : LineRead bs (share-line (getD words (2 * j) 0) (getD words (2 * j + 1) 0) (drop i bs)) r) where
     next-share : read-shares pairs [] (drop at bs) ≡
         (do
           u ← unless-number (r .number) (line-at r bs)
@@ -240,7 +240,7 @@ module _ {bs : List ℕ} {at : ℕ} {ends old xs : List ℕ} {i j : ℕ} (m : Sh
     next-share =
         let b : j < length old = omega (arith, m .size) in
         m .left
-        ∙ rw (drop-cons pairs j (pair 0 0) (omega (arith, b, length-ones (length old) ends)), ones-pair (length old) ends j (pair 0 0) b, l .found)
+        ∙ rw (drop-cons pairs j (pair 0 0) (omega (arith, b, length-laid (length old) words)), laid-at (length old) words j (pair 0 0) b, l .found)
 
     pub shared-refused : (r .number ≡ 0 → ⊥) → PartRead bs (read-shares pairs [] (drop at bs)) xs (stopped (r .number))
     shared-refused h = record { found = next-share ∙ ends-reading (r .number) (line-at r bs) _ _ h; within = omega arith }
@@ -253,7 +253,7 @@ module _ {bs : List ℕ} {at : ℕ} {ends old xs : List ℕ} {i j : ℕ} (m : Sh
           let a = accepted-line share-form 104 _ third (drop i bs) (line-at r bs) (l .found ∙ unless-none (r .number) (line-at r bs) taken-line) in
           omega (arith, line-small share-form (drop i bs) (a .line) 2 (a .found) (omega arith), a .picked)
 
-      pub shared-step : Shared bs at ends old (set xs j (r .value)) (r .next) (j + 1)
+      pub shared-step : Shared bs at words old (set xs j (r .value)) (r .next) (j + 1)
       shared-step =
           let e : j + 1 ≡ suc j = omega arith in
           let long : length (set xs j (r .value)) ≡ length xs = length-set xs j (r .value) in

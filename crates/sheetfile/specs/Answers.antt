@@ -3,32 +3,31 @@
 --   LineRead         what the functions for one line promise
 --   PartRead         what read_members and read_shares promise
 --   NumbersRead      what read_numbers promises
---   list-of, Beside            a list that lies in words, and what a sheet is read beside
+--   Beside           what a sheet is read beside
 --   BodyRead         what read_body promises
 --   sheet-of, SheetRead        what read_sheet promises
 --   at-least         how many numbers are k or more
 --   judged-head      what judge_head promises
---   Ones, Blank      a list that lies in words beside weights of 1, and buffers to work in
+--   Audit-buffers    buffers that an audit works in
 -- Assumes nothing: these are definitions.
 use mathlib.Core.Path.{_≡_}
-use mathlib.Core.Bool.{true, _&&_, cond}
+use mathlib.Core.Bool.{_&&_, cond}
 use mathlib.Core.List.{List, [], _∷_}
-use Prim.Native.Nat.{ℕ, zero, suc, _+_, _*_, _≤_, _<_}
+use Prim.Native.Nat.{ℕ, zero, suc, _+_, _≤_}
 use lib.Dec.{leb, eqb}
-use lib.ListN.{length, getD, take, drop, replicate}
+use lib.ListN.{length, take, drop, replicate}
 use Rattle.theory.specs.Basics.{mark}
-use Rattle.theory.specs.Lists.{Pairs, is-list}
+use Rattle.theory.specs.Lists.{Pairs}
 use Rattle.theory.specs.Cores.{core-numbers}
 use Rattle.theory.specs.Splits.{rounded-up}
 use Rattle.verify.specs.declared.Verdict.{Verdict}
 use Rattle.verify.specs.Answers.{refused-by}
-use Rattle.pairs.specs.Located.{ones-in}
 use Rattle.pairfile.specs.Numbers.{Number}
 use Rattle.pairfile.specs.Outcomes.{Outcome, refused, taken}
 use Rattle.sheetfile.specs.Sheet.{Part, Body, Sheet}
-use Rattle.sheetfile.specs.declared.OneLine.{OneLine}
-use Rattle.sheetfile.specs.declared.Lines.{Lines}
-use Rattle.sheetfile.specs.declared.SheetHead.{SheetHead}
+use Rattle.sheetfile.specs.declared.sheet.OneLine.{OneLine}
+use Rattle.sheetfile.specs.declared.sheet.Lines.{Lines}
+use Rattle.sheetfile.specs.declared.sheet.SheetHead.{SheetHead}
 
 -- the value where the number is 0
 unfoldable pub unless-number : {A : Type 0} → (number : ℕ) → A → Outcome A
@@ -50,17 +49,10 @@ pub record NumbersRead (bytes : List ℕ) (rest : Outcome (List ℕ)) (r : Lines
   pub found : rest ≡ unless-number (r .number) (drop (r .next) bytes)
   pub within : r .next ≤ length bytes
 
--- the list of n modules and of the pairs in words
-unfoldable pub list-of : (n m : ℕ) → (ends : List ℕ) → Pairs
-list-of n m ends = record { n = n; pairs = ones-in m ends }
-
--- what a sheet is read beside: the list of so many modules and pairs, its core numbers, and member bytes that are 0
-pub record Beside (n m : ℕ) (ends cores members : List ℕ) : Type 0 where
-  pub few : n ≤ 512
-  pub short : m ≤ 4096
-  pub long : 2 * m ≤ length ends
-  pub numbers : cores ≡ core-numbers (list-of n m ends)
-  pub unmarked : members ≡ replicate n 0
+-- what a sheet is read beside: the list's core numbers, and member bytes that are 0
+pub record Beside (g : Pairs) (cores members : List ℕ) : Type 0 where
+  pub numbers : cores ≡ core-numbers g
+  pub unmarked : members ≡ replicate (g .n) 0
 
 -- READ_BODY: after a refusal members and shares are free
 pub record BodyRead (body : Outcome Body) (members shares : List ℕ) (number : ℕ) : Type 0 where
@@ -87,15 +79,8 @@ judged-head h v cores =
     (cond (eqb (h .k) (rounded-up (h .p) (h .q)) && eqb (h .coresize) (at-least (h .k) cores)) v (refused-by 108))
     (refused-by 107)
 
--- weights of 1 beside the list in words
-pub record Ones (n m : ℕ) (ends weights : List ℕ) : Type 0 where
-  pub held : is-list (list-of n m ends) ≡ true
-  pub long : 2 * m ≤ length ends
-  pub weights-long : m ≤ length weights
-  pub once : (j : ℕ) → j < m → getD weights j 0 ≡ 1
-
 -- buffers for n core numbers, n member bytes that are 0, and m shares
-pub record Blank (n m : ℕ) (cores members shares : List ℕ) : Type 0 where
+pub record Audit-buffers (n m : ℕ) (cores members shares : List ℕ) : Type 0 where
   pub cores-long : n ≤ length cores
   pub members-long : n ≤ length members
   pub shares-long : m ≤ length shares

@@ -1,6 +1,6 @@
 -- The text of a sheet, as the program `sheet` prints it, and that it reads back.
 --   member-lines, number-lines, share-lines, sheet-file      the lines of a sheet of a list
---   Written                                                  a sheet that can be written: a group, a share for each pair, numbers of at most four digits
+--   Writable                                                 a sheet that can be written: a group, a share for each pair, numbers of at most four digits
 --   Sheet-back, Accepts-back                                 what is written reads back, and every best sheet is accepted; the theorems are `sheet-back`
 --                                                            and `accepts-back`
 -- Assumes nothing: these are definitions.
@@ -45,21 +45,21 @@ sheet-file g s =
     ++ (member-lines 0 (s .members) ++ (number-lines (core-numbers g) ++ share-lines (g .pairs) (s .shares)))
 
 -- the numbers have at most four digits
-unfoldable pub short : List ℕ → Type 0
-short ns = all (λ n. leb n 9999) ns ≡ true
+unfoldable pub four-digits : List ℕ → Type 0
+four-digits ns = all (λ n. leb n 9999) ns ≡ true
 
 -- a sheet of a list as it can be written
-pub record Written (g : Pairs) (s : Sheet) : Type 0 where
+pub record Writable (g : Pairs) (s : Sheet) : Type 0 where
   pub group : is-group g (s .members) ≡ true
   pub members-size : s .q ≡ size (s .members)
   pub each-pair : length (s .shares) ≡ length (g .pairs)
-  pub head-short : (s .p ≤ 9999) × (s .k ≤ 9999) × (s .coresize ≤ 9999)
-  pub numbers-short : short (core-numbers g)
-  pub shares-short : short (s .shares)
+  pub head-digits : (s .p ≤ 9999) × (s .k ≤ 9999) × (s .coresize ≤ 9999)
+  pub numbers-digits : four-digits (core-numbers g)
+  pub shares-digits : four-digits (s .shares)
 
 -- WHAT IS WRITTEN READS BACK
 unfoldable pub Sheet-back : Type 0
-Sheet-back = (g : Pairs) (s : Sheet) → is-list g ≡ true → Written g s → read-sheet g (sheet-file g s) ≡ taken s
+Sheet-back = (g : Pairs) (s : Sheet) → is-list g ≡ true → Writable g s → read-sheet g (sheet-file g s) ≡ taken s
 
 -- AND EVERY BEST SHEET IS ACCEPTED, whoever made it: beside a pair file that names the list, group and shares that are optimal with their P and Q, and
 -- the list's core line

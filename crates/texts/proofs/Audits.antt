@@ -13,7 +13,7 @@ use Rattle.pairfile.proofs.Accepts.{accepted}
 use Rattle.verify.specs.declared.Verdict.{Verdict}
 use Rattle.sheetfile.specs.Sheet.{Sheet}
 use Rattle.sheetfile.specs.Audit.{audit, verdict-of, Audits}
-use Rattle.sheetfile.proofs.Short.{best-written}
+use Rattle.sheetfile.proofs.BestSheets.{best-writable}
 use Rattle.texts.specs.Texts.{refusal-text, accepted-form, audit-text}
 
 module _ {file sheet : List ℕ} {v : Verdict} (a : Audits file sheet v) where
@@ -40,6 +40,6 @@ module _ {file sheet : List ℕ} {v : Verdict} (a : Audits file sheet v) where
         let s : Sheet = b .0 in
         let c = b .2 in
         let same = verdict-as (taken s) (b .1) in
-        let w = best-written file (c .list) s (c .named) (c .optimal) (c .order) (c .core-size) in
+        let w = best-writable file (c .list) s (c .named) (c .optimal) (c .order) (c .core-size) in
         let few = size-bound (c .list) (s .members) (accepted 4096 file (c .list) (c .named) .list) (w .group) in
-        (omega (arith, ap (λ (x : Verdict). x .p) same, w .head-short .0), omega (arith, ap (λ (x : Verdict). x .q) same, w .members-size, few))
+        (omega (arith, ap (λ (x : Verdict). x .p) same, w .head-digits .0), omega (arith, ap (λ (x : Verdict). x .q) same, w .members-size, few))

@@ -23,7 +23,20 @@ use Rattle.pairfile.specs.Text.{text, between}
 use Rattle.pairfile.specs.Numbers.{is-digit, digits, is-number, value-on, value, number-of, spell, spelled}
 use Rattle.pairfile.specs.Lines.{modules-form, pairs-form, pair-form, is-place, first, second, with-numbers, after-number, after-byte, line-of, filled}
 use Rattle.pairfile.specs.Outcomes.{taken, _>>=_, _>>_, passed, judge}
-use Rattle.pairfile.specs.File.{line-or-1, line-due, count-line, modules-causes, modules-line, pairs-causes, pairs-line, pair-line-causes, pair-line, end-causes, read-pairs, read-file}
+use Rattle.pairfile.specs.File.{
+  line-or-1,
+  line-due,
+  count-line,
+  modules-causes,
+  modules-line,
+  pairs-causes,
+  pairs-line,
+  pair-line-causes,
+  pair-line,
+  end-causes,
+  read-pairs,
+  read-file,
+}
 use Rattle.sheetfile.specs.Sheet.{head-form, member-form}
 use Rattle.sheetfile.specs.Writer.{member-lines}
 use Rattle.texts.specs.Texts.{group-text}

@@ -17,15 +17,15 @@ use Rattle.theory.specs.Lists.{Pairs, ends-in-range, is-list}
 use Rattle.theory.specs.Groups.{inside, size, Found}
 use Rattle.theory.specs.Cores.{core-number, core-numbers}
 use Rattle.theory.specs.Promise.{Optimal, Split-there}
+use Rattle.theory.specs.Words.{laid-pairs}
 use Rattle.theory.proofs.Bounds.{size-bound}
 use Rattle.theory.proofs.Lists.{Listed, listed}
 use Rattle.theory.proofs.Tables.{length-table}
 use Rattle.theory.proofs.Tests.{tests}
+use Rattle.theory.proofs.Words.{length-laid}
 use Rattle.theory.proofs.Duality.{optimal}
 use Rattle.theory.proofs.Promises.{split-there}
-use Rattle.pairs.specs.Located.{ones-in}
 use Rattle.pairs.proofs.General.{all-weaker}
-use Rattle.pairs.proofs.Weights.{length-ones}
 use Rattle.pairfile.specs.Outcomes.{Outcome, refused, taken}
 use Rattle.pairfile.specs.File.{read-file}
 use Rattle.pairfile.proofs.Accepts.{accepted}
@@ -33,10 +33,10 @@ use Rattle.pairfile.proofs.Readings.{file-numbered}
 use Rattle.kandurzo.specs.Buffers.{in-front}
 use Rattle.writing.specs.Putting.{Puts}
 use Rattle.writing.proofs.Putting.{puts-length, puts-front}
-use Rattle.sheetfile.specs.Writer.{sheet-file, Written, Accepts-back}
+use Rattle.sheetfile.specs.Writer.{sheet-file, Writable, Accepts-back}
 use Rattle.sheetfile.specs.Audit.{audit}
-use Rattle.sheetfile.proofs.Short.{best-written}
-use Rattle.sheetfile.proofs.Written.{accepts-back}
+use Rattle.sheetfile.proofs.BestSheets.{best-writable}
+use Rattle.sheetfile.proofs.ReadsBack.{accepts-back}
 use Rattle.answer.specs.declared.Answer.{Answer}
 use Rattle.answer.specs.Answers.{refusal-of, solved-of, Sheeted, Answers}
 use Rattle.answer.proofs.Answering.{answers}
@@ -68,10 +68,10 @@ found-best : (g : Pairs) (s : List ℕ) → is-list g ≡ true → Found g s →
 unfolding Split-there
 found-best g s l f = let t = split-there g s l f in (t .0, optimal g s (t .0) l (f .group) (t .1) (omega (arith, t .2)))
 
-certificate-written : (file : List ℕ) (g : Pairs) (s xs : List ℕ) → read-file 4096 file ≡ taken g → Optimal g s xs (inside g s) (size s) →
-    Written g (certificate g s xs)
+certificate-writable : (file : List ℕ) (g : Pairs) (s xs : List ℕ) → read-file 4096 file ≡ taken g → Optimal g s xs (inside g s) (size s) →
+    Writable g (certificate g s xs)
 unfolding certificate
-certificate-written file g s xs e o = best-written file g (certificate g s xs) e o refl refl
+certificate-writable file g s xs e o = best-writable file g (certificate g s xs) e o refl refl
 
 accepted-certificate : (file : List ℕ) (g : Pairs) (s xs : List ℕ) → read-file 4096 file ≡ taken g → Optimal g s xs (inside g s) (size s) →
     audit file (sheet-file g (certificate g s xs)) ≡ taken (certificate g s xs)
@@ -118,12 +118,12 @@ module _ {file members : List ℕ} {r : Answer} {members′ : List ℕ} (a : Ans
     spelled-as =
         let b = a .taken g e in
         let best = found-best g group list (b .found) in
-        let w = certificate-written file g group (best .0) e (best .1) in
+        let w = certificate-writable file g group (best .0) e (best .1) in
         record {
-          p = omega (arith, b .inside-count, w .head-short .0);
+          p = omega (arith, b .inside-count, w .head-digits .0);
           q = omega (arith, b .modules, size-bound g group list (b .found .group));
-          k = rw (b .order, b .inside-count, b .modules) (w .head-short .1);
-          coresize = rw (b .core-size, b .order, b .inside-count, b .modules) (w .head-short .2);
+          k = rw (b .order, b .inside-count, b .modules) (w .head-digits .1);
+          coresize = rw (b .core-size, b .order, b .inside-count, b .modules) (w .head-digits .2);
           few = simp length-take (omega (arith, n-few));
         }
 
@@ -151,9 +151,9 @@ module _ {file members : List ℕ} {r : Answer} {members′ : List ℕ} (a : Ans
 
 -- ---- its sheet
 
-module _ {file members cores shares ends : List ℕ} {r : Answer} {members′ cores′ shares′ ends′ : List ℕ}
-    (s : Sheeted file members cores shares ends r members′ cores′ shares′ ends′)
-    (shares-long : 4096 ≤ length shares′) (ends-long : 8192 ≤ length ends′) where
+module _ {file members cores shares words : List ℕ} {r : Answer} {members′ cores′ shares′ words′ : List ℕ}
+    (s : Sheeted file members cores shares words r members′ cores′ shares′ words′)
+    (shares-long : 4096 ≤ length shares′) (words-long : 12288 ≤ length words′) where
   module _ (g : Pairs) (e : read-file 4096 file ≡ taken g) where
     abbrev members-of : List ℕ
     members-of = take (g .n) members′
@@ -176,11 +176,11 @@ module _ {file members cores shares ends : List ℕ} {r : Answer} {members′ co
         let h = s .taken g e in
         rw (h .modules, h .handed .cores-are) (take-at (core-numbers g) _ _ (length-table (g .n) (core-number g)))
 
-    pairs-as : ones-in (length (take (r .m) shares′)) ends′ ≡ g .pairs
-    pairs-as = ap (λ (m : ℕ). ones-in m ends′) shares-count ∙ s .taken g e .ends-are
+    pairs-as : laid-pairs (length (take (r .m) shares′)) words′ ≡ g .pairs
+    pairs-as = ap (λ (m : ℕ). laid-pairs m words′) shares-count ∙ s .taken g e .pairs-are
 
     sheet-as :
-        sheet-lines r (take (r .n) members′) (take (r .n) cores′) ends′ (take (r .m) shares′) ≡ sheet-file g (certificate g members-of shares-of)
+        sheet-lines r (take (r .n) members′) (take (r .n) cores′) words′ (take (r .m) shares′) ≡ sheet-file g (certificate g members-of shares-of)
     unfolding sheet-lines Group-first
     sheet-as = rw (lines-as (answers s) g e, cores-as, pairs-as, s .taken g e .pairs) (sym (group-first g members-of shares-of))
 
@@ -188,24 +188,24 @@ module _ {file members cores shares ends : List ℕ} {r : Answer} {members′ co
     unfolding solved-of
     own = let o = s .taken g e .handed .optimal in rw (o .inside-count, o .modules) at o
 
-    written : Written g (certificate g members-of shares-of)
-    written = certificate-written file g members-of shares-of e own
+    written : Writable g (certificate g members-of shares-of)
+    written = certificate-writable file g members-of shares-of e own
 
-    sheet-spelled-as : Sheet-spelled r (take (r .n) members′) (take (r .n) cores′) ends′ (take (r .m) shares′)
+    sheet-spelled-as : Sheet-spelled r (take (r .n) members′) (take (r .n) cores′) words′ (take (r .m) shares′)
     unfolding certificate ends-in-range
     sheet-spelled-as = record {
       group = spelled-as (answers s) g e;
-      numbers = rw cores-as (written .numbers-short);
+      numbers = rw cores-as (written .numbers-digits);
       pairs = record {
-        ends-long = omega (arith, shares-count, m-few, ends-long);
+        long = omega (arith, shares-count, m-few, words-long);
         ends-few = rw pairs-as
             (all-weaker (ends-in-range (g .n)) (ends-in-range 512)
             (λ p t. let u = simp tests at t in simp tests (omega (arith, u .0, held .few), omega (arith, u .1, held .few))) (g .pairs) (held .ends));
-        shares-short = rw (s .taken g e .pairs) (written .shares-short);
+        shares-digits = rw (s .taken g e .pairs) (written .shares-digits);
       };
     }
 
-    due-of : Sheet-due file g (sheet-lines r (take (r .n) members′) (take (r .n) cores′) ends′ (take (r .m) shares′))
+    due-of : Sheet-due file g (sheet-lines r (take (r .n) members′) (take (r .n) cores′) words′ (take (r .m) shares′))
     unfolding solved-of Accepts-back
     due-of =
         let h = s .taken g e .handed in
@@ -223,14 +223,14 @@ module _ {file members cores shares ends : List ℕ} {r : Answer} {members′ co
     pub pairs-few : r .m ≤ 4096
     pairs-few = let g = named (answers s) z in m-few (g .0) (g .1)
 
-    pub sheet-spelled : Sheet-spelled r (take (r .n) members′) (take (r .n) cores′) ends′ (take (r .m) shares′)
+    pub sheet-spelled : Sheet-spelled r (take (r .n) members′) (take (r .n) cores′) words′ (take (r .m) shares′)
     sheet-spelled = let g = named (answers s) z in sheet-spelled-as (g .0) (g .1)
 
-    pub sheet-length : length (sheet-lines r (take (r .n) members′) (take (r .n) cores′) ends′ (take (r .m) shares′)) ≤ 100000
+    pub sheet-length : length (sheet-lines r (take (r .n) members′) (take (r .n) cores′) words′ (take (r .m) shares′)) ≤ 100000
     unfolding sheet-lines
     sheet-length =
         let xs = take (r .m) shares′ in
-        let ps = ones-in (length xs) ends′ in
+        let ps = laid-pairs (length xs) words′ in
         let g = named (answers s) z in
         let cores-few : length (take (r .n) cores′) ≤ 512 = simp length-take (omega (arith, modules-few (answers s) z)) in
         simp length-append
@@ -240,12 +240,12 @@ module _ {file members cores shares ends : List ℕ} {r : Answer} {members′ co
           numbers-length (take (r .n) cores′),
           cores-few,
           shares-length ps xs,
-          length-ones (length xs) ends′,
+          length-laid (length xs) words′,
           shares-count (g .0) (g .1),
           pairs-few,
         ))
 
-    pub sheet-due : Of-file file (Sheet-due file) (sheet-lines r (take (r .n) members′) (take (r .n) cores′) ends′ (take (r .m) shares′))
+    pub sheet-due : Of-file file (Sheet-due file) (sheet-lines r (take (r .n) members′) (take (r .n) cores′) words′ (take (r .m) shares′))
     sheet-due = record { taken = due-of; refused = λ k e. absurd (not-refused (answers s) z k e) }
 
 pub sheet-answered : Sheet-answered

@@ -1,6 +1,6 @@
 -- Numbers of at most four digits, and how long the texts are.
 --   Smalls, no-more, and-small                       the numbers of a line, one by one
---   small-at                                         each number of a list that is short
+--   small-at                                         each number of a list of numbers of at most four digits
 --   ends-small                                       the ends of a pair in words
 --   refusal-length, accepted-length, head-length     the first lines
 --   members-length, numbers-length, shares-length    the lines behind them, by how many there are
@@ -13,19 +13,18 @@ use lib.Dec.{eqb}
 use lib.ListN.{length, getD, length-append}
 use Rattle.theory.specs.Basics.{all, mark}
 use Rattle.theory.specs.Lists.{Pair, pair, ends-in-range}
+use Rattle.theory.specs.Words.{laid-pairs}
 use Rattle.theory.proofs.Tests.{tests}
-use Rattle.pairs.specs.Located.{ones-in}
+use Rattle.theory.proofs.Words.{length-laid, laid-at}
 use Rattle.pairs.proofs.General.{all-at}
-use Rattle.pairs.proofs.Weights.{length-ones}
-use Rattle.pairs.proofs.Words.{ones-pair}
 use Rattle.pairfile.specs.Text.{text, between}
 use Rattle.pairfile.specs.Lines.{is-place, places, filled}
 use Rattle.pairfile.proofs.Spelling.{spell-length}
 use Rattle.writing.proofs.Lengths.{filled-length}
 use Rattle.sheetfile.specs.Sheet.{head-form, member-form, number-form, share-form}
-use Rattle.sheetfile.specs.Writer.{member-lines, number-lines, share-lines, short}
+use Rattle.sheetfile.specs.Writer.{member-lines, number-lines, share-lines, four-digits}
 use Rattle.texts.specs.Texts.{refusal-text, accepted-form}
-use Rattle.texts.specs.Contracts.{Ends-spelled}
+use Rattle.texts.specs.Contracts.{Pairs-spelled}
 
 -- the numbers of a line, one by one
 pub record Smalls (ns : List ℕ) : Type 0 where
@@ -41,20 +40,20 @@ and-small n {ns} h hs = record { each = go }
     go zero = h
     go (suc k) = hs .each k
 
-pub small-at : (ns : List ℕ) → short ns → (k : ℕ) → getD ns k 0 ≤ 9999
-unfolding short all
+pub small-at : (ns : List ℕ) → four-digits ns → (k : ℕ) → getD ns k 0 ≤ 9999
+unfolding four-digits all
 small-at [] h k = omega arith
 small-at (n ∷ ns) h zero = (simp tests at h) .0
 small-at (n ∷ ns) h (suc k) = small-at ns ((simp tests at h) .1) k
 
 -- the two words of a pair
-pub ends-small : {ends shares : List ℕ} → Ends-spelled ends shares → (j : ℕ) → j < length shares →
-    (getD ends (2 * j) 0 ≤ 9999) × (getD ends (2 * j + 1) 0 ≤ 9999)
+pub ends-small : {words shares : List ℕ} → Pairs-spelled words shares → (j : ℕ) → j < length shares →
+    (getD words (2 * j) 0 ≤ 9999) × (getD words (2 * j + 1) 0 ≤ 9999)
 unfolding ends-in-range pair
-ends-small {ends} {shares} s j h =
+ends-small {words} {shares} s j h =
     let n = length shares in
-    let t = all-at (ends-in-range 512) (ones-in n ends) j (pair 0 0) (s .ends-few) (omega (arith, length-ones n ends)) in
-    let below = simp tests at (rw (ones-pair n ends j (pair 0 0) h) at t) in
+    let t = all-at (ends-in-range 512) (laid-pairs n words) j (pair 0 0) (s .ends-few) (omega (arith, length-laid n words)) in
+    let below = simp tests at (rw (laid-at n words j (pair 0 0) h) at t) in
     (omega (arith, below .0), omega (arith, below .1))
 
 pub refusal-length : (k : ℕ) → length (refusal-text k) ≤ 18

@@ -15,9 +15,8 @@ use lib.Dec.{eqb}
 use lib.ListN.{length, getD, drop, drop-of-length-le}
 use lib.Seq.{drop-cons}
 use Rattle.theory.specs.Lists.{Pair, pair}
-use Rattle.pairs.specs.Located.{ones-in}
-use Rattle.pairs.proofs.Weights.{length-ones}
-use Rattle.pairs.proofs.Words.{ones-pair}
+use Rattle.theory.specs.Words.{laid-pairs}
+use Rattle.theory.proofs.Words.{length-laid, laid-at}
 use Rattle.pairfile.specs.Text.{text}
 use Rattle.pairfile.specs.Numbers.{spell}
 use Rattle.pairfile.specs.Lines.{filled}
@@ -49,25 +48,25 @@ module _ (cores : List ℕ) (v : ℕ) where
   unfolding number-lines
   no-number h = rw (drop-of-length-le cores h)
 
-module _ (ends shares : List ℕ) (j : ℕ) where
+module _ (words shares : List ℕ) (j : ℕ) where
   abbrev pairs : List Pair
-  pairs = ones-in (length shares) ends
+  pairs = laid-pairs (length shares) words
 
   pub next-share : j < length shares →
       share-lines (drop j pairs) (drop j shares) ≡
-      filled share-form (getD ends (2 * j) 0 ∷ getD ends (2 * j + 1) 0 ∷ getD shares j 0 ∷ []) ++ share-lines (drop (j + 1) pairs) (drop (j + 1) shares)
+      filled share-form (getD words (2 * j) 0 ∷ getD words (2 * j + 1) 0 ∷ getD shares j 0 ∷ []) ++ share-lines (drop (j + 1) pairs) (drop (j + 1) shares)
   unfolding share-lines pair
   next-share h =
       rw (
-        drop-cons pairs j (pair 0 0) (omega (arith, length-ones (length shares) ends)),
-        ones-pair (length shares) ends j (pair 0 0) h,
+        drop-cons pairs j (pair 0 0) (omega (arith, length-laid (length shares) words)),
+        laid-at (length shares) words j (pair 0 0) h,
         drop-cons shares j 0 h,
         add-one j,
       )
 
   pub no-share : length shares ≤ j → share-lines (drop j pairs) (drop j shares) ≡ []
   unfolding share-lines
-  no-share h = rw (drop-of-length-le pairs {i = j} (omega (arith, h, length-ones (length shares) ends)))
+  no-share h = rw (drop-of-length-le pairs {i = j} (omega (arith, h, length-laid (length shares) words)))
 
 -- ---- a text's parts one behind the other
 
@@ -84,12 +83,12 @@ pub members-left : (r : Answer) (s : List ℕ) {out out₁ : List ℕ} {i : ℕ}
 unfolding answer-lines
 members-left r s {out} h p = left-step (left-start (answer-lines r s) out 0 (omega arith)) _ _ refl p
 
-module _ (r : Answer) (s cs es xs : List ℕ) {out out₁ : List ℕ} {i : ℕ} (h : length (sheet-lines r s cs es xs) ≤ length out)
+module _ (r : Answer) (s cs ws xs : List ℕ) {out out₁ : List ℕ} {i : ℕ} (h : length (sheet-lines r s cs ws xs) ≤ length out)
     (p : Puts (answer-lines r s) out 0 out₁ i) where
-  pub numbers-left : Left (sheet-lines r s cs es xs) out 0 (number-lines cs ++ share-lines (ones-in (length xs) es) xs) out₁ i
+  pub numbers-left : Left (sheet-lines r s cs ws xs) out 0 (number-lines cs ++ share-lines (laid-pairs (length xs) ws) xs) out₁ i
   unfolding sheet-lines
-  numbers-left = left-step (left-start (sheet-lines r s cs es xs) out 0 (omega arith)) _ _ refl p
+  numbers-left = left-step (left-start (sheet-lines r s cs ws xs) out 0 (omega arith)) _ _ refl p
 
   pub shares-left : {out₂ : List ℕ} {j : ℕ} → Puts (number-lines cs) out₁ i out₂ j →
-      Left (sheet-lines r s cs es xs) out 0 (share-lines (ones-in (length xs) es) xs) out₂ j
+      Left (sheet-lines r s cs ws xs) out 0 (share-lines (laid-pairs (length xs) ws) xs) out₂ j
   shares-left q = left-step numbers-left (number-lines cs) _ refl q

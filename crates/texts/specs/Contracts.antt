@@ -5,7 +5,7 @@
 --   Sheet-due                  what `sheet` prints of a list, and that `audit` accepts it
 --   Sheet-answered             what `audit` prints of it; the theorem is `sheet-answered`
 --   answer-lines, sheet-lines  the lines by the answer to a pair file and the buffers beside it
---   Spelled, Ends-spelled, Sheet-spelled    numbers that a line can hold
+--   Spelled, Pairs-spelled, Sheet-spelled    numbers that a line can hold
 -- Assumes nothing: these are definitions.
 use mathlib.Core.Path.{_≡_}
 use mathlib.Core.Bool.{true}
@@ -17,14 +17,14 @@ use Rattle.theory.specs.Lists.{Pairs, ends-in-range}
 use Rattle.theory.specs.Groups.{inside, size, Found}
 use Rattle.theory.specs.Splits.{core-order, outside-good}
 use Rattle.theory.specs.Promise.{Optimal}
-use Rattle.pairs.specs.Located.{ones-in}
+use Rattle.theory.specs.Words.{laid-pairs}
 use Rattle.pairfile.specs.Outcomes.{refused, taken}
 use Rattle.pairfile.specs.File.{read-file}
 use Rattle.writing.specs.Putting.{Puts}
 use Rattle.sheetfile.specs.Audit.{audit}
 use Rattle.pairfile.specs.Lines.{filled}
 use Rattle.sheetfile.specs.Sheet.{head-form}
-use Rattle.sheetfile.specs.Writer.{member-lines, number-lines, share-lines, sheet-file, short}
+use Rattle.sheetfile.specs.Writer.{member-lines, number-lines, share-lines, sheet-file, four-digits}
 use Rattle.answer.specs.declared.Answer.{Answer}
 use Rattle.texts.specs.Texts.{refusal-text, group-text, certificate, accepted-form, audit-text}
 
@@ -73,8 +73,8 @@ unfoldable pub answer-lines : Answer → (members : List ℕ) → List ℕ
 answer-lines r s = filled head-form (r .p ∷ r .q ∷ r .k ∷ r .coresize ∷ []) ++ member-lines 0 s
 
 -- and of the buffers beside it: the core numbers, the pairs in words, the shares
-unfoldable pub sheet-lines : Answer → (members cores ends shares : List ℕ) → List ℕ
-sheet-lines r s cs es xs = answer-lines r s ++ (number-lines cs ++ share-lines (ones-in (length xs) es) xs)
+unfoldable pub sheet-lines : Answer → (members cores words shares : List ℕ) → List ℕ
+sheet-lines r s cs ws xs = answer-lines r s ++ (number-lines cs ++ share-lines (laid-pairs (length xs) ws) xs)
 
 -- the head's numbers have at most four digits, and so has each module's
 pub record Spelled (r : Answer) (members : List ℕ) : Type 0 where
@@ -85,13 +85,13 @@ pub record Spelled (r : Answer) (members : List ℕ) : Type 0 where
   pub few : length members ≤ 512
 
 -- pairs in words, each end below 512, and shares of at most four digits
-pub record Ends-spelled (ends shares : List ℕ) : Type 0 where
-  pub ends-long : 2 * length shares ≤ length ends
-  pub ends-few : all (ends-in-range 512) (ones-in (length shares) ends) ≡ true
-  pub shares-short : short shares
+pub record Pairs-spelled (words shares : List ℕ) : Type 0 where
+  pub long : 2 * length shares ≤ length words
+  pub ends-few : all (ends-in-range 512) (laid-pairs (length shares) words) ≡ true
+  pub shares-digits : four-digits shares
 
 -- all of them
-pub record Sheet-spelled (r : Answer) (members cores ends shares : List ℕ) : Type 0 where
+pub record Sheet-spelled (r : Answer) (members cores words shares : List ℕ) : Type 0 where
   pub group : Spelled r members
-  pub numbers : short cores
-  pub pairs : Ends-spelled ends shares
+  pub numbers : four-digits cores
+  pub pairs : Pairs-spelled words shares

@@ -9,14 +9,14 @@ ghost use mathlib.Core.List.{[], _∷_};
 ghost use Prim.Native.Nat.{_+_, _≤_};
 ghost use lib.Dec.{eqb};
 ghost use lib.ListN.{length};
-ghost use Rattle.pairs.specs.Located.{ones-in};
+ghost use Rattle.theory.specs.Words.{laid-pairs};
 ghost use Rattle.pairfile.specs.Lines.{filled};
 ghost use Rattle.writing.specs.Putting.{Puts};
 ghost use Rattle.sheetfile.specs.Sheet.{member-form};
-ghost use Rattle.sheetfile.specs.Writer.{member-lines, number-lines, share-lines, short};
+ghost use Rattle.sheetfile.specs.Writer.{member-lines, number-lines, share-lines, four-digits};
 ghost use Rattle.sheetfile.specs.Audit.{audit};
 ghost use Rattle.texts.specs.Texts.{refusal-text, audit-text};
-ghost use Rattle.texts.specs.Contracts.{Prints, Of-file, Group-due, Sheet-due, Spelled, Ends-spelled, Sheet-spelled, answer-lines, sheet-lines};
+ghost use Rattle.texts.specs.Contracts.{Prints, Of-file, Group-due, Sheet-due, Spelled, Pairs-spelled, Sheet-spelled, answer-lines, sheet-lines};
 use answer::Answer;
 use answer::sheet_file;
 use answer::solve_file;
@@ -63,7 +63,7 @@ fn write_members(members: &[u8], out: &mut [u8], at: usize) -> usize
 
 // A line for each core number.
 fn write_numbers(cores: &[u16], out: &mut [u8], at: usize) -> usize
-    requires { ⌜ short (now cores) ⌝ }
+    requires { ⌜ four-digits (now cores) ⌝ }
     requires { ⌜ at + length (number-lines (now cores)) ≤ length (now out) ⌝ }
     ensures { λ r. ⌜ Puts (number-lines (now (cores .entry))) (now (out .entry)) at (now (out .exit)) r ⌝ }
 {
@@ -78,16 +78,16 @@ fn write_numbers(cores: &[u16], out: &mut [u8], at: usize) -> usize
 }
 
 // A line for each pair, with its share.
-fn write_shares(ends: &[u32], shares: &[u16], out: &mut [u8], at: usize) -> usize
-    requires { ⌜ Ends-spelled (now ends) (now shares) ⌝ }
-    requires { ⌜ at + length (share-lines (ones-in (length (now shares)) (now ends)) (now shares)) ≤ length (now out) ⌝ }
-    ensures { λ r. ⌜ Puts (share-lines (ones-in (length (now (shares .entry))) (now (ends .entry))) (now (shares .entry))) (now (out .entry)) at
+fn write_shares(words: &[u32], shares: &[u16], out: &mut [u8], at: usize) -> usize
+    requires { ⌜ Pairs-spelled (now words) (now shares) ⌝ }
+    requires { ⌜ at + length (share-lines (laid-pairs (length (now shares)) (now words)) (now shares)) ≤ length (now out) ⌝ }
+    ensures { λ r. ⌜ Puts (share-lines (laid-pairs (length (now (shares .entry))) (now (words .entry))) (now (shares .entry))) (now (out .entry)) at
         (now (out .exit)) r ⌝ }
 {
     let mut i = at;
     let mut j: usize = 0;
     while j < shares.len() {
-        let numbers = [ends[2 * j], ends[2 * j + 1], shares[j] as u32];
+        let numbers = [words[2 * j], words[2 * j + 1], shares[j] as u32];
         i = write_line(b"share=A,B,U\n", &numbers, out, i);
         j += 1;
     }
@@ -110,18 +110,18 @@ fn write_sheet(
     found: Answer,
     members: &[u8],
     cores: &[u16],
-    ends: &[u32],
+    words: &[u32],
     shares: &[u16],
     out: &mut [u8],
 ) -> usize
-    requires { ⌜ Sheet-spelled found (now members) (now cores) (now ends) (now shares) ⌝ }
-    requires { ⌜ length (sheet-lines found (now members) (now cores) (now ends) (now shares)) ≤ length (now out) ⌝ }
-    ensures { λ r. ⌜ Puts (sheet-lines found (now (members .entry)) (now (cores .entry)) (now (ends .entry)) (now (shares .entry))) (now (out .entry)) 0
+    requires { ⌜ Sheet-spelled found (now members) (now cores) (now words) (now shares) ⌝ }
+    requires { ⌜ length (sheet-lines found (now members) (now cores) (now words) (now shares)) ≤ length (now out) ⌝ }
+    ensures { λ r. ⌜ Puts (sheet-lines found (now (members .entry)) (now (cores .entry)) (now (words .entry)) (now (shares .entry))) (now (out .entry)) 0
         (now (out .exit)) r ⌝ }
 {
     let i = write_group(found, members, out);
     let j = write_numbers(cores, out, i);
-    write_shares(ends, shares, out, j)
+    write_shares(words, shares, out, j)
 }
 
 // The text of `group`, of a pair file's bytes; answers how long it is.
@@ -146,14 +146,14 @@ pub fn sheet_text(file: &[u8], out: &mut [u8]) -> usize
     let mut members = [0u8; 512];
     let mut cores = [0u16; 512];
     let mut shares = [0u16; 4096];
-    let mut ends = [0u32; 8192];
-    let found = sheet_file(file, &mut members, &mut cores, &mut shares, &mut ends);
+    let mut words = [0u32; 12288];
+    let found = sheet_file(file, &mut members, &mut cores, &mut shares, &mut words);
     if found.number != 0 {
         return write_refusal(found.number, out);
     }
     let n = found.n as usize;
     let m = found.m as usize;
-    write_sheet(found, &members[..n], &cores[..n], &ends, &shares[..m], out)
+    write_sheet(found, &members[..n], &cores[..n], &words, &shares[..m], out)
 }
 
 // The text of `audit`, of the bytes of a pair file and of a sheet; answers how long it is.

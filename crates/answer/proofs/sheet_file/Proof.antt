@@ -51,7 +51,7 @@ use Rattle.kandurzo.proofs.kandurzo_solve.Symbol as solve
 use Rattle.kandurzo.proofs.kandurzo_solve.Met as solve-thm
 use Rattle.answer.specs.declared.Answer.{Answer}
 use Rattle.answer.specs.Answers.{Room-enough, Sheeted}
-use Rattle.answer.proofs.Answering.{answer-of, ends-enough, length-ends, sheeted}
+use Rattle.answer.proofs.Answering.{answer-of, room-out, length-out, sheeted}
 use Rattle.answer.proofs.Answer as D
 use Rattle.answer.proofs.Answer.Laws as D′
 use Rattle.answer.proofs.count.Symbol as count
@@ -96,11 +96,11 @@ module _ {M : Type 1} (𝓤 : URA M) (H : Heap 𝓤) (𝓜 : Model 𝓤 H) (𝓖
 
   answer-fits : (c : Changed) (s : Solved) → Fits C.the-row (plain-changed W) c → Fits S.the-row (plain-solved W) s → Fits D.the-row plain-answer (answer-of c s)
   answer-fits c s c-fits s-fits =
-      let all = Struct.owed S.the-type S′.the-laws s _ s-fits in
-      let parts = changed-parts W c c-fits in
-      let h = head-parts (c .head) (parts .1) in
-      let found = ((refl, all .1 .0 .1), ((refl, all .1 .1 .0 .1), ((refl, all .1 .1 .1 .0 .1), ((refl, all .1 .1 .1 .1 .0 .1), tt)))) in
-      Struct.owes D.the-type D′.the-laws (answer-of c s) ((refl, parts .0), ((refl, h .0), ((refl, h .1), found)))
+      let s = Struct.owed S.the-type S′.the-laws s _ s-fits .1 in
+      let c = changed-parts W c c-fits in
+      let h = head-parts _ (c .1) in
+      Struct.owes D.the-type D′.the-laws _
+      ((refl, c .0), ((refl, h .0), ((refl, h .1), ((refl, s .0 .1), ((refl, s .1 .0 .1), ((refl, s .1 .1 .0 .1), ((refl, s .1 .1 .1 .0 .1), tt)))))))
 
   module _ (κs : Lfts 5) (qs : Shares 5) (a : Arguments forms κs) (are : Fitting forms κs a) where
     abbrev pars : List (Par W)
@@ -148,14 +148,19 @@ module _ {M : Type 1} (𝓤 : URA M) (H : Heap 𝓤) (𝓜 : Model 𝓤 H) (𝓖
         (ws .1 .0) (ws .1 .1 .0) (ws .1 .1 .1 .0) (ws .1 .1 .1 .1 .0))) (typed : Takes pars X code.function) (does : Does pars X code.function plan) where
       walk : Walked pars X (table W 𝓜 𝓡 code.env) (loops W 𝓜 𝓡 code.env) code.function
       unfolding code.routine
-      walk = chains 𝓤 H 𝓜 𝓖 𝓡 code.env code.function pars X (fit-slice (are .0 .0 .1 .0) .1, (fit-slice (are .1 .0 .0 .1 .0) .1,
-          (fit-slice (are .1 .1 .0 .0 .1 .0) .1, (fit-slice (are .1 .1 .1 .0 .0 .1 .0) .1, (fit-slice (are .1 .1 .1 .1 .0 .0 .1 .0) .1, tt))))) typed plan does (λ bs os.
+      walk = chains 𝓤 H 𝓜 𝓖 𝓡 code.env code.function pars X (
+        fit-slice (are .0 .0 .1 .0) .1,
+        (
+          fit-slice (are .1 .0 .0 .1 .0) .1,
+          (fit-slice (are .1 .1 .0 .0 .1 .0) .1, (fit-slice (are .1 .1 .1 .0 .0 .1 .0) .1, (fit-slice (are .1 .1 .1 .1 .0 .0 .1 .0) .1, tt))),
+        ),
+      ) typed plan does (λ bs os.
           let here : Spot 𝓤 H = spot 𝓤 H 𝓜 𝓖 𝓡 code.env code.function pars X bs in
           let list : ℕ = place (env (code.function .locals) bs) 6 in
           let work : ℕ = place (env (code.function .locals) bs) 7 in
           let bytes : List ℕ = a .0 .now in
-          let es : List ℕ = a .1 .1 .1 .1 .0 .now in
-          -- the two arrays: [work; list; bytes; members; cores; shares; ends]
+          let vs : List ℕ = a .1 .1 .1 .1 .0 .now in
+          -- the two arrays: [work; list; bytes; members; cores; shares; words]
           array-at here 6 4096 P.the-row (plain-pair W) tt blank (blank-fits W) (array-at here 7 16384 u32 (plain-word W) tt 0 (refl, lit< tt)
           -- let file = read(bytes, &mut list, &mut work)
           (calls-at here (2 ∷ 1 ∷ 0 ∷ []) (read-args list work (os .0)) C.the-row (plain-changed W) refl
@@ -167,22 +172,22 @@ module _ {M : Type 1} (𝓤 : URA M) (H : Heap 𝓤) (𝓜 : Model 𝓤 H) (𝓖
           let h-fits : Fits N.the-row (plain-head W) h = changed-parts W file file-fits .1 in
           let list-kept : length ps ≡ 4096 = sized .1 .0 ∙ list-long in
           let work-kept : length ws ≡ 16384 = sized .1 .1 .0 ∙ work-long in
-          -- let held = count(file.head); copy_out(&list, ends, held)
+          -- let held = count(file.head); copy_out(&list, words, held)
           outright-at here [] (count-args h h-fits) usize (plain-count W) (h .m) (tt, tt) (λ r us e. (e, refl)) refl refl (id⊢ 𝓤 _) code.calls-answer·count
           (λ ks. count-thm.met 𝓤 H 𝓜 𝓖 𝓡 (bound (count-args h h-fits) ks, tt)) (λ m-fits _.
-          out-at here 1 6 (list, 0) ps (a .1 .1 .1 .1 .0 .ptr) es (h .m) list-kept refl (m-fits .1) fullShare code.calls-records·copy-out (list-room list-kept) (are .1 .1 .1 .1 .0 .0 .1)
-          (ends-enough bytes list₀ work₀ list-long work-long file ps ws work-kept says list-kept es (enough .ends-long)) refl
+          out-at here 1 6 (list, 0) ps (a .1 .1 .1 .1 .0 .ptr) vs (h .m) list-kept refl (m-fits .1) fullShare code.calls-records·copy-out (list-room list-kept) (are .1 .1 .1 .1 .0 .0 .1)
+          (room-out bytes list₀ work₀ list-long work-long file ps ws work-kept says list-kept vs (enough .words-long)) refl
           -- let found = solve(head, &list, members, cores, shares, &mut work)
           (calls-at here (1 ∷ 3 ∷ 4 ∷ 5 ∷ 0 ∷ []) (solve-args list work h h-fits ps list-kept ws work-kept) S.the-row (plain-solved W) refl
           (λ i. solve-vals list work h (sym list-kept i) (sym work-kept i)) (id⊢ 𝓤 _) code.calls-kandurzo·kandurzo-solve
           (λ ks. solve-thm.met 𝓤 H 𝓜 𝓖 𝓡 (bound (solve-args list work h h-fits ps list-kept ws work-kept) ks, tt)) (λ found us found-fits kept finds.
           -- the arrays are room again; Answer { .. }
-          let end : Entry.Lasts pars = (tt, (us .1 .1 .0, (us .1 .1 .1 .0, (us .1 .1 .1 .1 .0, (laid-out ps es (h .m), tt))))) in
-          let ends-kept = length-ends bytes list₀ work₀ list-long work-long file ps ws work-kept says list-kept es (enough .ends-long) in
-          let fit : Entry.Fit pars end = (tt, (kept .1 .0, (kept .1 .1 .0, (kept .1 .1 .1 .0, (ends-kept, tt))))) in
+          let end : Entry.Lasts pars = (tt, (us .1 .1 .0, (us .1 .1 .1 .0, (us .1 .1 .1 .1 .0, (laid-out ps vs (h .m), tt))))) in
+          let words-kept = length-out bytes list₀ work₀ list-long work-long file ps ws work-kept says list-kept vs (enough .words-long) in
+          let fit : Entry.Fit pars end = (tt, (kept .1 .0, (kept .1 .1 .0, (kept .1 .1 .1 .0, (words-kept, tt))))) in
           drop-at here 7 16384 u32 (plain-word W) tt (us .1 .1 .1 .1 .1 .0) (kept .1 .1 .1 .1 .0 ∙ work-kept) (drop-at here 6 4096 P.the-row (plain-pair W) tt ps list-kept
           (returns-at here os end fit D.the-row plain-answer (answer-of file found) (answer-fits file found file-fits found-fits)
-          (sheeted bytes list₀ work₀ list-long work-long file ps ws work-kept says (a .1 .0 .now) (a .1 .1 .0 .now) (a .1 .1 .1 .0 .now) es enough found
+          (sheeted bytes list₀ work₀ list-long work-long file ps ws work-kept says (a .1 .0 .now) (a .1 .1 .0 .now) (a .1 .1 .1 .0 .now) vs enough found
           (us .1 .1 .0) (us .1 .1 .1 .0) (us .1 .1 .1 .1 .0) _ finds) (fin (answer-of file found) end fit))))))))))
 
 pub sheet-file-spec : {M : Type 1} → stated.statement M
@@ -191,4 +196,4 @@ sheet-file-spec 𝓤 H 𝓜 𝓖 𝓡 =
     states-asking 𝓤 H 𝓜 𝓖 𝓡 code.env f.ended (kinds-of forms) (f.clauses 𝓤 H (𝓖 .A) (𝓜 .mem) (𝓡 .run)) key.name code.function (code.unfolded 𝓤 H 𝓜 𝓡) (λ κs qs bounds a g are ends.
     needs 𝓤 (Room-enough (length (a .1 .0 .now)) (length (a .1 .1 .0 .now)) (length (a .1 .1 .1 .0 .now)) (length (a .1 .1 .1 .1 .0 .now))) _ (λ enough.
     walk 𝓤 H 𝓜 𝓖 𝓡 κs qs a are enough _ (λ v zs fit. ends _ v zs fit) (λ bs. tt)
-    (λ bs. (tt, refl, (tt, refl, (tt, refl, λ file. (tt, (tt, refl, λ _. (tt, (tt, refl, λ _. (tt, (tt, refl, λ found. (tt, (tt, refl, (tt, refl, (tt, tt, refl)))))))))))))))
+    (λ bs. (tt, refl, (tt, refl, (tt, refl, λ file. (tt, (tt, refl, λ _. (tt, (tt, refl, λ _. (tt, (tt, refl, λ found. (tt, (tt, refl, (tt, refl, (tt, tt, refl))))))))))))))))

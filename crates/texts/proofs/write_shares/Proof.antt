@@ -2,7 +2,7 @@
 use Prim.Native.Nat.{_-_}
 use native.Mathlib.Omega.{arith}
 use lib.ListN.{length, drop, length-append}
-use Rattle.pairs.specs.Located.{ones-in}
+use Rattle.theory.specs.Words.{laid-pairs}
 use Rattle.pairfile.specs.Text.{text}
 use Rattle.sheetfile.specs.Sheet.{share-form}
 use Rattle.sheetfile.specs.Writer.{share-lines}
@@ -14,11 +14,11 @@ use Rattle.texts.proofs.write_shares.Statement.{statement}
 use Rattle.texts.proofs.write_shares.Tie as tie
 
 abbrev Inv-loop : tie.InvT-loop
-Inv-loop ends shares out₀ at i₀ j₀ t8 out i j =
-    Left (share-lines (ones-in (length shares) ends) shares) out₀ at (share-lines (drop j (ones-in (length shares) ends)) (drop j shares)) out i
+Inv-loop words shares out₀ at i₀ j₀ t8 out i j =
+    Left (share-lines (laid-pairs (length shares) words) shares) out₀ at (share-lines (drop j (laid-pairs (length shares) words)) (drop j shares)) out i
 
 abbrev μ-loop : tie.MeasureT-loop
-μ-loop ends shares out₀ at i₀ j₀ t8 out i j = length shares - j
+μ-loop words shares out₀ at i₀ j₀ t8 out i j = length shares - j
 
 loop-holds : tie.Need-loop-holds Inv-loop μ-loop
 loop-holds c = left-start _ _ _ (c .before .before .before .pre .1)
@@ -53,7 +53,7 @@ shared-slice-read-t21 c = search needs
 cast-t22 : tie.Need-cast-t22 Inv-loop μ-loop
 cast-t22 c =
     let l = c .before .before .before .before in
-    omega (arith, small-at _ (l .before .before .before .before .pre .0 .shares-short) (l .loop .j))
+    omega (arith, small-at _ (l .before .before .before .before .pre .0 .shares-digits) (l .loop .j))
 
 slice-aggregate-write-line : tie.Need-slice-aggregate-write-line Inv-loop μ-loop
 slice-aggregate-write-line c = search needs
@@ -67,8 +67,8 @@ write-line-requires c κs =
     let l = c .before .before .before .before .before .before in
     let start = l .before .before .before .before .before in
     let small = ends-small (start .pre .0) _ (l .loop-test .taken) in
-    let next = next-share (start .args .ends .now) (start .args .shares .now) (l .before .loop .j) (l .loop-test .taken) in (
-      and-small _ (small .0) (and-small _ (small .1) (and-small _ (small-at _ (start .pre .0 .shares-short) (l .before .loop .j)) no-more)) .each,
+    let next = next-share (start .args .words .now) (start .args .shares .now) (l .before .loop .j) (l .loop-test .taken) in (
+      and-small _ (small .0) (and-small _ (small .1) (and-small _ (small-at _ (start .pre .0 .shares-digits) (l .before .loop .j)) no-more)) .each,
       omega (arith, simp length-append at (rw next at (l .before .loop .inv .room))),
     )
 
@@ -83,7 +83,7 @@ unfolding share-form text
 loop-again c =
     let l = c .before .before .before .before .before .before .before .before .before in
     let start = l .before .before .before .before .before in
-    let next = next-share (start .args .ends .now) (start .args .shares .now) (l .before .loop .j) (l .loop-test .taken) in
+    let next = next-share (start .args .words .now) (start .args .shares .now) (l .before .loop .j) (l .loop-test .taken) in
     left-step (l .before .loop .inv) _ _ next (c .before .before .write-line .ensures)
 
 same-length : tie.Need-same-length Inv-loop μ-loop
@@ -92,7 +92,7 @@ same-length c = c .before .loop .inv .long
 returns : tie.Need-returns Inv-loop μ-loop
 returns c =
     let start = c .before .before .before .before .before in
-    left-done (c .before .loop .inv) (no-share (start .args .ends .now) (start .args .shares .now) (c .before .loop .j) (c .loop-test .left))
+    left-done (c .before .loop .inv) (no-share (start .args .words .now) (start .args .shares .now) (c .before .loop .j) (c .loop-test .left))
 
 pub write-shares-spec : {M : Type 1} → statement M
 write-shares-spec =

@@ -9,8 +9,8 @@ use Rattle.sheetfile.specs.Sheet.{share-form}
 use Rattle.sheetfile.proofs.Judging.{share-none, share-unfit, share-fit}
 use borrow.Author.Needs.{needs}
 use borrow.Author.Tests.{eqb-true, eqb-false, not-true, not-false}
-use Rattle.sheetfile.proofs.share_line.Statement.{statement}
-use Rattle.sheetfile.proofs.share_line.Tie as tie
+use Rattle.sheetfile.proofs.sheet.share_line.Statement.{statement}
+use Rattle.sheetfile.proofs.sheet.share_line.Tie as tie
 
 slice-aggregate-line-at : tie.Need-slice-aggregate-line-at
 slice-aggregate-line-at c = search needs

@@ -2,15 +2,15 @@
 use mathlib.Core.Logic.{⊎-elim, inl, inr}
 use native.Mathlib.Omega.{arith}
 use Rattle.theory.specs.Basics.{mark}
+use Rattle.theory.specs.Words.{laid-list}
 use Rattle.pairfile.specs.Text.{text, between}
 use Rattle.pairfile.specs.Lines.{is-place, places}
 use Rattle.pairfile.proofs.Judged.{LineHas, line-has}
 use Rattle.sheetfile.specs.Sheet.{head-form}
-use Rattle.sheetfile.specs.Answers.{list-of}
 use Rattle.sheetfile.proofs.Bodies.{head-none, head-small, head-unfit, head-read}
 use borrow.Author.Needs.{needs}
-use Rattle.sheetfile.proofs.read_sheet.Statement.{statement}
-use Rattle.sheetfile.proofs.read_sheet.Tie as tie
+use Rattle.sheetfile.proofs.sheet.read_sheet.Statement.{statement}
+use Rattle.sheetfile.proofs.sheet.read_sheet.Tie as tie
 
 slice-aggregate-line-at : tie.Need-slice-aggregate-line-at
 slice-aggregate-line-at c = search needs
@@ -49,7 +49,7 @@ refused-head-requires-2 : tie.Need-refused-head-requires-2
 refused-head-requires-2 c κs = search needs
 
 returns : tie.Need-returns
-unfolding list-of
+unfolding laid-list
 returns c =
     rw (c .refused-head2 .ensures)
     (head-unfit (numbers (c .before .before)) _ _ _ (⊎-elim (λ o. inl (o .taken)) (λ o. inr (o .1 .taken)) (c .before .if1 .came)))
@@ -84,7 +84,7 @@ same-length-2 : tie.Need-same-length-2
 same-length-2 c = search needs
 
 returns-3 : tie.Need-returns-3
-unfolding list-of
+unfolding laid-list
 returns-3 c =
     let b = c .before .before .before .before in
     let i = b .before .before .before .before in

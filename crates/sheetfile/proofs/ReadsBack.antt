@@ -52,11 +52,11 @@ use Rattle.sheetfile.specs.Sheet.{
   ratio-causes,
   read-sheet,
 }
-use Rattle.sheetfile.specs.Writer.{member-lines, number-lines, share-lines, sheet-file, short, Sheet-back, Accepts-back}
+use Rattle.sheetfile.specs.Writer.{member-lines, number-lines, share-lines, sheet-file, four-digits, Sheet-back, Accepts-back}
 use Rattle.sheetfile.specs.Audit.{ratio-good, core-good, head-causes, sheet-causes, audit-sheet, audit}
 use Rattle.sheetfile.proofs.Judging.{line-taken}
 use Rattle.sheetfile.proofs.Auditing.{check-then}
-use Rattle.sheetfile.proofs.Short.{best-written}
+use Rattle.sheetfile.proofs.BestSheets.{best-writable}
 
 -- ---- lines that are written
 
@@ -115,8 +115,8 @@ members-back ps (suc zero ∷ bs) rest low l g f =
     (step ∙ ap (λ (t : List ℕ). read-members (size bs) (suc v) t more) (set-append-seam ps 0 zs 1) ∙ ih′)
 members-back ps (suc (suc x) ∷ bs) rest low l g f = absurd (omega (arith, (simp tests at g) .0))
 
-numbers-back : (cs rest : List ℕ) → short cs → read-numbers cs (number-lines cs ++ rest) ≡ taken rest
-unfolding short all number-lines read-numbers number-line first _>>=_
+numbers-back : (cs rest : List ℕ) → four-digits cs → read-numbers cs (number-lines cs ++ rest) ≡ taken rest
+unfolding four-digits all number-lines read-numbers number-line first _>>=_
 numbers-back [] rest h = refl
 numbers-back (c ∷ cs) rest h =
     let t = simp tests at h in
@@ -125,9 +125,9 @@ numbers-back (c ∷ cs) rest h =
     line-taken number-form _ first (filled number-form (c ∷ []) ++ more) _ 104 (number-read more c (t .0)) (rw (eq-eqb c c refl)) in
     rw (append-assoc (filled number-form (c ∷ [])) (number-lines cs) rest, line) (numbers-back cs rest (t .1))
 
-shares-back : (n : ℕ) → n ≤ 512 → (ps : List Pair) (acc xs : List ℕ) → length xs ≡ length ps → all (ends-in-range n) ps ≡ true → short xs →
+shares-back : (n : ℕ) → n ≤ 512 → (ps : List Pair) (acc xs : List ℕ) → length xs ≡ length ps → all (ends-in-range n) ps ≡ true → four-digits xs →
     read-shares ps acc (share-lines ps xs) ≡ taken (record { entries = acc ++ xs; rest = [] })
-unfolding short all share-lines read-shares share-line first second third ends-in-range _>>=_
+unfolding four-digits all share-lines read-shares share-line first second third ends-in-range _>>=_
 shares-back n few [] acc [] e r h = ap (λ (ys : List ℕ). taken (record { entries = ys; rest = [] })) (sym (append-nil acc))
 shares-back n few [] acc (x ∷ xs) e r h = absurd (omega arith)
 shares-back n few (p ∷ ps) acc [] e r h = absurd (omega arith)
@@ -146,7 +146,8 @@ shares-back n few (p ∷ ps) acc (x ∷ xs) e r h =
 -- ---- the whole
 
 pub sheet-back : Sheet-back
-unfolding Sheet-back sheet-file read-sheet read-body due judge passed refusal cause ratio-causes rest-causes between _>>=_ _>>_ sheet first second third fourth is-group
+unfolding Sheet-back sheet-file read-sheet read-body due judge passed refusal cause ratio-causes rest-causes between
+    _>>=_ _>>_ sheet first second third fourth is-group
 sheet-back g s l w =
     let k : Listed g = listed g l in
     let bits : Bits (g .n) (s .members) = group-bits g (s .members) (w .group) in
@@ -156,7 +157,8 @@ sheet-back g s l w =
     let numbers : List ℕ = number-lines (core-numbers g) in
     let shares : List ℕ = share-lines (g .pairs) (s .shares) in
     let body : List ℕ = member-lines 0 (s .members) ++ (numbers ++ shares) in
-    let head = head-read body (s .p) (s .q) (s .k) (s .coresize) (w .head-short .0) (omega (arith, few-members, k .few)) (w .head-short .1) (w .head-short .2) in
+    let head =
+    head-read body (s .p) (s .q) (s .k) (s .coresize) (w .head-digits .0) (omega (arith, few-members, k .few)) (w .head-digits .1) (w .head-digits .2) in
     let back : read-members (size (s .members)) 0 (replicate (length (s .members)) 0) body ≡ taken (record { entries = s .members; rest = numbers ++ shares }) =
     members-back [] (s .members) (numbers ++ shares) 0 (omega arith) (bits .1) (omega (arith, bits .0, k .few)) in
     let members = rw (← w .members-size, bits .0) at back in
@@ -165,8 +167,8 @@ sheet-back g s l w =
       le-leb 1 (s .q) some-members,
       le-leb (s .q) (g .n) few-members,
       members,
-      numbers-back (core-numbers g) shares (w .numbers-short),
-      shares-back (g .n) (k .few) (g .pairs) [] (s .shares) (w .each-pair) (k .ends) (w .shares-short),
+      numbers-back (core-numbers g) shares (w .numbers-digits),
+      shares-back (g .n) (k .few) (g .pairs) [] (s .shares) (w .each-pair) (k .ends) (w .shares-digits),
     ) refl
 
 -- no cause is met of a best sheet
@@ -187,4 +189,4 @@ none-met g s o ek ec =
 pub accepts-back : Accepts-back
 unfolding Accepts-back Sheet-back audit audit-sheet _>>=_ _>>_
 accepts-back file g s e o ek ec =
-    rw (e, sheet-back g s (accepted 4096 file g e .list) (best-written file g s e o ek ec), judge-passed (sheet-causes g s) (none-met g s o ek ec))
+    rw (e, sheet-back g s (accepted 4096 file g e .list) (best-writable file g s e o ek ec), judge-passed (sheet-causes g s) (none-met g s o ek ec))

@@ -8,8 +8,8 @@ use Rattle.sheetfile.specs.Sheet.{member-form}
 use Rattle.sheetfile.proofs.Judging.{member-none, member-unfit, member-fit}
 use borrow.Author.Needs.{needs}
 use borrow.Author.Tests.{leb-true, leb-false}
-use Rattle.sheetfile.proofs.member_line.Statement.{statement}
-use Rattle.sheetfile.proofs.member_line.Tie as tie
+use Rattle.sheetfile.proofs.sheet.member_line.Statement.{statement}
+use Rattle.sheetfile.proofs.sheet.member_line.Tie as tie
 
 slice-aggregate-count-at : tie.Need-slice-aggregate-count-at
 slice-aggregate-count-at c = search needs

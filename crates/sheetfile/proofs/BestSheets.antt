@@ -1,5 +1,5 @@
 -- The best sheets of a file's list can be written: their numbers have at most four digits.
---   best-written    P is at most 4,096, Q and a share at most 512, a core number at most 4,096, K below 4,608
+--   best-writable    P is at most 4,096, Q and a share at most 512, a core number at most 4,096, K below 4,608
 -- Assumes nothing.
 use mathlib.Core.Path.{_≡_, refl, ap}
 use mathlib.Core.Bool.{true}
@@ -23,7 +23,7 @@ use Rattle.pairfile.specs.Outcomes.{taken}
 use Rattle.pairfile.specs.File.{read-file}
 use Rattle.pairfile.proofs.Accepts.{accepted}
 use Rattle.sheetfile.specs.Sheet.{Sheet}
-use Rattle.sheetfile.specs.Writer.{short, Written}
+use Rattle.sheetfile.specs.Writer.{four-digits, Writable}
 
 -- of pairs that count once
 total-ones : (ps : List Pair) → ones ps ≡ true → total ps ≡ length ps
@@ -31,40 +31,40 @@ unfolding total ones all
 total-ones [] e = refl
 total-ones (p ∷ ps) e = let h = simp tests at e in omega (arith, h .0, total-ones ps (h .1))
 
-shares-short : (q : ℕ) (ps : List Pair) (xs : List ℕ) → q ≤ 9999 → ones ps ≡ true → shares-good q ps xs ≡ true →
-    (length xs ≡ length ps) × short xs
-unfolding ones all shares-good units short
-shares-short q [] [] l o e = (refl, refl)
-shares-short q [] (x ∷ xs) l o e = no e
-shares-short q (p ∷ ps) [] l o e = no e
-shares-short q (p ∷ ps) (x ∷ xs) l o e =
+shares-digits : (q : ℕ) (ps : List Pair) (xs : List ℕ) → q ≤ 9999 → ones ps ≡ true → shares-good q ps xs ≡ true →
+    (length xs ≡ length ps) × four-digits xs
+unfolding ones all shares-good units four-digits
+shares-digits q [] [] l o e = (refl, refl)
+shares-digits q [] (x ∷ xs) l o e = no e
+shares-digits q (p ∷ ps) [] l o e = no e
+shares-digits q (p ∷ ps) (x ∷ xs) l o e =
     let a = simp tests at o in
     let b = simp tests at e in
-    let rest = shares-short q ps xs l (a .1) (b .1) in
+    let rest = shares-digits q ps xs l (a .1) (b .1) in
     (ap suc (rest .0), simp tests (omega (arith, b .0, ap (λ (w : ℕ). w * q) (a .0)), rest .1))
 
-table-short : (n : ℕ) (f : ℕ → ℕ) → ((i : ℕ) → f i ≤ 9999) → short (table n f)
-unfolding short table all
-table-short zero f h = refl
-table-short (suc n) f h = simp tests (h 0, table-short n (λ i. f (suc i)) (λ i. h (suc i)))
+table-digits : (n : ℕ) (f : ℕ → ℕ) → ((i : ℕ) → f i ≤ 9999) → four-digits (table n f)
+unfolding four-digits table all
+table-digits zero f h = refl
+table-digits (suc n) f h = simp tests (h 0, table-digits n (λ i. f (suc i)) (λ i. h (suc i)))
 
-pub best-written : (file : List ℕ) (g : Pairs) (s : Sheet) → read-file 4096 file ≡ taken g →
-    Optimal g (s .members) (s .shares) (s .p) (s .q) → s .k ≡ rounded-up (s .p) (s .q) → s .coresize ≡ size (core g (s .k)) → Written g s
+pub best-writable : (file : List ℕ) (g : Pairs) (s : Sheet) → read-file 4096 file ≡ taken g →
+    Optimal g (s .members) (s .shares) (s .p) (s .q) → s .k ≡ rounded-up (s .p) (s .q) → s .coresize ≡ size (core g (s .k)) → Writable g s
 unfolding is-split core-numbers rounded-up inside
-best-written file g s e o ek ec =
+best-writable file g s e o ek ec =
     let a = accepted 4096 file g e in
     let all-pairs : total (g .pairs) ≤ 4096 = omega (arith, total-ones (g .pairs) (a .once), a .fits) in
     let p-few : s .p ≤ 4096 = omega (arith, o .inside-count, inside-le-total (g .pairs) (s .members)) in
     let q-few : s .q ≤ 512 = omega (arith, o .modules, size-bound g (s .members) (a .list) (o .is-a-group)) in
     let split = simp tests at (o .is-a-split) in
-    let shares = shares-short (s .q) (g .pairs) (s .shares) (omega arith) (a .once) (split .1) in
+    let shares = shares-digits (s .q) (g .pairs) (s .shares) (omega arith) (a .once) (split .1) in
     let core-few : size (core g (s .k)) ≤ 512 =
     omega (arith, size-le-length (core g (s .k)) (core-bits g (s .k) .1), core-bits g (s .k) .0, listed g (a .list) .few) in
     record {
       group = o .is-a-group;
       members-size = o .modules;
       each-pair = shares .0;
-      head-short = (omega arith, omega (arith, ek, div-le-self (s .p + s .q - 1) (s .q)), omega (arith, ec));
-      numbers-short = table-short (g .n) (core-number g) (λ v. omega (arith, core-number-le g v));
-      shares-short = shares .1;
+      head-digits = (omega arith, omega (arith, ek, div-le-self (s .p + s .q - 1) (s .q)), omega (arith, ec));
+      numbers-digits = table-digits (g .n) (core-number g) (λ v. omega (arith, core-number-le g v));
+      shares-digits = shares .1;
     }

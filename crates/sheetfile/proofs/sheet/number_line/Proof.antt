@@ -6,8 +6,8 @@ use Rattle.pairfile.specs.Lines.{is-place, places}
 use Rattle.sheetfile.specs.Sheet.{number-form}
 use Rattle.sheetfile.proofs.Judging.{number-none, number-unfit, number-fit}
 use borrow.Author.Needs.{needs}
-use Rattle.sheetfile.proofs.number_line.Statement.{statement}
-use Rattle.sheetfile.proofs.number_line.Tie as tie
+use Rattle.sheetfile.proofs.sheet.number_line.Statement.{statement}
+use Rattle.sheetfile.proofs.sheet.number_line.Tie as tie
 
 slice-aggregate-count-at : tie.Need-slice-aggregate-count-at
 slice-aggregate-count-at c = search needs
