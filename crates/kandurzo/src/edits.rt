@@ -2,7 +2,6 @@
 ghost use mathlib.Core.Path.{_≡_};
 ghost use mathlib.Core.Bool.{not};
 ghost use mathlib.Core.List.{_∷_};
-ghost use Prim.Native.Nat.{min, max};
 ghost use Rattle.theory.specs.Words.{laid-pairs};
 ghost use Rattle.theory.specs.Refusals.{cause, refusal};
 ghost use Rattle.pairs.specs.Held.{is-held, place-of, smaller-first-pair};
@@ -11,6 +10,8 @@ ghost use Rattle.pairs.specs.Located.{Rising-words};
 ghost use Rattle.kandurzo.specs.Listing.{is-full};
 ghost use Rattle.kandurzo.specs.Edits.{records-out, Ready, add-edit, add-words, remove-edit, remove-words};
 use crate::Edit;
+use numbers::greater;
+use numbers::lesser;
 use pairs::Place;
 use pairs::delete;
 use pairs::insert;
@@ -26,18 +27,6 @@ pub(crate) fn records_out(head: Head, agreed: bool) -> usize
         return head.m as usize;
     }
     0
-}
-
-fn lesser(a: u32, b: u32) -> u32
-    ensures { λ r. ⌜ r ≡ min a b ⌝ }
-{
-    if a < b { a } else { b }
-}
-
-fn greater(a: u32, b: u32) -> u32
-    ensures { λ r. ⌜ r ≡ max a b ⌝ }
-{
-    if a < b { b } else { a }
 }
 
 fn refused(number: u32, head: Head) -> Edit

@@ -12,7 +12,6 @@ ghost use lib.Dec.{leb};
 ghost use lib.ListN.{length, drop};
 ghost use Rattle.theory.specs.Basics.{mark};
 ghost use Rattle.theory.specs.Cores.{core-numbers};
-ghost use Rattle.theory.specs.Splits.{rounded-up};
 ghost use Rattle.theory.specs.Words.{laid-list, Holds-list};
 ghost use Rattle.verify.specs.Answers.{refused-by};
 ghost use Rattle.sheetfile.specs.Audit.{audit-sheet, verdict-of, Audits};
@@ -44,14 +43,6 @@ fn at_least(k: u32, numbers: &[u32]) -> u32
     count
 }
 
-// p over q, rounded up.
-fn rounded_up(p: u32, q: u32) -> u64
-    requires { ⌜ 1 ≤ q ⌝ }
-    ensures { λ r. ⌜ r ≡ rounded-up p q ⌝ }
-{
-    (p as u64 + q as u64 - 1) / q as u64
-}
-
 fn refused(number: u32) -> Verdict
     ensures { λ r. ⌜ r ≡ refused-by number ⌝ }
 {
@@ -69,7 +60,7 @@ fn judge_head(head: SheetHead, verdict: Verdict, cores: &[u32]) -> Verdict
     if head.q != verdict.q {
         return refused(107);
     }
-    if head.k as u64 != rounded_up(head.p, head.q) {
+    if head.k != numbers::rounded_up(head.p, head.q) {
         return refused(108);
     }
     if head.coresize != at_least(head.k, cores) {
