@@ -1,7 +1,7 @@
 -- What add and remove do on words.
 --   Edited                      what the words are after an answer
 --   edit-refused, edit-taken    an answer and the words, by its number
---   lookup-says, full-less      what lookup says; a list that is not full has room for a record
+--   lookup-says, insert-says, full-less    what lookup says, and what is put in there; a list that is not full has room for a record
 --   freed-pair                  the record that remove frees
 --   few, find-asks, insert-asks, delete-asks    what the functions on words ask
 --   add-edited, remove-edited   what add and remove leave
@@ -91,6 +91,12 @@ pub lookup-says : (a b : ℕ) (ps : List Pair) {c d : ℕ} {r : Place} → c ≡
 unfolding located smaller-first-pair
 lookup-says a b ps e f g =
     (ap (λ (x : Place). x .held) g ∙ rw (e, f), ap (λ (x : Place). x .at) g ∙ rw (e, f))
+
+-- and what is put in where it said
+pub insert-says : (m a b : ℕ) (words : List ℕ) {at place c d : ℕ} → at ≡ place → c ≡ min a b → d ≡ max a b →
+    insert-at m at (record { a = c; b = d; w = 1 }) words ≡ insert-at m place (smaller-first-pair a b) words
+unfolding smaller-first-pair pair
+insert-says m a b words e f g = rw (e, f, g)
 
 -- a list that is not full has room for a record
 pub full-less : (h : Head) (len : ℕ) → h .m ≤ 4096 → h .m ≤ len → is-full h len ≡ false → (h .m < 4096) × (h .m < len)

@@ -29,7 +29,8 @@ use Rattle.pairs.specs.Causes.{pair-causes}
 use Rattle.pairs.proofs.Keeps.{counts-once}
 use Rattle.pairfile.specs.Outcomes.{Outcome, refused, taken, _>>=_, _>>_, passed, judge}
 use Rattle.pairfile.specs.Lines.{modules-form, pairs-form, pair-form, Line, first, second, line-of}
-use Rattle.pairfile.specs.File.{line-or-1, line-due, count-line, modules-causes, modules-line, pairs-causes, pairs-line, pair-line-causes, pair-line, end-causes, read-pairs, read-file}
+use Rattle.pairfile.specs.File.{line-or-1, line-due, count-line, modules-causes, modules-line, pairs-causes, pairs-line}
+use Rattle.pairfile.specs.File.{pair-line-causes, pair-line, end-causes, read-pairs, read-file}
 use Rattle.pairfile.specs.Promise.{ones}
 use Rattle.pairfile.specs.Answers.{reading-of, pairs-of, FileRead}
 use Rattle.pairfile.specs.declared.Reading.{Reading}
