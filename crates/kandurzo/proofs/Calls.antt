@@ -68,7 +68,9 @@ module _ (zs : List ℕ) (long : length zs ≡ 12288) (h : Head) (ps : List Pair
   -- there is room for the records that go out
   pub out-room : Room-out ps zs (records-out h (agrees h ps))
   unfolding records-out
-  out-room = by-test (agrees h ps) (λ e. rw e (agreed-room e)) (λ e. rw e (record { enough = omega arith; few = omega arith; long = λ l. absurd (omega (arith, l)) }))
+  out-room =
+      by-test (agrees h ps) (λ e. rw e (agreed-room e))
+      (λ e. rw e (record { enough = omega arith; few = omega arith; long = λ l. absurd (omega (arith, l)) }))
 
   pub out-long : length (out zs h ps) ≡ 12288
   out-long = length-laid-out ps zs (records-out h (agrees h ps)) out-room ∙ long

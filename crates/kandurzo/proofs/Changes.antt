@@ -1,7 +1,7 @@
 -- What add and remove do on words.
 --   Edited                      what the words are after an answer
 --   edit-refused, edit-taken    an answer and the words, by its number
---   lookup-says, full-less      what lookup says; a list that is not full has room for a record
+--   lookup-says, insert-says, full-less    what lookup says, and what is put in there; a list that is not full has room for a record
 --   freed-pair                  the record that remove frees
 --   few, find-asks, insert-asks, delete-asks    what the functions on words ask
 --   add-edited, remove-edited   what add and remove leave
@@ -21,15 +21,15 @@ use Rattle.theory.proofs.Tests.{tests, no}
 use Rattle.theory.specs.Words.{laid-pairs, laid-list}
 use Rattle.theory.proofs.Lists.{listed}
 use Rattle.theory.proofs.Words.{length-laid, laid-at}
-use Rattle.pairs.specs.Held.{is-held, place-of, insert-pair, remove-pair, with-pair, without-pair, smaller-first-pair}
+use Rattle.pairs.specs.Held.{is-held, place-of, insert-pair, remove-pair, without-pair, smaller-first-pair}
 use Rattle.pairs.specs.Causes.{pair-causes}
 use Rattle.pairs.specs.Located.{Rising-words, located}
 use Rattle.pairs.specs.declared.Place.{Place}
 use Rattle.pairs.specs.Shifts.{insert-at, delete-at}
 use Rattle.pairs.proofs.General.{by-test}
 use Rattle.pairs.proofs.Causes.{pair-good}
-use Rattle.pairs.proofs.Keeps.{insert-list, remove-list}
-use Rattle.pairs.proofs.Words.{holds-rising, place-within, place-held, laid-inserted, length-insert, laid-freed, length-delete}
+use Rattle.pairs.proofs.Keeps.{remove-list}
+use Rattle.pairs.proofs.Words.{holds-rising, place-within, place-held, insert-holds, laid-inserted, length-insert, laid-freed, length-delete}
 use Rattle.records.specs.declared.Head.{Head}
 use Rattle.records.specs.Records.{Fits-records}
 use Rattle.kandurzo.specs.declared.Edit.{Edit}
@@ -92,6 +92,12 @@ unfolding located smaller-first-pair
 lookup-says a b ps e f g =
     (ap (λ (x : Place). x .held) g ∙ rw (e, f), ap (λ (x : Place). x .at) g ∙ rw (e, f))
 
+-- and what is put in where it said
+pub insert-says : (m a b : ℕ) (words : List ℕ) {at place c d : ℕ} → at ≡ place → c ≡ min a b → d ≡ max a b →
+    insert-at m at (record { a = c; b = d; w = 1 }) words ≡ insert-at m place (smaller-first-pair a b) words
+unfolding smaller-first-pair pair
+insert-says m a b words e f g = rw (e, f, g)
+
 -- a list that is not full has room for a record
 pub full-less : (h : Head) (len : ℕ) → h .m ≤ 4096 → h .m ≤ len → is-full h len ≡ false → (h .m < 4096) × (h .m < len)
 unfolding is-full
@@ -150,21 +156,18 @@ module _ (h : Head) (t : Bool) (len : ℕ) (words : List ℕ) (ready : Ready h t
   edit-added : (a b k : ℕ) → k ≡ 0 → refusal (pair-causes (h .n) a b) ≡ 0 → is-held (smaller-first-pair a b) now-held ≡ false →
       (h .m < 4096) × (h .m < len) → let p = smaller-first-pair a b in
       Edited h len k (head-of (h .n) (h .m + 1)) (h .m + 1) (insert-pair p now-held) (insert-at (h .m) (place-of p now-held) p words)
-  unfolding edit-of if-taken laid-list with-pair smaller-first-pair
+  unfolding edit-of if-taken laid-list smaller-first-pair
   edit-added a b k z fine free less =
       let p : Pair = smaller-first-pair a b in
       let k0 : eqb k 0 ≡ true = eq-eqb k 0 z in
-      let same = laid-inserted (h .m) p words (less .0) (rises .long) in
       let good = pair-good (h .n) a b fine in
-      let list : is-list (with-pair p (laid-list (h .n) (h .m) words)) ≡ true =
-      insert-list (laid-list (h .n) (h .m) words) p held (good .0) (good .1) (good .2) free (omega (arith, length-laid (h .m) words, less .0)) in
-      let l = listed (with-pair p (laid-list (h .n) (h .m) words)) list in
+      let l = listed _ (insert-holds (h .n) (h .m) p words (ready .holds yes) (good .0) (good .1) (good .2) free (less .0) .listed) in
       record {
         long = length-insert (h .m) (place-of p now-held) p words (place-within (h .m) p words) (less .0) (rises .long) ∙ long;
         in-list = rw k0 (omega (arith, less .1));
         room = rw k0 (omega (arith, less .0));
-        pairs = λ w. same;
-        fit = rw k0 (words-fit (h .n) (h .m + 1) _ (l .few) (rw same (l .ends)));
+        pairs = λ w. laid-inserted (h .m) p words (less .0) (rises .long);
+        fit = rw k0 (words-fit (h .n) (h .m + 1) _ (l .few) (l .ends));
       }
 
   edit-removed : (p : Pair) (k : ℕ) → k ≡ 0 → is-held p now-held ≡ true →

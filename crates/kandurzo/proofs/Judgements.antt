@@ -84,7 +84,8 @@ module _ (h : Head) (ps : List Pair) (members shares work : List ℕ) where
         by-test (eqb gate 0)
         (λ e.
         let z : gate ≡ 0 = eqb-true _ 0 e in
-        let says : Check-says (held-list h ps) (take (h .n) members) (take (h .m) shares) v = rw (work-in-list h ps short work (check-long h _ _ _) z) at (on .judged z) in
+        let same = work-in-list h ps short work (check-long h _ _ _) z in
+        let says : Check-says (held-list h ps) (take (h .n) members) (take (h .m) shares) v = rw same at (on .judged z) in
         let low = check-few (held-list h ps) (take (h .n) members) (take (h .m) shares) in
         record {
           number = says .number ∙ sym (gate-then (not (agrees h ps)) short rest z);

@@ -29,13 +29,14 @@ use Rattle.pairs.specs.Causes.{pair-causes}
 use Rattle.pairs.proofs.Keeps.{counts-once}
 use Rattle.pairfile.specs.Outcomes.{Outcome, refused, taken, _>>=_, _>>_, passed, judge}
 use Rattle.pairfile.specs.Lines.{modules-form, pairs-form, pair-form, Line, first, second, line-of}
-use Rattle.pairfile.specs.File.{line-or-1, line-due, count-line, modules-causes, modules-line, pairs-causes, pairs-line, pair-line-causes, pair-line, end-causes, read-pairs, read-file}
+use Rattle.pairfile.specs.File.{line-or-1, line-due, count-line, modules-causes, modules-line, pairs-causes, pairs-line}
+use Rattle.pairfile.specs.File.{pair-line-causes, pair-line, end-causes, read-pairs, read-file}
 use Rattle.pairfile.specs.Promise.{ones}
-use Rattle.pairfile.specs.Answers.{reading-of, pairs-of, pairs-used, FileRead}
+use Rattle.pairfile.specs.Answers.{reading-of, pairs-of, FileRead}
 use Rattle.pairfile.specs.declared.Reading.{Reading}
 use Rattle.pairfile.proofs.Taken.{refused-not-taken}
 use Rattle.pairfile.proofs.Accepts.{accepted}
-use Rattle.pairfile.proofs.Readings.{words-small}
+use Rattle.pairfile.proofs.Readings.{words-small, reading-past}
 use Rattle.records.specs.declared.Pair.{Pair}
 use Rattle.records.specs.declared.Head.{Head}
 use Rattle.records.specs.Records.{held-list, agrees, put-back, Fits-records, Room-back}
@@ -146,22 +147,13 @@ number-few room bytes = go (read-file room bytes) refl
     go (refused k) e = file-few room bytes k e
     go (taken g) e = omega arith
 
--- the words used are among the first 12,288
-used-few : (room : ℕ) (bytes : List ℕ) → 8192 + pairs-used (read-file room bytes) ≤ 16384
-unfolding pairs-used
-used-few room bytes = go (read-file room bytes) refl
-  where
-    go : (o : Outcome Pairs) → read-file room bytes ≡ o → 8192 + pairs-used o ≤ 16384
-    go (refused k) e = omega arith
-    go (taken g) e = omega (arith, listed g (accepted room bytes g e .list) .short)
-
 module _ (room : ℕ) (bytes work after : List ℕ) (f : Reading) (long : 16384 ≤ length work) (read : FileRead room bytes work after f) where
   read-past : work-left (f .number) after ≡ work-left (f .number) work
   read-past =
       let same : f .number ≡ reading-of (read-file room bytes) .number = ap (λ (q : Reading). q .number) (read .reading) in
       let zeros : (w : List ℕ) → work-left (f .number) w ≡ cleared w =
       λ w. work-zeros (f .number) w (λ x. omega (arith, number-few room bytes)) (λ x. omega (arith, number-few room bytes)) in
-      zeros after ∙ cleared-past (8192 + pairs-used (read-file room bytes)) after work (used-few room bytes) (read .past .beyond) ∙ sym (zeros work)
+      zeros after ∙ cleared-past 12288 after work (omega arith) (reading-past read) ∙ sym (zeros work)
 
   head-is : _≡_ {A = Head} (record { n = f .n; m = f .m }) (read-head (read-file room bytes))
   unfolding read-head head-of

@@ -80,7 +80,8 @@ module _ (h : Head) (ps : List Pair) (members cores shares work : List ℕ) wher
 -- ---- what follows of the answers
 
 -- a call that refuses nothing has a list as it is held
-module _ (h : Head) (ps : List Pair) (ms cs xs ws : List ℕ) {r : Solved} {ms′ cs′ xs′ ws′ : List ℕ} (call : Solve-call h ps ms cs xs ws r ms′ cs′ xs′ ws′) (z : r .number ≡ 0) where
+module _ (h : Head) (ps : List Pair) (ms cs xs ws : List ℕ) {r : Solved} {ms′ cs′ xs′ ws′ : List ℕ}
+    (call : Solve-call h ps ms cs xs ws r ms′ cs′ xs′ ws′) (z : r .number ≡ 0) where
   taken-list : is-list (held-list h ps) ≡ true
   unfolding solve-call-causes gate-number gate-causes
   taken-list = held-is-list h ps (gate-open h ps (short h ps ms cs xs ws) (sym (call .number .outright) ∙ z) .0)

@@ -182,8 +182,9 @@ module _ (h : Head) (ps : List Pair) (a b : ℕ) (taken : add-number h ps a b �
       let own : is-held new-pair (held-list (head-of (h .n) (h .m + 1)) (added h ps a b) .pairs) ≡ true =
       added-held new-pair ∙ rw (same-refl new-pair) in
       let back : remove-pair new-pair (held-list (head-of (h .n) (h .m + 1)) (added h ps a b) .pairs) ≡ held-list h ps .pairs =
-      ap (λ (g : Pairs). remove-pair new-pair (g .pairs)) held-added ∙ (unfold with-pair in (insert-remove new-pair (held-list h ps .pairs))) in (
-        remove-taken _ _ a b (none-first _ (held-list (head-of (h .n) (h .m + 1)) (added h ps a b) .n) a b (rw added-agrees) (unfold held-list head-of in (passed .fine))) own,
+      ap (λ (g : Pairs). remove-pair new-pair (g .pairs)) held-added ∙ (unfold with-pair in (insert-remove new-pair (held-list h ps .pairs))) in
+      let n : ℕ = held-list (head-of (h .n) (h .m + 1)) (added h ps a b) .n in (
+        remove-taken _ _ a b (none-first _ n a b (rw added-agrees) (unfold held-list head-of in (passed .fine))) own,
         rw back (take-at (as-records (held-list h ps .pairs)) _ (h .m) (length-as-records _ ∙ length-held h ps (passed .agreed))
             ∙ held-records h ps (passed .agreed)),
       )

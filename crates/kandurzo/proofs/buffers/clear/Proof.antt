@@ -44,7 +44,9 @@ same-length c = c .before .loop .inv .long
 
 returns : tie.Need-returns Inv-loop μ-loop
 unfolding cleared
-returns c = turning-done (replicate work-words 0) (c .before .before .args .work .now) (room (c .before .before)) (c .before .loop .inv) (omega (arith, zeros-length))
+returns c =
+    let s = c .before .before in
+    turning-done (replicate work-words 0) (s .args .work .now) (room s) (c .before .loop .inv) (omega (arith, zeros-length))
 
 pub clear-spec : {M : Type 1} → statement M
 clear-spec = tie.close (tie.spec Inv-loop μ-loop loop-holds mul-work slice-write-work add-j loop-less loop-again same-length returns)

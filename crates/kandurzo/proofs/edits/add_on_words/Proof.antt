@@ -3,19 +3,32 @@ use mathlib.Core.Path.{_≡_, refl, sym, _∙_}
 use mathlib.Core.Bool.{not}
 use native.Mathlib.Omega.{arith}
 use borrow.Author.Needs.{needs}
-use Rattle.theory.specs.Lists.{pair}
 use Rattle.theory.specs.Words.{laid-list}
-use Rattle.pairs.specs.Held.{smaller-first-pair}
 use Rattle.kandurzo.specs.Listing.{head-of}
 use Rattle.kandurzo.specs.Edits.{pair-place, add-on-number, add-edit, add-words}
 use Rattle.kandurzo.proofs.Orders.{First, add-first, add-10, add-11, add-taken}
-use Rattle.kandurzo.proofs.Changes.{edit-refused, edit-taken, few, find-asks, insert-asks}
+use Rattle.kandurzo.proofs.Changes.{edit-refused, edit-taken, insert-says, few, find-asks, insert-asks}
 use Rattle.kandurzo.proofs.edits.add_on_words.Statement.{statement}
 use Rattle.kandurzo.proofs.edits.add_on_words.Tie as tie
 
--- where 13, 4 and 5 do not hold
+-- where 13, 4 and 5 do not hold; after the lookup; where 10 does not hold, nor 11; and before the pair is put in
 abbrev begin : tie.Else1 → tie.Start
 begin c = c .before .before .before
+
+abbrev first-passed : tie.After-find → tie.Else1
+first-passed c = c .before .before .before
+
+abbrev looked : tie.Else2 → tie.After-find
+looked c = c .before
+
+abbrev new : tie.Else3 → tie.Else2
+new c = c .before .before
+
+abbrev roomy : tie.After-greater → tie.Else3
+roomy c = c .before .before .before
+
+abbrev put : tie.After-struct-known2 → tie.After-greater
+put c = c .before .before .before .before
 
 fine : (c : tie.Else1) → First (not (begin c .args .agreed)) (begin c .args .head .n) (begin c .args .a) (begin c .args .b) ≡ 0
 fine c = sym (c .before .first-number .ensures) ∙ c .if1 .left
@@ -48,8 +61,9 @@ same-length c = search needs
 returns-2 : tie.Need-returns-2
 unfolding add-edit add-words add-on-number pair-place laid-list
 returns-2 c =
-    edit-refused _ _ _ _ _ _ 10 (add-10 _ (laid-list _ _ _) _ _ _ (fine (c .before .before .before .before .before)) (sym (c .before .before .find .ensures .0) ∙ c .before .if2 .taken)) (λ z. omega arith)
-    (c .refused2 .ensures)
+    let v = c .before .before in
+    let ten = add-10 _ (laid-list _ _ _) _ _ _ (fine (first-passed v)) (sym (v .find .ensures .0) ∙ c .before .if2 .taken) in
+    edit-refused _ _ _ _ _ _ 10 ten (λ z. omega arith) (c .refused2 .ensures)
 
 full-requires : tie.Need-full-requires
 full-requires c κs = search needs
@@ -63,9 +77,11 @@ same-length-2 c = search needs
 returns-3 : tie.Need-returns-3
 unfolding add-edit add-words add-on-number pair-place laid-list
 returns-3 c =
-    let free = sym (c .before .before .before .before .find .ensures .0) ∙ c .before .before .before .if2 .left in
-    edit-refused _ _ _ _ _ _ 11 (add-11 _ (laid-list _ _ _) _ _ _ (fine (c .before .before .before .before .before .before .before)) free (sym (c .before .before .full .ensures) ∙ c .before .if3 .taken)) (λ z. omega arith)
-    (c .refused3 .ensures)
+    let e = c .before .before .before in
+    let v = looked e in
+    let free = sym (v .find .ensures .0) ∙ e .if2 .left in
+    let full = sym (c .before .before .full .ensures) ∙ c .before .if3 .taken in
+    edit-refused _ _ _ _ _ _ 11 (add-11 _ (laid-list _ _ _) _ _ _ (fine (first-passed v)) free full) (λ z. omega arith) (c .refused3 .ensures)
 
 lesser-requires : tie.Need-lesser-requires
 lesser-requires c κs = search needs
@@ -75,11 +91,16 @@ greater-requires c κs = search needs
 
 insert-requires : tie.Need-insert-requires
 insert-requires c κs =
-    let s = begin (c .before .before .before .before .before .before .before .before .before) in
-    insert-asks (s .args .a) (s .args .b) (s .pre) (fine (c .before .before .before .before .before .before .before .before .before)) (c .before .before .before .before .before .before .find .ensures .1) (sym (c .before .before .before .before .full .ensures) ∙ c .before .before .before .if3 .left)
+    let r = roomy c in
+    let v = looked (new r) in
+    let s = begin (first-passed v) in
+    insert-asks (s .args .a) (s .args .b) (s .pre) (fine (first-passed v)) (v .find .ensures .1) (sym (r .before .full .ensures) ∙ r .if3 .left)
 
 add-t17 : tie.Need-add-t17
-add-t17 c = let s = begin (c .before .before .before .before .before .before .before .before .before .before .before .before .before) in omega (arith, few (s .args .a) (s .args .b) (s .pre) (fine (c .before .before .before .before .before .before .before .before .before .before .before .before .before)))
+add-t17 c =
+    let o = first-passed (looked (new (roomy (put c)))) in
+    let s = begin o in
+    omega (arith, few (s .args .a) (s .args .b) (s .pre) (fine o))
 
 add-t20 : tie.Need-add-t20
 add-t20 c = search needs
@@ -88,12 +109,15 @@ same-length-3 : tie.Need-same-length-3
 same-length-3 c = search needs
 
 returns-4 : tie.Need-returns-4
-unfolding add-edit add-words add-on-number pair-place laid-list head-of smaller-first-pair pair
+unfolding add-edit add-words add-on-number pair-place laid-list head-of
 returns-4 c =
-    let look = c .before .before .before .before .before .before .before .before .before .before .find .ensures in
-    let free = sym (look .0) ∙ c .before .before .before .before .before .before .before .before .before .if2 .left in
-    edit-taken _ _ _ _ _ _ (add-taken _ (laid-list _ _ _) _ _ _ (fine (c .before .before .before .before .before .before .before .before .before .before .before .before .before)) free (sym (c .before .before .before .before .before .before .before .before .full .ensures) ∙ c .before .before .before .before .before .before .before .if3 .left)) refl
-    (c .before .before .before .insert .ensures ∙ rw (look .1, c .before .before .before .before .before .lesser .ensures, c .before .before .before .before .greater .ensures))
+    let r = roomy (put c) in
+    let v = looked (new r) in
+    let look = v .find .ensures in
+    let free = sym (look .0) ∙ new r .if2 .left in
+    let room = sym (r .before .full .ensures) ∙ r .if3 .left in
+    edit-taken _ _ _ _ _ _ (add-taken _ (laid-list _ _ _) _ _ _ (fine (first-passed v)) free room) refl
+    (c .before .before .before .insert .ensures ∙ insert-says _ _ _ _ (look .1) (put c .before .lesser .ensures) (put c .greater .ensures))
 
 pub add-on-words-spec : {M : Type 1} → statement M
 add-on-words-spec =

@@ -12,9 +12,18 @@ use Rattle.kandurzo.proofs.Changes.{edit-refused, edit-taken, find-asks
 use Rattle.kandurzo.proofs.edits.remove_on_words.Statement.{statement}
 use Rattle.kandurzo.proofs.edits.remove_on_words.Tie as tie
 
--- where 13, 4 and 5 do not hold
+-- where 13, 4 and 5 do not hold; after the lookup; and where 14 does not hold
 abbrev begin : tie.Else1 → tie.Start
 begin c = c .before .before .before
+
+abbrev first-passed : tie.After-find → tie.Else1
+first-passed c = c .before .before .before
+
+abbrev looked : tie.Else2 → tie.After-find
+looked c = c .before .before
+
+abbrev held : tie.After-struct-known3 → tie.Else2
+held c = c .before .before .before .before .before
 
 fine : (c : tie.Else1) → First (not (begin c .args .agreed)) (begin c .args .head .n) (begin c .args .a) (begin c .args .b) ≡ 0
 fine c = sym (c .before .first-number .ensures) ∙ c .if1 .left
@@ -47,20 +56,24 @@ same-length c = search needs
 returns-2 : tie.Need-returns-2
 unfolding remove-edit remove-words remove-on-number pair-place laid-list
 returns-2 c =
-    edit-refused _ _ _ _ _ _ 14 (remove-14 _ (laid-list _ _ _) _ _ (fine (c .before .before .before .before .before .before)) (sym (c .before .before .before .find .ensures .0) ∙ not-true _ (c .before .if2 .taken))) (λ z. omega arith)
-    (c .refused2 .ensures)
+    let v = c .before .before .before in
+    let none = remove-14 _ (laid-list _ _ _) _ _ (fine (first-passed v)) (sym (v .find .ensures .0) ∙ not-true _ (c .before .if2 .taken)) in
+    edit-refused _ _ _ _ _ _ 14 none (λ z. omega arith) (c .refused2 .ensures)
 
 delete-requires : tie.Need-delete-requires
 delete-requires c κs =
-    let s = begin (c .before .before .before .before .before .before) in
-    let look = c .before .before .before .find .ensures in
-    delete-asks (s .args .a) (s .args .b) (s .pre) (fine (c .before .before .before .before .before .before)) (look .1) (sym (look .0) ∙ not-false _ (c .before .if2 .left))
+    let v = looked (c .before) in
+    let s = begin (first-passed v) in
+    let look = v .find .ensures in
+    delete-asks (s .args .a) (s .args .b) (s .pre) (fine (first-passed v)) (look .1) (sym (look .0) ∙ not-false _ (c .before .if2 .left))
 
 sub-t16 : tie.Need-sub-t16
 sub-t16 c =
-    let s = begin (c .before .before .before .before .before .before .before .before .before .before) in
-    let look = c .before .before .before .before .before .before .before .find .ensures in
-    omega (arith, delete-asks (s .args .a) (s .args .b) (s .pre) (fine (c .before .before .before .before .before .before .before .before .before .before)) (look .1) (sym (look .0) ∙ not-false _ (c .before .before .before .before .before .if2 .left)))
+    let v = looked (held c) in
+    let s = begin (first-passed v) in
+    let look = v .find .ensures in
+    let there = sym (look .0) ∙ not-false _ (held c .if2 .left) in
+    omega (arith, delete-asks (s .args .a) (s .args .b) (s .pre) (fine (first-passed v)) (look .1) there)
 
 same-length-2 : tie.Need-same-length-2
 same-length-2 c = search needs
@@ -68,9 +81,10 @@ same-length-2 c = search needs
 returns-3 : tie.Need-returns-3
 unfolding remove-edit remove-words remove-on-number pair-place laid-list head-of
 returns-3 c =
-    let look = c .before .before .before .before .before .before .before .find .ensures in
-    edit-taken _ _ _ _ _ _ (remove-taken _ (laid-list _ _ _) _ _ (fine (c .before .before .before .before .before .before .before .before .before .before)) (sym (look .0) ∙ not-false _ (c .before .before .before .before .before .if2 .left))) refl
-    (c .before .before .before .delete .ensures ∙ rw (look .1))
+    let v = looked (held c) in
+    let look = v .find .ensures in
+    let there = sym (look .0) ∙ not-false _ (held c .if2 .left) in
+    edit-taken _ _ _ _ _ _ (remove-taken _ (laid-list _ _ _) _ _ (fine (first-passed v)) there) refl (c .before .before .before .delete .ensures ∙ rw (look .1))
 
 pub remove-on-words-spec : {M : Type 1} → statement M
 remove-on-words-spec =

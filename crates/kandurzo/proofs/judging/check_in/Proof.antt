@@ -35,7 +35,9 @@ part-check-words-end-2 : tie.Need-part-check-words-end-2
 part-check-words-end-2 c = search (needs, few (c .before .before .before .before))
 
 check-words-requires : tie.Need-check-words-requires
-check-words-requires c κs = let s = c .before .before .before .before .before in (cut-held (s .args .n) (s .args .m) (now (s .args .work)) (s .pre .0), s .pre .1)
+check-words-requires c κs =
+    let s = c .before .before .before .before .before in
+    (cut-held (s .args .n) (s .args .m) (now (s .args .work)) (s .pre .0), s .pre .1)
 
 returns : tie.Need-returns
 returns c = let a = c .before .before .before .before .before .before .args in rw (cut-list (a .n) (a .m) (now (a .work))) at (c .check-words .ensures)

@@ -35,7 +35,9 @@ part-surplus-words-end-2 : tie.Need-part-surplus-words-end-2
 part-surplus-words-end-2 c = search (needs, few (c .before .before .before .before))
 
 surplus-words-requires : tie.Need-surplus-words-requires
-surplus-words-requires c κs = let s = c .before .before .before .before .before in (cut-held (s .args .n) (s .args .m) (now (s .args .words)) (s .pre .0), s .pre .1)
+surplus-words-requires c κs =
+    let s = c .before .before .before .before .before in
+    (cut-held (s .args .n) (s .args .m) (now (s .args .words)) (s .pre .0), s .pre .1)
 
 returns : tie.Need-returns
 returns c = let a = c .before .before .before .before .before .before .args in rw (cut-list (a .n) (a .m) (now (a .words))) at (c .surplus-words .ensures)

@@ -115,8 +115,9 @@ returns c =
     let a = begin v .args in
     let done = rw (cut-list (a .n) (a .m) (now (a .work))) at (v .peel .ensures) in
     let g = list-of (begin v) in
-    let cores = now (a .cores) in (
-      c .before .before .before .before .before .before .before .narrow .ensures ∙ narrowed (a .n) (leaving g) _ _ (unfold Leaving-steps in (leaving-steps g .0)) (done .order-is) (now (a .order)),
+    let cores = now (a .cores) in
+    let long : length (leaving g) ≡ a .n = unfold Leaving-steps in (leaving-steps g .0) in (
+      c .before .before .before .before .before .before .before .narrow .ensures ∙ narrowed (a .n) (leaving g) _ _ long (done .order-is) (now (a .order)),
       c .before .before .narrow2 .ensures ∙ cores-narrowed g _ _ (done .cores-are) cores,
     )
 
