@@ -96,11 +96,11 @@ module _ {M : Type 1} (𝓤 : URA M) (H : Heap 𝓤) (𝓜 : Model 𝓤 H) (𝓖
 
   answer-fits : (c : Changed) (s : Solved) → Fits C.the-row (plain-changed W) c → Fits S.the-row (plain-solved W) s → Fits D.the-row plain-answer (answer-of c s)
   answer-fits c s c-fits s-fits =
-      let all = Struct.owed S.the-type S′.the-laws s _ s-fits in
-      let parts = changed-parts W c c-fits in
-      let h = head-parts (c .head) (parts .1) in
-      let found = ((refl, all .1 .0 .1), ((refl, all .1 .1 .0 .1), ((refl, all .1 .1 .1 .0 .1), ((refl, all .1 .1 .1 .1 .0 .1), tt)))) in
-      Struct.owes D.the-type D′.the-laws (answer-of c s) ((refl, parts .0), ((refl, h .0), ((refl, h .1), found)))
+      let s = Struct.owed S.the-type S′.the-laws s _ s-fits .1 in
+      let c = changed-parts W c c-fits in
+      let h = head-parts _ (c .1) in
+      Struct.owes D.the-type D′.the-laws _
+      ((refl, c .0), ((refl, h .0), ((refl, h .1), ((refl, s .0 .1), ((refl, s .1 .0 .1), ((refl, s .1 .1 .0 .1), ((refl, s .1 .1 .1 .0 .1), tt)))))))
 
   module _ (κs : Lfts 5) (qs : Shares 5) (a : Arguments forms κs) (are : Fitting forms κs a) where
     abbrev pars : List (Par W)
@@ -148,8 +148,13 @@ module _ {M : Type 1} (𝓤 : URA M) (H : Heap 𝓤) (𝓜 : Model 𝓤 H) (𝓖
         (ws .1 .0) (ws .1 .1 .0) (ws .1 .1 .1 .0) (ws .1 .1 .1 .1 .0))) (typed : Takes pars X code.function) (does : Does pars X code.function plan) where
       walk : Walked pars X (table W 𝓜 𝓡 code.env) (loops W 𝓜 𝓡 code.env) code.function
       unfolding code.routine
-      walk = chains 𝓤 H 𝓜 𝓖 𝓡 code.env code.function pars X (fit-slice (are .0 .0 .1 .0) .1, (fit-slice (are .1 .0 .0 .1 .0) .1,
-          (fit-slice (are .1 .1 .0 .0 .1 .0) .1, (fit-slice (are .1 .1 .1 .0 .0 .1 .0) .1, (fit-slice (are .1 .1 .1 .1 .0 .0 .1 .0) .1, tt))))) typed plan does (λ bs os.
+      walk = chains 𝓤 H 𝓜 𝓖 𝓡 code.env code.function pars X (
+        fit-slice (are .0 .0 .1 .0) .1,
+        (
+          fit-slice (are .1 .0 .0 .1 .0) .1,
+          (fit-slice (are .1 .1 .0 .0 .1 .0) .1, (fit-slice (are .1 .1 .1 .0 .0 .1 .0) .1, (fit-slice (are .1 .1 .1 .1 .0 .0 .1 .0) .1, tt))),
+        ),
+      ) typed plan does (λ bs os.
           let here : Spot 𝓤 H = spot 𝓤 H 𝓜 𝓖 𝓡 code.env code.function pars X bs in
           let list : ℕ = place (env (code.function .locals) bs) 6 in
           let work : ℕ = place (env (code.function .locals) bs) 7 in
@@ -191,4 +196,4 @@ sheet-file-spec 𝓤 H 𝓜 𝓖 𝓡 =
     states-asking 𝓤 H 𝓜 𝓖 𝓡 code.env f.ended (kinds-of forms) (f.clauses 𝓤 H (𝓖 .A) (𝓜 .mem) (𝓡 .run)) key.name code.function (code.unfolded 𝓤 H 𝓜 𝓡) (λ κs qs bounds a g are ends.
     needs 𝓤 (Room-enough (length (a .1 .0 .now)) (length (a .1 .1 .0 .now)) (length (a .1 .1 .1 .0 .now)) (length (a .1 .1 .1 .1 .0 .now))) _ (λ enough.
     walk 𝓤 H 𝓜 𝓖 𝓡 κs qs a are enough _ (λ v zs fit. ends _ v zs fit) (λ bs. tt)
-    (λ bs. (tt, refl, (tt, refl, (tt, refl, λ file. (tt, (tt, refl, λ _. (tt, (tt, refl, λ _. (tt, (tt, refl, λ found. (tt, (tt, refl, (tt, refl, (tt, tt, refl)))))))))))))))
+    (λ bs. (tt, refl, (tt, refl, (tt, refl, λ file. (tt, (tt, refl, λ _. (tt, (tt, refl, λ _. (tt, (tt, refl, λ found. (tt, (tt, refl, (tt, refl, (tt, tt, refl))))))))))))))))
