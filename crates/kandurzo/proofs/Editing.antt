@@ -35,7 +35,7 @@ use Rattle.records.proofs.Entry as Entry
 use Rattle.records.proofs.Entry.{Par}
 use Rattle.records.proofs.Records.{plain-head, word-row, room-as}
 use Rattle.records.proofs.Copies.{length-put-back}
-use Rattle.records.proofs.Straight.{Plan, calls, gives, makes, drops}
+use Rattle.records.proofs.Cells.{Plan, calls, gives, makes, drops}
 use Rattle.records.proofs.Forms.{Form, value, writes, word, Arguments, Fitting, pars-of}
 use Rattle.records.proofs.Chain.{table, loops, Finishes, Takes, Does, Walked, Spot, spot, outright-at, agree-at, out-at, in-at, array-at, drop-at, returns-at, chains}
 use Rattle.records.proofs.Head as N

@@ -33,7 +33,7 @@ use Rattle.records.proofs.Entry.{Par}
 use Rattle.records.proofs.Records.{word-row, byte-row, room-as}
 use Rattle.records.proofs.Steps.{Enough-back}
 use Rattle.records.proofs.Copies.{length-put-back}
-use Rattle.records.proofs.Straight.{Plan, calls, gives}
+use Rattle.records.proofs.Cells.{Plan, calls, gives}
 use Rattle.records.proofs.Forms.{Form, reads, writes, byte, word, Arguments, Fitting, pars-of}
 use Rattle.records.proofs.Chain.{table, loops, Finishes, Takes, Does, Walked, Spot, spot, calls-at, outright-at, in-at, returns-at, chains}
 use Rattle.records.proofs.copy_in.Symbol as copy-in

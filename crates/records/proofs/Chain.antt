@@ -25,7 +25,7 @@ use prog.Wp.{Heap, WpFn, Calls, Loops, noLocal}
 use ghost.Atoms.{Atoms, sem}
 use contract.Monad.{fact, factI}
 use contract.Running.{GhostRules, Running, givenOf, tables, tablesOf}
-use types.Kit.{Given, Item, Go, Sq, runs, lands, ‵, ⋆, mean, nth, put, del, pull, fill, pop, push, ⊢++, atRet, _$_, ! }
+use types.Kit.{Given, Item, Go, Sq, lands, ‵, ⋆, mean, nth, put, del, pull, fill, pop, push, ⊢++, atRet, _$_, ! }
 use types.Run.{Opds}
 use sound.WpLaws.{FmC, fmOf}
 use denote.RattleType.{RattleType}
@@ -45,7 +45,9 @@ use Rattle.records.proofs.Entry as Entry
 use Rattle.records.proofs.Entry.{Par}
 use Rattle.records.proofs.Records.{plain-head, pair-row, word-row}
 use Rattle.records.proofs.Steps.{Enough, Enough-back, copies-out, copies-in, asks-agree}
-use Rattle.records.proofs.Straight.{Plan, calls, gives, makes, drops, meets-array, meets-drop, Runs, ahead, room, filled, laid, Walk-of, walks, meets-call, meets-return, shifts, All-fit, params-typed, typed-params}
+use Rattle.records.proofs.Cells.{Plan, calls, gives, makes, drops, Runs, ahead, room}
+use Rattle.records.proofs.Locals.{laid}
+use Rattle.records.proofs.Straight.{meets-array, meets-drop, filled, Walk-of, walks, meets-call, meets-return, shifts, All-fit, params-typed, typed-params}
 use Rattle.records.proofs.Lent.{calls-lent}
 use Rattle.records.proofs.Head as N
 use Rattle.records.proofs.Cited.{cites-agree, cites-out, cites-in}

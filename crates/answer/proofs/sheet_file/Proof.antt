@@ -31,7 +31,7 @@ use Rattle.records.proofs.Entry as Entry
 use Rattle.records.proofs.Entry.{Par}
 use Rattle.records.proofs.Arrays.{copies, length-copies}
 use Rattle.records.proofs.Records.{plain-pair, plain-head, pair-row, word-row, half-row, byte-row, blank-fits, room-as}
-use Rattle.records.proofs.Straight.{Plan, calls, gives, makes, drops}
+use Rattle.records.proofs.Cells.{Plan, calls, gives, makes, drops}
 use Rattle.records.proofs.Forms.{Form, reads, writes, byte, half, word, Arguments, Fitting, kinds-of, pars-of}
 use Rattle.records.proofs.Stated.{states-asking}
 use Rattle.records.proofs.Chain.{table, loops, Finishes, Walked, Does, Takes, Spot, spot, calls-at, outright-at, out-at, array-at, drop-at, returns-at, chains}
@@ -49,7 +49,6 @@ use Rattle.kandurzo.proofs.kandurzo_read.Symbol as read
 use Rattle.kandurzo.proofs.kandurzo_read.Met as read-thm
 use Rattle.kandurzo.proofs.kandurzo_solve.Symbol as solve
 use Rattle.kandurzo.proofs.kandurzo_solve.Met as solve-thm
-use Rattle.answer.specs.declared.Answer.{Answer}
 use Rattle.answer.specs.Answers.{Room-enough, Sheeted}
 use Rattle.answer.proofs.Answering.{answer-of, ends-enough, length-ends, sheeted}
 use Rattle.answer.proofs.Answer as D
