@@ -12,7 +12,9 @@ use mathlib.Core.Option.{Option, none, some}
 use mathlib.Core.List.{List, [], _∷_}
 use lib.ListN.{getD}
 use lib.Dec.{T, ltb, ltb→lt}
-use mir.Syntax.{Ty, tyArray, tyEnum, ttnil, Name, Step as PStep, deref, field, variant, place, Opd as Operand, copy, int, intNeg, intBig, float, opdTrue, opdFalse, opdUnit, ptrConst, Rv as RValue, rvOpd, op1, op2, addrOf, aggregate, repeat, Body, skip, seq, assign, block, loop, cond, switch, exit, return, call}
+use mir.Syntax.{Ty, tyArray, tyEnum, ttnil, Name, Step as PStep, deref, field, variant, place, Opd as Operand, copy, int, intNeg, intBig, float}
+use mir.Syntax.{opdTrue, opdFalse, opdUnit, ptrConst, Rv as RValue, rvOpd, op1, op2, addrOf, aggregate, repeat, Body, skip, seq, assign, block, loop}
+use mir.Syntax.{cond, switch, exit, return, call}
 use mir.Val.{Val, Vals, vunit, vbool, vint, vfloat, vptr, vstruct, vnil, vcons, ofList, WT, WTs, hasTy, bits}
 use mir.Fields.{getV}
 use prog.Memory.{fieldOf}
@@ -234,7 +236,7 @@ pub data Plan : Type 1 where
 abbrev pub Runs : Places → Plan → Halt → Type 0
 Runs E (gives v) (at-call f xs i b cs) = ⊥
 Runs E (gives v) (at-array p x n b cs) = ⊥
-Runs E (gives v) (at-return cs) = T (within E 0) × T (none-gone cs) × (peek cs 0 ≡ has v)
+Runs E (gives v) (at-return cs) = T (within E 0 && none-gone cs) × (peek cs 0 ≡ has v)
 Runs E (gives v) stuck = ⊥
 Runs E (makes p n τ v next) (at-call f xs i b cs) = ⊥
 Runs E (makes p n τ v next) (at-array q x m b cs) =
@@ -244,7 +246,7 @@ Runs E (makes p n τ v next) (at-return cs) = ⊥
 Runs E (makes p n τ v next) stuck = ⊥
 Runs E (drops p n τ next) (at-call f xs i b cs) = ⊥
 Runs E (drops p n τ next) (at-array q x m b cs) = ⊥
-Runs E (drops p n τ next) (at-return cs) = T (within E p) × (type-of E p ≡ tyArray τ n) × Runs E next (at-return (keep p room cs))
+Runs E (drops p n τ next) (at-return cs) = (_≡_ {A = Bool × Ty} (within E p, type-of E p) (true, tyArray τ n)) × Runs E next (at-return (keep p room cs))
 Runs E (drops p n τ next) stuck = ⊥
 Runs E (calls f vs X val next) (at-call g xs i b cs) =
     T (opds-ok E cs xs) × (_≡_ {A = Name × List Val} (g, opds-val cs xs) (f, vs))
