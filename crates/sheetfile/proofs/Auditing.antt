@@ -1,4 +1,5 @@
 -- A sheet that has been read, judged.
+--   holds-room                                   how many pairs, and for how many there are words
 --   checked, cores-few                           what check says of whole buffers; how many core numbers there are
 --   p-differs, q-differs, k-differs, size-differs, head-agrees     what each way through judge_head gives
 --   check-then                                   where check accepts, the causes behind decide
@@ -41,6 +42,10 @@ use Rattle.sheetfile.specs.Answers.{sheet-of, SheetRead, at-least, judge
 use Rattle.sheetfile.specs.declared.sheet.SheetHead.{SheetHead}
 use Rattle.sheetfile.proofs.Reading.{unless-some, unless-none}
 use Rattle.sheetfile.proofs.Tallies.{core-size}
+
+-- at most 4,096 pairs, and words for as many
+pub holds-room : {n m : ℕ} {words : List ℕ} → Holds-list n m words → (m ≤ 4096) × (12288 ≤ length words)
+holds-room h = (holds-few _ _ _ (h .listed) .1, h .long)
 
 -- what check says of the whole of two buffers, the list being cut out of the words
 pub checked : (n m : ℕ) (words : List ℕ) {s xs : List ℕ} {v : Verdict} → length s ≡ n → length xs ≡ m →
