@@ -13,12 +13,9 @@ returns-2 : tie.Need-returns-2
 unfolding gate-of gate-number refusal cause if-taken
 returns-2 c = simp (c .before .if1 .left, c .if2 .taken)
 
-cast-t5 : tie.Need-cast-t5
-cast-t5 c = search needs
-
 returns-3 : tie.Need-returns-3
 unfolding gate-of gate-number refusal cause if-taken
 returns-3 c = simp (c .before .before .if1 .left, c .before .if2 .left)
 
 pub gate-spec : {M : Type 1} → statement M
-gate-spec = tie.close (tie.spec returns returns-2 cast-t5 returns-3)
+gate-spec = tie.close (tie.spec returns returns-2 (λ c. search needs) returns-3)
