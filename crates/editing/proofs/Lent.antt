@@ -58,7 +58,8 @@ module _ (len : ℕ) (few : len ≤ 4096) (ws : List ℕ) (holds : Holds len ws)
   pub words-long : (l : List Pair) → length l ≡ length lent-list → length (laid-out l ws len) ≡ length ws
   words-long l e = length-laid-out l ws len (enough-out l e .0) (enough-out l e .2)
 
-  pub through : (Says : Call) {h : Head} {a b : ℕ} {r : Changed} (left : List Pair) → Says h lent-list a b r left → Through Says len h ws a b r (laid-out left ws len)
+  pub through : (Says : Call) {h : Head} {a b : ℕ} {r : Changed} (left : List Pair) → Says h lent-list a b r left
+      → Through Says len h ws a b r (laid-out left ws len)
   through Says {h} {a} {b} {r} left said = record { left = left; says = subst (λ (l : List Pair). Says h l a b r left) lent-as said; laid = refl }
 
 -- words are not those of two numbers of records

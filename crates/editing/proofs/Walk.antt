@@ -57,7 +57,8 @@ small len few = lt-of-le-of-lt few (lit< tt)
 pub room-of : (len : ℕ) → len ≤ 4096 → (l : List Pair) → length l ≡ len → Room P.the-row (length l)
 room-of len few l e = room-as P.the-row e (small len few, lt-of-le-of-lt (mul-le-mul-right 4 few) (lit< tt))
 
-module _ (Says : Call) (len : ℕ) (few : len ≤ 4096) {M : Type 1} (𝓤 : URA M) (H : Heap 𝓤) (𝓜 : Model 𝓤 H) (𝓖 : GhostRules 𝓤 H) (𝓡 : Running 𝓤 H 𝓜) (γ : Routines)
+module _ (Says : Call) (len : ℕ) (few : len ≤ 4096) {M : Type 1} (𝓤 : URA M) (H : Heap 𝓤) (𝓜 : Model 𝓤 H) (𝓖 : GhostRules 𝓤 H) (𝓡 : Running 𝓤 H 𝓜)
+    (γ : Routines)
     (κs : Lfts 1) (qs : Shares 1) (a : Arguments through-forms κs) (are : Fitting through-forms κs a) (has : Holds len (a .1 .0 .now)) where
   abbrev W : Given 𝓤 H (𝓖 .A)
   W = givenOf 𝓤 H 𝓜 𝓖
@@ -75,7 +76,8 @@ module _ (Says : Call) (len : ℕ) (few : len ≤ 4096) {M : Type 1} (𝓤 : URA
   length-ps = length-lent len few ws has
 
   abbrev pub through-args : ℕ × ℕ → List (Arg W)
-  through-args l = by-value N.the-row (plain-head W) (a .0) (are .0) ∷ loan (lend-mut (pair-row W fullShare (l .0) (l .1)) ps (room-of len few ps (length-lent len few ws has)))
+  through-args l = by-value N.the-row (plain-head W) (a .0) (are .0) ∷ loan
+      (lend-mut (pair-row W fullShare (l .0) (l .1)) ps (room-of len few ps (length-lent len few ws has)))
       ∷ by-value u32 (plain-word W) (a .1 .1 .0) (are .1 .1 .0) ∷ by-value u32 (plain-word W) (a .1 .1 .1 .0) (are .1 .1 .1 .0) ∷ []
 
   abbrev through-vals : Val → List Val
@@ -91,7 +93,8 @@ module _ (Says : Call) (len : ℕ) (few : len ≤ 4096) {M : Type 1} (𝓤 : URA
       let words : Val = sliceVal (a .1 .0 .ptr) (length ws) in
       makes 5 len (lone (P.the-row .mir)) (plain-pair W .val blank)
       (calls copy-in.name (list ∷ words ∷ vint w64 len ∷ []) (Unit {0}) (λ _. vunit) (λ _. calls #on (through-vals list) Changed (plain-changed W .val) (λ r.
-      calls copy-out.name (list ∷ words ∷ vint w64 len ∷ []) (Unit {0}) (λ _. vunit) (λ _. drops 5 len (lone (P.the-row .mir)) (gives (plain-changed W .val r))))))
+      calls copy-out.name (list ∷ words ∷ vint w64 len ∷ []) (Unit {0}) (λ _. vunit)
+      (λ _. drops 5 len (lone (P.the-row .mir)) (gives (plain-changed W .val r))))))
 
   module _ (#on : Name) {ρ : Routine} (is-on : γ #on ≡ ρ) (is-in : γ copy-in.name ≡ copy-in.routine) (is-out : γ copy-out.name ≡ copy-out.routine)
       (met : (l : ℕ × ℕ) (ks : Keys (through-args l)) → ent 𝓤 (Asks (through-args l) (emp 𝓤) ks)
@@ -105,15 +108,18 @@ module _ (Says : Call) (len : ℕ) (few : len ≤ 4096) {M : Type 1} (𝓤 : URA
         let zs : List Pair = start-list len in
         -- let mut list = [Pair { a: 0, b: 0 }; len]; copy_in(&mut list, words, len)
         array-at here 5 len P.the-row (plain-pair W) tt blank (blank-fits W)
-        (in-at here 0 1 l zs (a .1 .0 .ptr) ws len (length-start-list len) refl (small len few) fullShare is-in (room-of len few zs (length-start-list len)) (are .1 .0 .0 .1)
+        (in-at here 0 1 l zs (a .1 .0 .ptr) ws len (length-start-list len) refl (small len few) fullShare is-in (room-of len few zs (length-start-list len))
+        (are .1 .0 .0 .1)
         (enough-in len few ws has) refl
         -- let answer = add(head, &mut list, a, b), or remove
-        (calls-at here (through-args l) D.the-row (plain-changed W) (0 ∷ []) refl (ap (λ (k : ℕ). through-vals (sliceVal l k)) (sym length-ps)) (id⊢ 𝓤 _) is-on (met l)
+        (calls-at here (through-args l) D.the-row (plain-changed W) (0 ∷ []) refl (ap (λ (k : ℕ). through-vals (sliceVal l k)) (sym length-ps))
+        (id⊢ 𝓤 _) is-on (met l)
         (λ r us r-fits kept said.
         let left : List Pair = us .1 .0 in
         let end : Entry.Lasts pars = (tt, (laid-out left ws len, (tt, (tt, tt)))) in
         let fit : Entry.Fit pars end = (tt, (words-long len few ws has left (kept .0), (tt, (tt, tt)))) in
         -- copy_out(&list, words, len); answer
-        out-at here 0 1 l left (a .1 .0 .ptr) ws len (kept .0 ∙ length-ps) refl (small len few) fullShare is-out (room-of len few left (kept .0 ∙ length-ps)) (are .1 .0 .0 .1)
+        out-at here 0 1 l left (a .1 .0 .ptr) ws len (kept .0 ∙ length-ps) refl (small len few) fullShare is-out (room-of len few left (kept .0 ∙ length-ps))
+        (are .1 .0 .0 .1)
         (enough-out len few ws has left (kept .0)) refl (drop-at here 5 len P.the-row (plain-pair W) tt left (kept .0 ∙ length-ps)
         (returns-at here os end fit D.the-row (plain-changed W) r r-fits (through len few ws has Says left said) (fin r end fit)))))))

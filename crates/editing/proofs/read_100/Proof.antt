@@ -133,7 +133,8 @@ module _ {M : Type 1} (𝓤 : URA M) (H : Heap 𝓤) (𝓜 : Model 𝓤 H) (𝓖
         -- copy_out(&list, words, 100); answer
         out-at here 0 2 l ps (a .1 .0 .ptr) us 100 list-kept refl (lit< tt) fullShare code.calls-records·copy-out (room-100 ps list-kept) (are .1 .0 .0 .1)
         (enough ps list-kept us long) refl (drop-at here 4 100 P.the-row (plain-pair W) tt ps list-kept
-        (returns-at here os end fit D.the-row (plain-changed W) r r-fits (through (a .0 .now) us (a .1 .1 .0 .now) r ps (vs .1 .1 .0) said) (fin r end fit))))))
+        (returns-at here os end fit D.the-row (plain-changed W) r r-fits (through (a .0 .now) us (a .1 .1 .0 .now) r ps (vs .1 .1 .0) said)
+        (fin r end fit))))))
 
 pub read-100-spec : {M : Type 1} → stated.statement M
 unfolding code.routine
