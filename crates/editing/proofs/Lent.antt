@@ -25,7 +25,7 @@ use Rattle.records.proofs.Steps.{Enough, Enough-back}
 use Rattle.records.proofs.Copies.{length-put-back, length-laid-out}
 use Rattle.kandurzo.specs.declared.Changed.{Changed}
 use Rattle.kandurzo.specs.Listing.{Add-says, Remove-says}
-use Rattle.kandurzo.proofs.Outcomes.{Call, Outcome}
+use Rattle.kandurzo.proofs.Outcomes.{Call}
 use Rattle.editing.specs.Lent.{Thin, Holds, lent, Through, unlent, Edit-says, On-words, If-lent}
 
 abbrev pub start-list : ℕ → List Pair
@@ -58,9 +58,9 @@ module _ (len : ℕ) (few : len ≤ 4096) (ws : List ℕ) (holds : Holds len ws)
   pub words-long : (l : List Pair) → length l ≡ length lent-list → length (laid-out l ws len) ≡ length ws
   words-long l e = length-laid-out l ws len (enough-out l e .0) (enough-out l e .2)
 
-  module _ (Says : Call) (h : Head) (a b : ℕ) (o : Outcome Says h lent-list a b) where
-    pub through : Through Says len h ws a b (o .answer) (laid-out (o .left) ws len)
-    through = record { left = o .left; says = subst (λ (l : List Pair). Says h l a b (o .answer) (o .left)) lent-as (o .says); laid = refl }
+  pub through : (Says : Call) {h : Head} {a b : ℕ} {r : Changed} (left : List Pair) → Says h lent-list a b r left
+      → Through Says len h ws a b r (laid-out left ws len)
+  through Says {h} {a} {b} {r} left said = record { left = left; says = subst (λ (l : List Pair). Says h l a b r left) lent-as said; laid = refl }
 
 -- words are not those of two numbers of records
 not-both : {A : Type 0} (ws : List ℕ) → Holds 4096 ws → Holds 100 ws → A

@@ -3,3 +3,4 @@ pub mod Lent
 pub mod Own
 pub mod Walk
 pub mod Full
+pub mod Whole

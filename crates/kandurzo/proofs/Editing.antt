@@ -26,17 +26,17 @@ use denote.Slice.{Room, sliceVal}
 use Rattle.records.specs.declared.Pair.{Pair}
 use Rattle.records.specs.declared.Head.{Head}
 use Rattle.records.specs.Records.{agrees, put-back}
-use Rattle.records.proofs.Plain.{typed-as, plain-word, plain-count, plain-truth}
+use Rattle.records.proofs.Plain.{plain-word, plain-count, plain-truth}
 use Rattle.records.proofs.Rows.{lend-mut}
 use Rattle.records.proofs.Calls.{Arg, plain as by-value, loan, Keys, values, Asks, Answers, bound}
 use Rattle.records.proofs.Arrays.{copies, length-copies}
-use Rattle.records.proofs.Frame.{Places, env, num, fit-slice}
+use Rattle.records.proofs.Frame.{Places, env}
 use Rattle.records.proofs.Entry as Entry
 use Rattle.records.proofs.Entry.{Par}
 use Rattle.records.proofs.Records.{plain-head, word-row, room-as}
 use Rattle.records.proofs.Copies.{length-put-back}
 use Rattle.records.proofs.Cells.{Plan, calls, gives, makes, drops}
-use Rattle.records.proofs.Forms.{Form, value, writes, word, Arguments, Fitting, pars-of}
+use Rattle.records.proofs.Forms.{Form, value, writes, word, Arguments, Fitting, pars-of, fits-of}
 use Rattle.records.proofs.Chain.{table, loops, Finishes, Takes, Does, Walked, Spot, spot, outright-at, agree-at, out-at, in-at, array-at, drop-at}
 use Rattle.records.proofs.Chain.{returns-at, chains}
 use Rattle.records.proofs.Head as N
@@ -147,20 +147,18 @@ module _ {Says : Call} {edit : Making Edit} {words : Making (List ℕ)}
       (X : Val → SProp 𝓤) (fin : Finishes pars X D.the-row (plain-changed W) (λ r ws. Says h ps (a .1 .1 .0) (a .1 .1 .1 .0) r (ws .1 .0)))
       (f : Fn) (typed : Takes pars X f) (does : Does pars X f (editor #on)) where
     pub meets-editor : Walked pars X (table W 𝓜 𝓡 γ) (loops W 𝓜 𝓡 γ) f
-    meets-editor = chains 𝓤 H 𝓜 𝓖 𝓡 γ f pars X
-        (typed-as (plain-head W) h (are .0) .1, (fit-slice (are .1 .0 .0 .1 .0) .1, (num (are .1 .1 .0 .1) .1, (num (are .1 .1 .1 .0 .1) .1, tt))))
-        typed (editor #on) does (λ bs os.
+    meets-editor = chains 𝓤 H 𝓜 𝓖 𝓡 γ f pars X (fits-of W κs qs edit-forms a are) typed (editor #on) does (λ bs os.
         let here : Spot 𝓤 H = spot 𝓤 H 𝓜 𝓖 𝓡 γ f pars X bs in
         let l : ℕ × ℕ = words-at (env (f .locals) bs) in
         -- let agreed = agree(head, list); let mut words = [0u32; ..]
         agree-at here 0 is-agree h fullShare (a .1 .0 .ptr) ps (are .0) (are .1 .0 .0 .1) refl (array-at here 6 many u32 (plain-word W) tt 0 (refl, lit< tt)
         -- let out = records_out(head, agreed); copy_out(list, &mut words, out)
-        (outright-at here [] records-args usize (plain-count W) k (tt, (tt, tt)) (λ r ws e. (e, refl)) refl refl (id⊢ 𝓤 _) is-records
+        (outright-at here records-args usize (plain-count W) [] k (tt, (tt, tt)) (λ r ws e. (e, refl)) refl refl (id⊢ 𝓤 _) is-records
         (λ ks. records-thm.met 𝓤 H 𝓜 𝓖 𝓡 (bound records-args ks, tt)) (λ k-fits _.
         out-at here 1 0 (a .1 .0 .ptr) ps l zs k refl zs-long (k-fits .1) fullShare is-out (are .1 .0 .0 .1) (room-many zs-long)
         (out-room zs zs-long h ps) refl
         -- let edit = add_on_words(head, agreed, list.len(), &mut words, a, b), or remove_on_words
-        (outright-at here (0 ∷ []) (change-args l) G.the-row (plain-edit W) c (tt, (tt, (tt, (vs, (tt, (tt, tt))))))
+        (outright-at here (change-args l) G.the-row (plain-edit W) (0 ∷ []) c (tt, (tt, (tt, (vs, (tt, (tt, tt))))))
         (λ r ws e. (e .0, λ i. (tt, (tt, (tt, (e .1 i, (tt, (tt, tt)))))))) refl (ap (λ (n : ℕ). change-vals (sliceVal l n)) (sym us-long))
         (factI 𝓤 _ (emp 𝓤) us-ready) is-on (met l) (λ c-fits _.
         -- copy_in(list, &words, edit.count)

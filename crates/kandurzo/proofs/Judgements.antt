@@ -5,7 +5,7 @@
 -- Assumes nothing.
 use mathlib.Core.Path.{_≡_, refl, sym, _∙_}
 use mathlib.Core.Bool.{Bool, true, false, not, cond}
-use mathlib.Core.List.{List, _++_}
+use mathlib.Core.List.{List, _∷_}
 use Prim.Native.Nat.{ℕ, _≤_, _<_}
 use native.Mathlib.Omega.{arith}
 use lib.Dec.{eqb}
@@ -17,7 +17,6 @@ use Rattle.theory.specs.Splits.{shares-good}
 use Rattle.theory.specs.Refusals.{Cause, cause, refusal, if-taken}
 use Rattle.theory.specs.Check.{loads-good, check-causes, check-number}
 use Rattle.theory.specs.Surplus.{surplus-causes, surplus-number}
-use Rattle.pairs.proofs.Causes.{refusal-first}
 use Rattle.verify.specs.declared.Verdict.{Verdict}
 use Rattle.verify.specs.declared.Difference.{Difference}
 use Rattle.verify.specs.Answers.{Check-says, Surplus-says}
@@ -25,26 +24,28 @@ use Rattle.records.specs.declared.Pair.{Pair}
 use Rattle.records.specs.declared.Head.{Head}
 use Rattle.records.specs.Records.{held-list, agrees}
 use Rattle.kandurzo.specs.Buffers.{buffer, any-short, work-words}
-use Rattle.kandurzo.specs.Gate.{gate-causes, gate-number}
+use Rattle.kandurzo.specs.Gate.{gate-number, gate-of}
 use Rattle.kandurzo.specs.Judging.{check-buffers, check-call-causes, Check-call, surplus-buffers, surplus-call-causes, Surplus-call, Check-on, Surplus-on}
 use Rattle.pairs.proofs.General.{by-test}
 use Rattle.kandurzo.proofs.Filling.{work-zeros}
-use Rattle.kandurzo.proofs.Gates.{none-short, work-in, work-in-list, work-in-left}
+use Rattle.kandurzo.proofs.Gates.{none-short, gate-open, the-gate, the-words, words-list, words-left}
 
 -- ---- the gate stands first
 
-module _ (d short : Bool) (rest : List Cause) where
-  pub gate-first : (refusal (gate-causes d short) ≡ 0 → ⊥) → refusal (gate-causes d short ++ rest) ≡ refusal (gate-causes d short)
-  gate-first n = refusal-first (gate-causes d short) rest n
-
-  pub gate-then : refusal (gate-causes d short) ≡ 0 → refusal (gate-causes d short ++ rest) ≡ refusal rest
-  unfolding gate-causes refusal cause
-  gate-then = go d short
+module _ (agreed short : Bool) (rest : List Cause) where
+  pub gate-first : (gate-number agreed short ≡ 0 → ⊥) → refusal (cause 13 (not agreed) ∷ cause 12 short ∷ rest) ≡ gate-number agreed short
+  unfolding gate-number refusal cause
+  gate-first = go agreed short
     where
-      go : (a b : Bool) → _≡_ {A = ℕ} (cond a 13 (cond b 12 0)) 0 → cond a 13 (cond b 12 (refusal rest)) ≡ refusal rest
-      go true b e = absurd (omega arith)
-      go false true e = absurd (omega arith)
-      go false false e = refl
+      go : (t s : Bool) → (_≡_ {A = ℕ} (cond (not t) 13 (cond s 12 0)) 0 → ⊥) →
+          cond (not t) 13 (cond s 12 (refusal rest)) ≡ cond (not t) 13 (cond s 12 0)
+      go true true n = refl
+      go true false n = absurd (n refl)
+      go false s n = refl
+
+  pub gate-then : gate-number agreed short ≡ 0 → refusal (cause 13 (not agreed) ∷ cause 12 short ∷ rest) ≡ refusal rest
+  unfolding gate-number refusal cause
+  gate-then z = let o = gate-open agreed short z in rw (o .0, o .1)
 
 -- 7, 8, 9 or none
 check-few : (g : Pairs) (s xs : List ℕ) → check-number g s xs < 10
@@ -72,27 +73,27 @@ module _ (h : Head) (ps : List Pair) (members shares work : List ℕ) where
   short = any-short (check-buffers h (length members) (length shares) (length work))
 
   abbrev gate : ℕ
-  gate = gate-number h ps short
+  gate = the-gate h ps short .number
 
   rest : List Cause
   rest = check-causes (held-list h ps) (take (h .n) members) (take (h .m) shares)
 
-  module _ {v : Verdict} {work′ : List ℕ} (on : Check-on h gate members shares (work-in h ps short work) v work′) where
+  module _ {v : Verdict} {work′ : List ℕ} (on : Check-on h gate members shares (the-words h ps short work) v work′) where
     pub check-call : Check-call h ps members shares work v work′
-    unfolding check-number check-call-causes gate-number gate-causes if-taken rest
+    unfolding check-number check-call-causes gate-of if-taken rest
     check-call =
         by-test (eqb gate 0)
         (λ e.
         let z : gate ≡ 0 = eqb-true _ 0 e in
-        let same = work-in-list h ps short work (check-long h _ _ _) z in
+        let same = words-list h ps short work (check-long h _ _ _) z in
         let says : Check-says (held-list h ps) (take (h .n) members) (take (h .m) shares) v = rw same at (on .judged z) in
         let low = check-few (held-list h ps) (take (h .n) members) (take (h .m) shares) in
         record {
-          number = says .number ∙ sym (gate-then (not (agrees h ps)) short rest z);
+          number = says .number ∙ sym (gate-then (agrees h ps) short rest z);
           p = rw (says .number) (says .p);
           q = rw (says .number) (says .q);
           optimal = says .optimal;
-          left = on .left ∙ work-in-left h ps short work (check-long h _ _ _)
+          left = on .left ∙ words-left h ps short work (check-long h _ _ _)
               ∙ work-zeros gate work (λ x. omega (arith, z, x)) (λ x. omega (arith, z, x))
               ∙ sym (work-zeros (v .number) work (λ x. omega (arith, says .number, low)) (λ x. omega (arith, says .number, low)));
         })
@@ -100,11 +101,11 @@ module _ (h : Head) (ps : List Pair) (members shares work : List ℕ) where
         let n : gate ≡ 0 → ⊥ = eqb-false _ 0 e in
         rw (on .refused n)
         (record {
-          number = sym (gate-first (not (agrees h ps)) short rest n);
+          number = sym (gate-first (agrees h ps) short rest n);
           p = sym (rw e);
           q = sym (rw e);
           optimal = λ x. absurd (n x);
-          left = on .left ∙ work-in-left h ps short work (check-long h _ _ _);
+          left = on .left ∙ words-left h ps short work (check-long h _ _ _);
         }))
 
 -- ---- surplus
@@ -118,25 +119,25 @@ module _ (h : Head) (ps : List Pair) (t s words : List ℕ) where
   too-short = any-short (surplus-buffers h (length t) (length s))
 
   abbrev gate′ : ℕ
-  gate′ = gate-number h ps too-short
+  gate′ = the-gate h ps too-short .number
 
   rest′ : List Cause
   rest′ = surplus-causes (held-list h ps) (take (h .n) t) (take (h .n) s)
 
-  module _ (long : too-short ≡ false → 12288 ≤ length words) {d : Difference} (on : Surplus-on h gate′ t s (work-in h ps too-short words) d) where
+  module _ (long : too-short ≡ false → 12288 ≤ length words) {d : Difference} (on : Surplus-on h gate′ t s (the-words h ps too-short words) d) where
     pub surplus-call : Surplus-call h ps t s d
-    unfolding surplus-number surplus-call-causes gate-number gate-causes if-taken rest′
+    unfolding surplus-number surplus-call-causes gate-of if-taken rest′
     surplus-call =
         by-test (eqb gate′ 0)
         (λ e.
         let z : gate′ ≡ 0 = eqb-true _ 0 e in
-        let says : Surplus-says (held-list h ps) (take (h .n) t) (take (h .n) s) d = rw (work-in-list h ps too-short words long z) at (on .judged z) in
+        let says : Surplus-says (held-list h ps) (take (h .n) t) (take (h .n) s) d = rw (words-list h ps too-short words long z) at (on .judged z) in
         record {
-          number = says .number ∙ sym (gate-then (not (agrees h ps)) too-short rest′ z);
+          number = says .number ∙ sym (gate-then (agrees h ps) too-short rest′ z);
           value = rw (says .number) (says .value);
           signs = says .signs;
         })
         (λ e.
         let n : gate′ ≡ 0 → ⊥ = eqb-false _ 0 e in
         rw (on .refused n)
-        (record { number = sym (gate-first (not (agrees h ps)) too-short rest′ n); value = sym (rw e); signs = λ x. absurd (n x) }))
+        (record { number = sym (gate-first (agrees h ps) too-short rest′ n); value = sym (rw e); signs = λ x. absurd (n x) }))

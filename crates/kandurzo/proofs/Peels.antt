@@ -20,9 +20,9 @@ use Rattle.records.specs.declared.Pair.{Pair}
 use Rattle.records.specs.declared.Head.{Head}
 use Rattle.pairs.proofs.General.{by-test}
 use Rattle.kandurzo.specs.Buffers.{buffer, any-short, in-front, work-words}
-use Rattle.kandurzo.specs.Gate.{gate-causes, gate-number}
+use Rattle.kandurzo.specs.Gate.{gate-number, gate-of}
 use Rattle.kandurzo.specs.Peeling.{peel-buffers, peel-call-causes, Peel-call, Peel-on}
-use Rattle.kandurzo.proofs.Gates.{none-short, work-in, work-in-list, work-in-left}
+use Rattle.kandurzo.proofs.Gates.{none-short, the-gate, the-words, words-list, words-left}
 
 -- ---- narrowing
 
@@ -73,13 +73,13 @@ module _ (h : Head) (ps : List Pair) (order cores work : List ℕ) where
   abbrev short : Bool
   short = any-short (peel-buffers h (length order) (length cores) (length work))
 
-  pub peel-call : {order′ cores′ work′ : List ℕ} → Peel-on h (gate-number h ps short) order cores (work-in h ps short work) order′ cores′ work′ →
-      Peel-call h ps order cores work (gate-number h ps short) order′ cores′ work′
-  unfolding peel-call-causes gate-number gate-causes if-taken
+  pub peel-call : {order′ cores′ work′ : List ℕ} → Peel-on h (the-gate h ps short .number) order cores (the-words h ps short work) order′ cores′ work′ →
+      Peel-call h ps order cores work (the-gate h ps short .number) order′ cores′ work′
+  unfolding peel-call-causes gate-of gate-number if-taken
   peel-call on =
-      let left = on .left ∙ work-in-left h ps short work (peel-long h _ _ _) in
-      by-test (eqb (gate-number h ps short) 0)
+      let left = on .left ∙ words-left h ps short work (peel-long h _ _ _) in
+      by-test (eqb (the-gate h ps short .number) 0)
       (λ e.
-      let same = work-in-list h ps short work (peel-long h _ _ _) (eqb-true _ 0 e) in
+      let same = words-list h ps short work (peel-long h _ _ _) (eqb-true _ 0 e) in
       record { number = refl; order-is = rw same at (on .order-is); cores-are = rw same at (on .cores-are); left = left })
       (λ e. record { number = refl; order-is = on .order-is ∙ rw e; cores-are = on .cores-are ∙ rw e; left = left })

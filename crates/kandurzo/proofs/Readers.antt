@@ -27,13 +27,12 @@ use Rattle.records.specs.Records.{put-back, Room-back}
 use Rattle.records.proofs.Plain.{plain-word, plain-count, plain-none}
 use Rattle.records.proofs.Rows.{lend-mut, lend-shr}
 use Rattle.records.proofs.Calls.{Arg, plain as by-value, loan, Keys, values, Asks, Answers, bound}
-use Rattle.records.proofs.Frame.{fit-slice}
 use Rattle.records.proofs.Entry as Entry
 use Rattle.records.proofs.Entry.{Par}
 use Rattle.records.proofs.Records.{word-row, byte-row, room-as}
 use Rattle.records.proofs.Copies.{length-put-back}
 use Rattle.records.proofs.Cells.{Plan, calls, gives}
-use Rattle.records.proofs.Forms.{Form, reads, writes, byte, word, Arguments, Fitting, pars-of}
+use Rattle.records.proofs.Forms.{Form, reads, writes, byte, word, Arguments, Fitting, pars-of, fits-of}
 use Rattle.records.proofs.Chain.{table, loops, Finishes, Takes, Does, Walked, Spot, spot, calls-at, outright-at, in-at, returns-at, chains}
 use Rattle.records.proofs.copy_in.Symbol as copy-in
 use Rattle.kandurzo.specs.declared.Changed.{Changed}
@@ -96,12 +95,10 @@ module _ {M : Type 1} (𝓤 : URA M) (H : Heap 𝓤) (𝓜 : Model 𝓤 H) (𝓖
       (says : (us : List ℕ) (e : Edit) → Said us e → Says (answer e) (tt, (put-back ps us (e .count), (work-left (e .number) us, tt))))
       (f : Fn) (typed : Takes pars X f) (does : Does pars X f (λ _. reader #on)) where
     pub meets-reader : Walked pars X (table W 𝓜 𝓡 γ) (loops W 𝓜 𝓡 γ) f
-    meets-reader = chains 𝓤 H 𝓜 𝓖 𝓡 γ f pars X
-        (fit-slice (are .0 .0 .1 .0) .1, (fit-slice (are .1 .0 .0 .1 .0) .1, (fit-slice (are .1 .1 .0 .0 .1 .0) .1, tt))) typed (λ _. reader #on) does
-        (λ bs os.
+    meets-reader = chains 𝓤 H 𝓜 𝓖 𝓡 γ f pars X (fits-of W κs qs reader-forms a are) typed (λ _. reader #on) does (λ bs os.
         let here : Spot 𝓤 H = spot 𝓤 H 𝓜 𝓖 𝓡 γ f pars X bs in
         -- let answer = read_on_words(bytes, list.len(), work)
-        calls-at here (0 ∷ 2 ∷ []) (read-args (os .0)) G.the-row (plain-edit W) refl refl (id⊢ 𝓤 _) is-on (met (os .0)) (λ e zs e-fits kept said.
+        calls-at here (read-args (os .0)) G.the-row (plain-edit W) (0 ∷ 2 ∷ []) refl refl (id⊢ 𝓤 _) is-on (met (os .0)) (λ e zs e-fits kept said.
         let us : List ℕ = zs .1 .1 .0 in
         let same : length us ≡ length ws = kept .1 .0 in
         let parts = edit-parts W e e-fits in
@@ -111,7 +108,7 @@ module _ {M : Type 1} (𝓤 : URA M) (H : Heap 𝓤) (𝓜 : Model 𝓤 H) (𝓖
         in-at here 1 2 (a .1 .0 .ptr) ps (a .1 .1 .0 .ptr) us (e .count) refl same (parts .2) fullShare is-in (are .1 .0 .0 .1)
         (room-as u32 same (are .1 .1 .0 .0 .1)) back refl
         -- clear_words(answer.number, work)
-        (outright-at here (2 ∷ []) (clear-args e (parts .0) us same) unit (plain-none W) tt (tt, (work-left (e .number) us, tt))
+        (outright-at here (clear-args e (parts .0) us same) unit (plain-none W) (2 ∷ []) tt (tt, (work-left (e .number) us, tt))
         (λ r vs s. (refl, λ i. (tt, (s i, tt)))) refl
         (ap (λ (n : ℕ). vint w32 (e .number) ∷ sliceVal (a .1 .1 .0 .ptr) n ∷ []) (sym same)) (factI 𝓤 _ (emp 𝓤) (long us e said same)) is-clear
         (λ ks. clear-thm.met 𝓤 H 𝓜 𝓖 𝓡 (bound (clear-args e (parts .0) us same) ks, tt)) (λ _ left.

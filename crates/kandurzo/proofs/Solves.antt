@@ -18,12 +18,12 @@ use Rattle.theory.proofs.Promises.{split-densest, ratios-in-order}
 use Rattle.pairs.proofs.General.{by-test}
 use Rattle.records.specs.declared.Pair.{Pair}
 use Rattle.records.specs.declared.Head.{Head}
-use Rattle.records.specs.Records.{held-list}
+use Rattle.records.specs.Records.{held-list, agrees}
 use Rattle.kandurzo.specs.declared.Solved.{Solved}
 use Rattle.kandurzo.specs.Buffers.{buffer, any-short, work-words, work-left}
-use Rattle.kandurzo.specs.Gate.{gate-causes, gate-number}
+use Rattle.kandurzo.specs.Gate.{gate-number, gate-of}
 use Rattle.kandurzo.specs.Solving.{solve-buffers, solve-call-causes, No-split, Unsplit, declined, Solve-call, Solve-on, Records-in-order}
-use Rattle.kandurzo.proofs.Gates.{none-short, gate-open, work-in, work-in-list, work-in-left}
+use Rattle.kandurzo.proofs.Gates.{none-short, gate-open, the-gate, the-words, passed, words-list, words-left}
 use Rattle.kandurzo.proofs.Taken.{held-is-list}
 
 -- a densest group has a split at its size whose greatest load is its inside count
@@ -44,14 +44,14 @@ module _ (h : Head) (ps : List Pair) (members cores shares work : List ℕ) wher
   short = any-short (solve-buffers h (length members) (length cores) (length shares) (length work))
 
   abbrev gate : ℕ
-  gate = gate-number h ps short
+  gate = the-gate h ps short .number
 
   module _ {r : Solved} {members′ cores′ shares′ work′ : List ℕ}
-      (on : Solve-on h gate members cores shares (work-in h ps short work) r members′ cores′ shares′ work′) where
+      (on : Solve-on h gate members cores shares (the-words h ps short work) r members′ cores′ shares′ work′) where
     pub solve-call : Solve-call h ps members cores shares work r members′ cores′ shares′ work′
-    unfolding solve-call-causes gate-number gate-causes
+    unfolding solve-call-causes gate-of gate-number
     solve-call =
-        let left = on .left ∙ work-in-left h ps short work (solve-long h _ _ _ _) ∙ ap (λ (k : ℕ). work-left k work) (sym (on .number)) in
+        let left = on .left ∙ words-left h ps short work (solve-long h _ _ _ _) ∙ ap (λ (k : ℕ). work-left k work) (sym (on .number)) in
         by-test (eqb gate 0)
         (λ e.
         let z : gate ≡ 0 = eqb-true _ 0 e in
@@ -60,10 +60,10 @@ module _ (h : Head) (ps : List Pair) (members cores shares work : List ℕ) wher
             outright = on .number;
             fifteen = λ _. (
               λ x. absurd (omega (arith, x, on .number, z)),
-              λ u. absurd (unsplit-never (held-list h ps) (held-is-list h ps (gate-open h ps short z .0)) u),
+              λ u. absurd (unsplit-never (held-list h ps) (held-is-list h ps (passed h ps short z .0)) u),
             );
           };
-          handed = λ _. rw (work-in-list h ps short work (solve-long h _ _ _ _) z) at (on .handed z);
+          handed = λ _. rw (words-list h ps short work (solve-long h _ _ _ _) z) at (on .handed z);
           refused = λ n. absurd (n (on .number ∙ z));
           left = left;
         })
@@ -83,8 +83,8 @@ module _ (h : Head) (ps : List Pair) (members cores shares work : List ℕ) wher
 module _ (h : Head) (ps : List Pair) (ms cs xs ws : List ℕ) {r : Solved} {ms′ cs′ xs′ ws′ : List ℕ}
     (call : Solve-call h ps ms cs xs ws r ms′ cs′ xs′ ws′) (z : r .number ≡ 0) where
   taken-list : is-list (held-list h ps) ≡ true
-  unfolding solve-call-causes gate-number gate-causes
-  taken-list = held-is-list h ps (gate-open h ps (short h ps ms cs xs ws) (sym (call .number .outright) ∙ z) .0)
+  unfolding solve-call-causes gate-number
+  taken-list = held-is-list h ps (gate-open (agrees h ps) (short h ps ms cs xs ws) (sym (call .number .outright) ∙ z) .0)
 
 -- the floats that two such calls return are in the order of their ratios
 pub records-in-order : Records-in-order

@@ -16,6 +16,7 @@ pub record Buffer : Type 0 where
   pub has : ℕ
   pub needs : ℕ
 
+-- one of `has` entries, of which `needs` are needed
 unfoldable pub buffer : (has needs : ℕ) → Buffer
 buffer a b = record { has = a; needs = b }
 

@@ -1,8 +1,7 @@
 -- The refusals that come first in peel, solve, check and surplus: 13, then 12; and what is known in the words once neither holds.
---   gate-causes, gate-number    13: head and list disagree; 12: a lent buffer is shorter than stated
---   records-through, gate-of    how many records go out to words
---   Fits-16-bits                a list whose numbers fit the buffers
---   Behind                      what a function on words knows behind the gate
+--   gate-number, gate-of    13: head and list disagree; 12: a lent buffer is shorter than stated; and how many records go out to words
+--   Fits-16-bits            a list whose numbers fit the buffers
+--   Behind                  what a function on words knows behind the gate
 -- Assumes nothing: these are definitions.
 use mathlib.Core.Path.{_≡_}
 use mathlib.Core.Bool.{Bool, true, false, _||_, not}
@@ -14,28 +13,18 @@ use Rattle.theory.specs.Lists.{Pairs}
 use Rattle.theory.specs.Cores.{core-number}
 use Rattle.theory.specs.Splits.{shares-good}
 use Rattle.theory.specs.Words.{laid-list, Holds-list}
-use Rattle.theory.specs.Refusals.{Cause, cause, refusal, if-taken}
-use Rattle.records.specs.declared.Pair.{Pair}
+use Rattle.theory.specs.Refusals.{cause, refusal, if-taken}
 use Rattle.records.specs.declared.Head.{Head}
-use Rattle.records.specs.Records.{agrees}
 use Rattle.kandurzo.specs.declared.Gate.{Gate}
 use Rattle.kandurzo.specs.Buffers.{Buffer, any-short}
 
--- 13, 12
-unfoldable pub gate-causes : (disagree short : Bool) → List Cause
-gate-causes d s = cause 13 d ∷ cause 12 s ∷ []
-
 -- 13, 12, or 0
-unfoldable pub gate-number : Head → List Pair → (short : Bool) → ℕ
-gate-number h ps short = refusal (gate-causes (not (agrees h ps)) short)
+unfoldable pub gate-number : (agreed short : Bool) → ℕ
+gate-number t s = refusal (cause 13 (not t) ∷ cause 12 s ∷ [])
 
--- how many records go out to words: none where the gate refuses
-unfoldable pub records-through : Head → (gate : ℕ) → ℕ
-records-through h k = if-taken k (h .m) 0
-
--- the number, and how many records go out
+-- the number, and how many records go out to words: none where the gate refuses
 unfoldable pub gate-of : Head → (agreed short : Bool) → Gate
-gate-of h t s = record { number = refusal (gate-causes (not t) s); out = records-through h (refusal (gate-causes (not t) s)) }
+gate-of h t s = record { number = gate-number t s; out = if-taken (gate-number t s) (h .m) 0 }
 
 -- a list whose core numbers, and shares at up to 512 modules, fit the buffers' 16 bits
 pub record Fits-16-bits (g : Pairs) : Type 0 where

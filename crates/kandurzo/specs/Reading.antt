@@ -53,7 +53,7 @@ pub record Read-call (read : Reader) (bytes : List ℕ) (ps : List Pair) (work :
 
 -- ---- on words
 
--- before the records come into the list: their pairs lie in the work buffer's first words
+-- before the records come into the list: their pairs lie in the work buffer
 pub record Read-on (read : Reader) (room : ℕ) (bytes work work′ : List ℕ) (e : Edit) : Type 0 where
   pub number : e .number ≡ reading-of (read-outcome read room (length work) bytes) .number
   pub head : e .head ≡ read-head (read-outcome read room (length work) bytes)

@@ -3,7 +3,7 @@
 --   table, loops, framed, by-name  the tables of calls and loops of a function, and what a name calls
 --   Finishes, Takes, Does, Walked  what a walk's last step, its code and the walk itself say
 --   Spot, spot, On                 where a walk stands; a walk from there, along a plan
---   calls-at, outright-at          a call: its contract relates, or gives outright, what it answers and leaves
+--   calls-first, calls-at, outright-at    a call: its contract relates, or gives outright, what it answers and leaves
 --   agree-at, out-at, in-at        the calls of `records`
 --   array-at, drop-at              an array of the function's own
 --   returns-at, chains             the return; the whole walk
@@ -174,6 +174,10 @@ module _ {M : Type 1} {𝓤 : URA M} {H : Heap 𝓤} (here : Spot 𝓤 H) where
   abbrev with-back : List ℕ → List (Item 𝓤) → List (Item 𝓤) → List (Item 𝓤)
   with-back js Ys Δ = restored 𝓤 H A js Ys (blanked 𝓤 H A js Δ)
 
+  -- entries in another order
+  pub shifts-to : {Δ Δ′ : List (Item 𝓤)} {p : Plan} → ent 𝓤 (⋆ 𝓤 H A Δ) (⋆ 𝓤 H A Δ′) → On Δ′ p → On Δ p
+  shifts-to e w = shifts W C Λ E (atRet E Kf) free e w
+
   fronts : (js : List ℕ) (Δ Ys : List (Item 𝓤)) {p : Plan} → picked 𝓤 H A js Δ ≡ Ys → On (Ys ++ left js Δ) p → On Δ p
   fronts js Δ Ys at-js w =
       shifts W C Λ E (atRet E Kf) free (subst (λ (Y : List (Item 𝓤)). ent 𝓤 (⋆ 𝓤 H A Δ) (⋆ 𝓤 H A (Y ++ left js Δ))) at-js (front 𝓤 H A js Δ)) w
@@ -181,22 +185,33 @@ module _ {M : Type 1} {𝓤 : URA M} {H : Heap 𝓤} (here : Spot 𝓤 H) where
   backs : (js : List ℕ) (Δ Ys : List (Item 𝓤)) {p : Plan} → On (with-back js Ys Δ) p → On (Ys ++ left js Δ) p
   backs js Δ Ys w = shifts W C Λ E (atRet E Kf) free (back 𝓤 H A js Ys (left js Δ)) w
 
-  module _ (js : List ℕ) {Δ : List (Item 𝓤)} {g : Name} {ρ : Routine} {vs : List Val} (ps : List (Arg W)) (R : RattleType)
+  module _ {g : Name} {ρ : Routine} {vs : List Val} (ps : List (Arg W)) (R : RattleType)
       (P : Plain W R) {Asked : SProp 𝓤} {Said : R .Denot → Lasts ps → Type 0} where
-    pub calls-at : {next : R .Denot → Plan} → picked 𝓤 H A js Δ ≡ rows ps → vs ≡ values ps → ent 𝓤 (emp 𝓤) Asked → γ g ≡ ρ
+    -- a call that lends what stands first
+    pub calls-first : (Θ : List (Item 𝓤)) {next : R .Denot → Plan} → vs ≡ values ps → ent 𝓤 (emp 𝓤) Asked → γ g ≡ ρ
+        → ((ks : Keys ps) → ent 𝓤 (Asks ps Asked ks) (𝓡 .run ρ (values ps) (Answers ps R Said ks)))
+        → ((r : R .Denot) (ws : Lasts ps) → Fits R P r → Known ps ws → Said r ws → On (after ps ws ++ Θ) (next r))
+        → On (rows ps ++ Θ) (calls g vs (R .Denot) (P .val) next)
+    calls-first Θ is asked named met k = meets-call W C Λ E (atRet E Kf) free (λ ys i b cs opds land.
+        calls-lent W fm ps R P Asked Said Θ (laid E cs ++ free) vs is asked (λ ks. by-name W 𝓜 𝓡 γ named (met ks)) opds (λ r ws fits known said.
+        land (after ps ws ++ Θ) r (typed-as P r fits .1) (k r ws fits known said)))
+
+    -- one that lends what stands at places js
+    pub calls-at : (js : List ℕ) {Δ : List (Item 𝓤)} {next : R .Denot → Plan} → picked 𝓤 H A js Δ ≡ rows ps → vs ≡ values ps → ent 𝓤 (emp 𝓤) Asked → γ g ≡ ρ
         → ((ks : Keys ps) → ent 𝓤 (Asks ps Asked ks) (𝓡 .run ρ (values ps) (Answers ps R Said ks)))
         → ((r : R .Denot) (ws : Lasts ps) → Fits R P r → Known ps ws → Said r ws → On (with-back js (after ps ws) Δ) (next r))
         → On Δ (calls g vs (R .Denot) (P .val) next)
-    calls-at at-js is asked named met k = fronts js Δ (rows ps) at-js (meets-call W C Λ E (atRet E Kf) free (λ ys i b cs opds land.
-        calls-lent W fm ps R P Asked Said (left js Δ) (laid E cs ++ free) vs is asked (λ ks. by-name W 𝓜 𝓡 γ named (met ks)) opds (λ r ws fits known said.
-        land (after ps ws ++ left js Δ) r (typed-as P r fits .1) (backs js Δ (after ps ws) (k r ws fits known said)))))
+    calls-at js {Δ} at-js is asked named met k = fronts js Δ (rows ps) at-js
+        (calls-first (left js Δ) is asked named met (λ r ws fits known said. backs js Δ (after ps ws) (k r ws fits known said)))
 
     -- what is answered and left is r₀ and ws₀
-    pub outright-at : {next : Plan} (r₀ : R .Denot) (ws₀ : Lasts ps) → ((r : R .Denot) (ws : Lasts ps) → Said r ws → (r ≡ r₀) × (ws ≡ ws₀))
+    pub outright-at : (js : List ℕ) {Δ : List (Item 𝓤)} {next : Plan} (r₀ : R .Denot) (ws₀ : Lasts ps)
+        → ((r : R .Denot) (ws : Lasts ps) → Said r ws → (r ≡ r₀) × (ws ≡ ws₀))
         → picked 𝓤 H A js Δ ≡ rows ps → vs ≡ values ps → ent 𝓤 (emp 𝓤) Asked → γ g ≡ ρ
         → ((ks : Keys ps) → ent 𝓤 (Asks ps Asked ks) (𝓡 .run ρ (values ps) (Answers ps R Said ks)))
         → (Fits R P r₀ → Known ps ws₀ → On (with-back js (after ps ws₀) Δ) next) → On Δ (calls g vs (Unit {0}) (λ _. P .val r₀) (λ _. next))
-    outright-at {next} r₀ ws₀ tells at-js is asked named met k = fronts js Δ (rows ps) at-js (meets-call W C Λ E (atRet E Kf) free (λ ys i b cs opds land.
+    outright-at js {Δ} {next} r₀ ws₀ tells at-js is asked named met k = fronts js Δ (rows ps) at-js
+        (meets-call W C Λ E (atRet E Kf) free (λ ys i b cs opds land.
         calls-lent W fm ps R P Asked Said (left js Δ) (laid E cs ++ free) vs is asked (λ ks. by-name W 𝓜 𝓡 γ named (met ks)) opds (λ r ws fits known said.
         let e : r ≡ r₀ = tells r ws said .0 in
         let e′ : ws ≡ ws₀ = tells r ws said .1 in

@@ -7,7 +7,7 @@
 -- Assumes nothing.
 use mathlib.Core.Path.{_≡_, refl, sym, ap, _∙_}
 use mathlib.Core.Bool.{Bool, true, false, _&&_, _||_, not, cond, or-false}
-use mathlib.Core.List.{List, [], _++_}
+use mathlib.Core.List.{List, [], _∷_}
 use mathlib.Core.Logic.{inl}
 use Prim.Native.Nat.{ℕ, zero, suc}
 use native.Mathlib.Omega.{arith}
@@ -31,7 +31,7 @@ use Rattle.verify.specs.declared.Verdict.{Verdict}
 use Rattle.verify.specs.declared.Difference.{Difference}
 use Rattle.kandurzo.specs.declared.Solved.{Solved}
 use Rattle.kandurzo.specs.Buffers as ours
-use Rattle.kandurzo.specs.Gate.{gate-causes, gate-number}
+use Rattle.kandurzo.specs.Gate.{gate-number}
 use Rattle.kandurzo.specs.Peeling.{peel-buffers, peel-call-causes, Peel-call}
 use Rattle.kandurzo.specs.Solving.{solve-buffers, solve-call-causes, declined, Handed, Solve-call}
 use Rattle.kandurzo.specs.Judging.{check-buffers, check-call-causes, Check-call, surplus-buffers, surplus-call-causes, Surplus-call}
@@ -68,8 +68,8 @@ module _ (h : Head) (ps : List Pair) where
 
   module _ (short : Bool) (rest : ℕ) (causes : List Cause) (same : agrees h ps ≡ true → short ≡ false → rest ≡ refusal causes) where
     -- 13, 12, and what comes after them
-    orders : cond (eqb refused 0) (cond short 12 rest) 13 ≡ refusal (gate-causes (not (agrees h ps)) short ++ causes)
-    unfolding gate-causes refusal cause
+    orders : cond (eqb refused 0) (cond short 12 rest) 13 ≡ refusal (cause 13 (not (agrees h ps)) ∷ cause 12 short ∷ causes)
+    unfolding refusal cause
     orders = rw (refusal-lent h ps) (go (agrees h ps) short same)
       where
         go : (a s : Bool) → (a ≡ true → s ≡ false → rest ≡ refusal causes) →
@@ -79,8 +79,7 @@ module _ (h : Head) (ps : List Pair) where
         go false s f = refl
 
   -- where nothing is refused, head and records agree
-  agreed : (short : Bool) (causes : List Cause) → refusal (gate-causes (not (agrees h ps)) short ++ causes) ≡ 0 → agrees h ps ≡ true
-  unfolding gate-causes
+  agreed : (short : Bool) (causes : List Cause) → refusal (cause 13 (not (agrees h ps)) ∷ cause 12 short ∷ causes) ≡ 0 → agrees h ps ≡ true
   agreed short causes e = not-false _ (refusal-none 12 _ _ e .0)
 
   -- document 03 takes the list
@@ -92,8 +91,8 @@ module _ (h : Head) (ps : List Pair) where
   same-list e = sym (list-lent h ps (held-few h ps e))
 
   -- 13 and 12 alone
-  gate-order : (short : Bool) → gate-number h ps short ≡ cond (eqb refused 0) (cond short 12 0) 13
-  unfolding gate-number gate-causes refusal
+  gate-order : (short : Bool) → gate-number (agrees h ps) short ≡ cond (eqb refused 0) (cond short 12 0) 13
+  unfolding gate-number refusal
   gate-order short = sym (orders short 0 [] (λ _ _. refl))
 
 pub list-says : List-stated
@@ -105,12 +104,12 @@ list-says = refusal-lent
 module _ (h : Head) (ps : List Pair) (order cores work : List ℕ) (r : ℕ) (order′ cores′ work′ : List ℕ)
     (call : Peel-call h ps order cores work r order′ cores′ work′) where
   peel-order : r ≡ peel-refusal (h .n) (h .m) (ends-of ps) (length order) (length cores) (length work)
-  unfolding peel-call-causes gate-number gate-causes peel-buffers ours.buffer ours.any-short ours.work-words peel-refusal
+  unfolding peel-call-causes gate-number peel-buffers ours.buffer ours.any-short ours.work-words peel-refusal
   peel-order = call .number ∙ gate-order h ps (ours.any-short (peel-buffers h (length order) (length cores) (length work))) ∙ simp or-false
 
   peel-agreed : r ≡ 0 → agrees h ps ≡ true
-  unfolding peel-call-causes gate-number gate-causes
-  peel-agreed z = gate-open h ps _ (sym (call .number) ∙ z) .0
+  unfolding peel-call-causes gate-number
+  peel-agreed z = gate-open (agrees h ps) _ (sym (call .number) ∙ z) .0
 
   peel-as : Peel-says (h .n) (h .m) (ends-of ps) r order order′ cores cores′ work work′
   unfolding Peel-says kept-or work-left in-front ours.work-left ours.cleared ours.work-words ours.in-front if-taken
@@ -143,13 +142,13 @@ module _ (h : Head) (ps : List Pair) (members shares work : List ℕ) (v : Verdi
   same-short = simp or-false
 
   check-agreed : v .number ≡ 0 → agrees h ps ≡ true
-  unfolding check-call-causes gate-causes
+  unfolding check-call-causes
   check-agreed z = agreed h ps _ causes (sym (call .number) ∙ z)
 
   check-order-as : v .number ≡ plain.check-refusal (h .n) (h .m) (ends-of ps) members shares (length work)
-  unfolding check-call-causes gate-causes check-number plain.check-refusal
+  unfolding check-call-causes check-number plain.check-refusal
   check-order-as =
-      call .number ∙ ap (λ (b : Bool). refusal (gate-causes (not (agrees h ps)) b ++ causes)) same-short
+      call .number ∙ ap (λ (b : Bool). refusal (cause 13 (not (agrees h ps)) ∷ cause 12 b ∷ causes)) same-short
       ∙ sym (turned (eqb (refused h ps) 0) 13 _ ∙ orders h ps short _ causes (λ e s.
       let n = check-enough h _ _ _ (same-short ∙ s) in
       let z : refused h ps ≡ 0 = refused-none h ps e in
@@ -191,16 +190,16 @@ module _ (h : Head) (ps : List Pair) (t s : List ℕ) (d : Difference) (call : S
   same-either = simp or-false
 
   surplus-order-as : d .number ≡ surplus-refusal (h .n) (h .m) (ends-of ps) t s
-  unfolding surplus-call-causes gate-causes surplus-causes refusal cause surplus-refusal plain.list-in
+  unfolding surplus-call-causes surplus-causes refusal cause surplus-refusal plain.list-in
   surplus-order-as =
-      call .number ∙ ap (λ (b : Bool). refusal (gate-causes (not (agrees h ps)) b ++ both)) same-either
+      call .number ∙ ap (λ (b : Bool). refusal (cause 13 (not (agrees h ps)) ∷ cause 12 b ∷ both)) same-either
       ∙ sym (turned (eqb (refused h ps) 0) 13 _ ∙ orders h ps either-short _ both (λ e l.
       let n = surplus-enough h _ _ (same-either ∙ l) in
       rw (same-list h ps e, members-plain (g h ps) t (n .0), members-plain (g h ps) s (n .1))
       (two-sets (is-group (weighted (g h ps)) (take (h .n) t)) (is-group (weighted (g h ps)) (take (h .n) s)))))
 
   differs : (k : ℕ) → d .number ≡ k → Differs k (g h ps) (take (h .n) t) (take (h .n) s) d
-  unfolding Differs if-taken surplus-call-causes gate-causes
+  unfolding Differs if-taken surplus-call-causes
   differs zero z = (
     z,
     rw z at (call .value)
@@ -226,16 +225,16 @@ declined-as k a x c y d z r e b = rw e (refl, refl, refl, refl, refl, refl, b .0
 module _ (h : Head) (ps : List Pair) (members cores shares work : List ℕ) (r : Solved) (members′ cores′ shares′ work′ : List ℕ)
     (call : Solve-call h ps members cores shares work r members′ cores′ shares′ work′) where
   solve-order : r .number ≡ solve-refusal (h .n) (h .m) (ends-of ps) (length members) (length cores) (length shares) (length work)
-  unfolding solve-call-causes gate-number gate-causes solve-buffers ours.buffer ours.any-short ours.work-words solve-refusal
+  unfolding solve-call-causes gate-number solve-buffers ours.buffer ours.any-short ours.work-words solve-refusal
   solve-order =
       call .number .outright ∙ gate-order h ps (ours.any-short (solve-buffers h (length members) (length cores) (length shares) (length work)))
       ∙ simp or-false
 
   -- the found group and a split at its size are handed out, so 15 never comes; or the call is refused
   solve-as : (k : ℕ) → r .number ≡ k → Solve-as k (g h ps) r members members′ cores cores′ shares shares′
-  unfolding Solve-as solve-call-causes gate-number gate-causes
+  unfolding Solve-as solve-call-causes gate-number
   solve-as zero e =
-      let a : agrees h ps ≡ true = gate-open h ps _ (sym (call .number .outright) ∙ e) .0 in
+      let a : agrees h ps ≡ true = gate-open (agrees h ps) _ (sym (call .number .outright) ∙ e) .0 in
       let out : Handed (weighted (g h ps)) members cores shares r members′ cores′ shares′ = rw (same-list h ps a) at (call .handed e) in (
         _,
         found-plain (g h ps) _ (out .found),

@@ -26,13 +26,13 @@ use Rattle.records.specs.declared.Pair.{Pair}
 use Rattle.records.proofs.Plain.{Plain, Fits, plain-record, plain-word, plain-count}
 use Rattle.records.proofs.Rows.{lend-mut, lend-shr}
 use Rattle.records.proofs.Calls.{Arg, plain as by-value, loan, bound}
-use Rattle.records.proofs.Frame.{Places, env, fit-slice}
+use Rattle.records.proofs.Frame.{Places, env}
 use Rattle.records.proofs.Entry as Entry
 use Rattle.records.proofs.Entry.{Par}
 use Rattle.records.proofs.Arrays.{copies, length-copies}
 use Rattle.records.proofs.Records.{plain-pair, plain-head, pair-row, word-row, half-row, byte-row, blank-fits, room-as}
 use Rattle.records.proofs.Cells.{Plan, calls, gives, makes, drops}
-use Rattle.records.proofs.Forms.{Form, reads, writes, byte, half, word, Arguments, Fitting, kinds-of, pars-of}
+use Rattle.records.proofs.Forms.{Form, reads, writes, byte, half, word, Arguments, Fitting, kinds-of, pars-of, fits-of}
 use Rattle.records.proofs.Stated.{states-asking}
 use Rattle.records.proofs.Chain.{table, loops, Finishes, Walked, Does, Takes, Spot, spot, calls-at, outright-at, out-at, array-at, drop-at, returns-at, chains}
 use Rattle.records.proofs.Pair as P
@@ -156,13 +156,7 @@ module _ {M : Type 1} (𝓤 : URA M) (H : Heap 𝓤) (𝓜 : Model 𝓤 H) (𝓖
         (ws .1 .0) (ws .1 .1 .0) (ws .1 .1 .1 .0) (ws .1 .1 .1 .1 .0))) (typed : Takes pars X code.function) (does : Does pars X code.function plan) where
       walk : Walked pars X (table W 𝓜 𝓡 code.env) (loops W 𝓜 𝓡 code.env) code.function
       unfolding code.routine
-      walk = chains 𝓤 H 𝓜 𝓖 𝓡 code.env code.function pars X (
-        fit-slice (are .0 .0 .1 .0) .1,
-        (
-          fit-slice (are .1 .0 .0 .1 .0) .1,
-          (fit-slice (are .1 .1 .0 .0 .1 .0) .1, (fit-slice (are .1 .1 .1 .0 .0 .1 .0) .1, (fit-slice (are .1 .1 .1 .1 .0 .0 .1 .0) .1, tt))),
-        ),
-      ) typed plan does (λ bs os.
+      walk = chains 𝓤 H 𝓜 𝓖 𝓡 code.env code.function pars X (fits-of W κs qs forms a are) typed plan does (λ bs os.
           let here : Spot 𝓤 H = spot 𝓤 H 𝓜 𝓖 𝓡 code.env code.function pars X bs in
           let list : ℕ = place (env (code.function .locals) bs) 6 in
           let work : ℕ = place (env (code.function .locals) bs) 7 in
@@ -171,7 +165,7 @@ module _ {M : Type 1} (𝓤 : URA M) (H : Heap 𝓤) (𝓜 : Model 𝓤 H) (𝓖
           -- the two arrays: [work; list; bytes; members; cores; shares; words]
           array-at here 6 4096 P.the-row (plain-pair W) tt blank (blank-fits W) (array-at here 7 16384 u32 (plain-word W) tt 0 (refl, lit< tt)
           -- let file = read(bytes, &mut list, &mut work)
-          (calls-at here (2 ∷ 1 ∷ 0 ∷ []) (read-args list work (os .0)) C.the-row (plain-changed W) refl
+          (calls-at here (read-args list work (os .0)) C.the-row (plain-changed W) (2 ∷ 1 ∷ 0 ∷ []) refl
           (λ i. sliceVal (a .0 .ptr) (length bytes) ∷ sliceVal (list, 0) (sym list-long i) ∷ sliceVal (work, 0) (sym work-long i) ∷ [])
           (id⊢ 𝓤 _) code.calls-kandurzo·kandurzo-read
           (λ ks. read-thm.met 𝓤 H 𝓜 𝓖 𝓡 (bound (read-args list work (os .0)) ks, tt)) (λ file zs file-fits sized says.
@@ -182,13 +176,13 @@ module _ {M : Type 1} (𝓤 : URA M) (H : Heap 𝓤) (𝓜 : Model 𝓤 H) (𝓖
           let list-kept : length ps ≡ 4096 = sized .1 .0 ∙ list-long in
           let work-kept : length ws ≡ 16384 = sized .1 .1 .0 ∙ work-long in
           -- let held = count(file.head); copy_out(&list, words, held)
-          outright-at here [] (count-args h h-fits) usize (plain-count W) (h .m) (tt, tt) (λ r us e. (e, refl)) refl refl (id⊢ 𝓤 _) code.calls-answer·count
+          outright-at here (count-args h h-fits) usize (plain-count W) [] (h .m) (tt, tt) (λ r us e. (e, refl)) refl refl (id⊢ 𝓤 _) code.calls-answer·count
           (λ ks. count-thm.met 𝓤 H 𝓜 𝓖 𝓡 (bound (count-args h h-fits) ks, tt)) (λ m-fits _.
           out-at here 1 6 (list, 0) ps (a .1 .1 .1 .1 .0 .ptr) vs (h .m) list-kept refl (m-fits .1) fullShare code.calls-records·copy-out
           (list-room list-kept) (are .1 .1 .1 .1 .0 .0 .1)
           (room-out bytes list₀ work₀ list-long work-long file ps ws work-kept says list-kept vs (enough .words-long)) refl
           -- let found = solve(head, &list, members, cores, shares, &mut work)
-          (calls-at here (1 ∷ 3 ∷ 4 ∷ 5 ∷ 0 ∷ []) (solve-args list work h h-fits ps list-kept ws work-kept) S.the-row (plain-solved W) refl
+          (calls-at here (solve-args list work h h-fits ps list-kept ws work-kept) S.the-row (plain-solved W) (1 ∷ 3 ∷ 4 ∷ 5 ∷ 0 ∷ []) refl
           (λ i. solve-vals list work h (sym list-kept i) (sym work-kept i)) (id⊢ 𝓤 _) code.calls-kandurzo·kandurzo-solve
           (λ ks. solve-thm.met 𝓤 H 𝓜 𝓖 𝓡 (bound (solve-args list work h h-fits ps list-kept ws work-kept) ks, tt)) (λ found us found-fits kept finds.
           -- the arrays are room again; Answer { .. }

@@ -21,18 +21,6 @@ room c = omega (arith, zeros-length, c .pre)
 loop-holds : tie.Need-loop-holds Inv-loop μ-loop
 loop-holds c = turning-start (replicate work-words 0) (c .args .work .now) (room c)
 
-mul-work : tie.Need-mul-work Inv-loop μ-loop
-mul-work c = omega arith
-
-slice-write-work : tie.Need-slice-write-work Inv-loop μ-loop
-slice-write-work c = omega arith
-
-add-j : tie.Need-add-j Inv-loop μ-loop
-add-j c = omega arith
-
-loop-less : tie.Need-loop-less Inv-loop μ-loop
-loop-less c = omega arith
-
 loop-again : tie.Need-loop-again Inv-loop μ-loop
 unfolding work-words
 loop-again c =
@@ -49,4 +37,4 @@ returns c =
     turning-done (replicate work-words 0) (s .args .work .now) (room s) (c .before .loop .inv) (omega (arith, zeros-length))
 
 pub clear-spec : {M : Type 1} → statement M
-clear-spec = tie.close (tie.spec Inv-loop μ-loop loop-holds mul-work slice-write-work add-j loop-less loop-again same-length returns)
+clear-spec = tie.close (tie.spec Inv-loop μ-loop loop-holds (λ c. omega arith) (λ c. omega arith) (λ c. omega arith) (λ c. omega arith) loop-again same-length returns)

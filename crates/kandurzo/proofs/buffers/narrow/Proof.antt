@@ -24,26 +24,8 @@ room c = omega (arith, count c, c .pre .1 .0)
 loop-holds : tie.Need-loop-holds Inv-loop μ-loop
 loop-holds c = turning-start (take (c .args .n) (c .args .words .now)) (c .args .to .now) (room c)
 
-mul-to : tie.Need-mul-to Inv-loop μ-loop
-mul-to c = omega arith
-
-shared-slice-read-to : tie.Need-shared-slice-read-to Inv-loop μ-loop
-shared-slice-read-to c = omega arith
-
 cast-to : tie.Need-cast-to Inv-loop μ-loop
 cast-to c = omega (arith, c .before .before .before .pre .1 .1 (c .before .before .loop .j) (c .before .loop-test .taken))
-
-mul-to-2 : tie.Need-mul-to-2 Inv-loop μ-loop
-mul-to-2 c = omega arith
-
-slice-write-to : tie.Need-slice-write-to Inv-loop μ-loop
-slice-write-to c = omega arith
-
-add-j : tie.Need-add-j Inv-loop μ-loop
-add-j c = omega arith
-
-loop-less : tie.Need-loop-less Inv-loop μ-loop
-loop-less c = omega arith
 
 loop-again : tie.Need-loop-again Inv-loop μ-loop
 loop-again c =
@@ -63,4 +45,4 @@ returns c =
 pub narrow-spec : {M : Type 1} → statement M
 narrow-spec =
     tie.close
-    (tie.spec Inv-loop μ-loop loop-holds mul-to shared-slice-read-to cast-to mul-to-2 slice-write-to add-j loop-less loop-again same-length returns)
+    (tie.spec Inv-loop μ-loop loop-holds (λ c. omega arith) (λ c. omega arith) cast-to (λ c. omega arith) (λ c. omega arith) (λ c. omega arith) (λ c. omega arith) loop-again same-length returns)

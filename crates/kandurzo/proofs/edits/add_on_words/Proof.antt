@@ -33,12 +33,6 @@ put c = c .before .before .before .before
 fine : (c : tie.Else1) → First (not (begin c .args .agreed)) (begin c .args .head .n) (begin c .args .a) (begin c .args .b) ≡ 0
 fine c = sym (c .before .first-number .ensures) ∙ c .if1 .left
 
-first-number-requires : tie.Need-first-number-requires
-first-number-requires c κs = search needs
-
-refused-requires : tie.Need-refused-requires
-refused-requires c κs = search needs
-
 returns : tie.Need-returns
 unfolding add-edit add-words add-on-number pair-place laid-list
 returns c =
@@ -46,17 +40,8 @@ returns c =
     let some = c .before .if1 .taken in
     edit-refused _ _ _ _ _ _ (x .result) (add-first _ (laid-list _ _ _) _ _ _ (λ z. some (x .ensures ∙ z)) ∙ sym (x .ensures)) some (c .refused .ensures)
 
-cast-m : tie.Need-cast-m
-cast-m c = search needs
-
 find-requires : tie.Need-find-requires
 find-requires c κs = let s = begin (c .before .before) in find-asks (s .args .a) (s .args .b) (s .pre) (fine (c .before .before))
-
-refused-requires-2 : tie.Need-refused-requires-2
-refused-requires-2 c κs = search needs
-
-same-length : tie.Need-same-length
-same-length c = search needs
 
 returns-2 : tie.Need-returns-2
 unfolding add-edit add-words add-on-number pair-place laid-list
@@ -64,15 +49,6 @@ returns-2 c =
     let v = c .before .before in
     let ten = add-10 _ (laid-list _ _ _) _ _ _ (fine (first-passed v)) (sym (v .find .ensures .0) ∙ c .before .if2 .taken) in
     edit-refused _ _ _ _ _ _ 10 ten (λ z. omega arith) (c .refused2 .ensures)
-
-full-requires : tie.Need-full-requires
-full-requires c κs = search needs
-
-refused-requires-3 : tie.Need-refused-requires-3
-refused-requires-3 c κs = search needs
-
-same-length-2 : tie.Need-same-length-2
-same-length-2 c = search needs
 
 returns-3 : tie.Need-returns-3
 unfolding add-edit add-words add-on-number pair-place laid-list
@@ -82,12 +58,6 @@ returns-3 c =
     let free = sym (v .find .ensures .0) ∙ e .if2 .left in
     let full = sym (c .before .before .full .ensures) ∙ c .before .if3 .taken in
     edit-refused _ _ _ _ _ _ 11 (add-11 _ (laid-list _ _ _) _ _ _ (fine (first-passed v)) free full) (λ z. omega arith) (c .refused3 .ensures)
-
-lesser-requires : tie.Need-lesser-requires
-lesser-requires c κs = search needs
-
-greater-requires : tie.Need-greater-requires
-greater-requires c κs = search needs
 
 insert-requires : tie.Need-insert-requires
 insert-requires c κs =
@@ -101,12 +71,6 @@ add-t17 c =
     let o = first-passed (looked (new (roomy (put c)))) in
     let s = begin o in
     omega (arith, few (s .args .a) (s .args .b) (s .pre) (fine o))
-
-add-t20 : tie.Need-add-t20
-add-t20 c = search needs
-
-same-length-3 : tie.Need-same-length-3
-same-length-3 c = search needs
 
 returns-4 : tie.Need-returns-4
 unfolding add-edit add-words add-on-number pair-place laid-list head-of
@@ -123,22 +87,22 @@ pub add-on-words-spec : {M : Type 1} → statement M
 add-on-words-spec =
     tie.close
     (tie.spec
-    first-number-requires
-    refused-requires
+    (λ c κs. search needs)
+    (λ c κs. search needs)
     returns
-    cast-m
+    (λ c. search needs)
     find-requires
-    refused-requires-2
-    same-length
+    (λ c κs. search needs)
+    (λ c. search needs)
     returns-2
-    full-requires
-    refused-requires-3
-    same-length-2
+    (λ c κs. search needs)
+    (λ c κs. search needs)
+    (λ c. search needs)
     returns-3
-    lesser-requires
-    greater-requires
+    (λ c κs. search needs)
+    (λ c κs. search needs)
     insert-requires
     add-t17
-    add-t20
-    same-length-3
+    (λ c. search needs)
+    (λ c. search needs)
     returns-4)

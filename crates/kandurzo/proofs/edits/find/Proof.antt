@@ -4,17 +4,8 @@ use Rattle.kandurzo.proofs.Changes.{lookup-says}
 use Rattle.kandurzo.proofs.edits.find.Statement.{statement}
 use Rattle.kandurzo.proofs.edits.find.Tie as tie
 
-lesser-requires : tie.Need-lesser-requires
-lesser-requires c κs = search needs
-
-greater-requires : tie.Need-greater-requires
-greater-requires c κs = search needs
-
-lookup-requires : tie.Need-lookup-requires
-lookup-requires c κs = search needs
-
 returns : tie.Need-returns
 returns c = lookup-says _ _ _ (c .before .before .lesser .ensures) (c .before .greater .ensures) (c .lookup .ensures)
 
 pub find-spec : {M : Type 1} → statement M
-find-spec = tie.close (tie.spec lesser-requires greater-requires lookup-requires returns)
+find-spec = tie.close (tie.spec (λ c κs. search needs) (λ c κs. search needs) (λ c κs. search needs) returns)

@@ -6,9 +6,6 @@ use Rattle.kandurzo.specs.Listing.{is-full}
 use Rattle.kandurzo.proofs.edits.full.Statement.{statement}
 use Rattle.kandurzo.proofs.edits.full.Tie as tie
 
-cast-m : tie.Need-cast-m
-cast-m c = search needs
-
 returns : tie.Need-returns
 unfolding is-full
 returns c = rw (eq-eqb _ _ (c .if1 .taken), or-true _)
@@ -18,4 +15,4 @@ unfolding is-full
 returns-2 c = rw (ne-eqb _ _ (c .if1 .left), or-false _)
 
 pub full-spec : {M : Type 1} → statement M
-full-spec = tie.close (tie.spec cast-m returns returns-2)
+full-spec = tie.close (tie.spec (λ c. search needs) returns returns-2)

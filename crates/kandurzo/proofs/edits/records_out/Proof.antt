@@ -4,9 +4,6 @@ use Rattle.kandurzo.specs.Edits.{records-out}
 use Rattle.kandurzo.proofs.edits.records_out.Statement.{statement}
 use Rattle.kandurzo.proofs.edits.records_out.Tie as tie
 
-cast-result : tie.Need-cast-result
-cast-result c = search needs
-
 returns : tie.Need-returns
 unfolding records-out
 returns c = rw (c .before .if1 .taken)
@@ -16,4 +13,4 @@ unfolding records-out
 returns-2 c = rw (c .if1 .left)
 
 pub records-out-spec : {M : Type 1} → statement M
-records-out-spec = tie.close (tie.spec cast-result returns returns-2)
+records-out-spec = tie.close (tie.spec (λ c. search needs) returns returns-2)

@@ -28,12 +28,6 @@ held c = c .before .before .before .before .before
 fine : (c : tie.Else1) → First (not (begin c .args .agreed)) (begin c .args .head .n) (begin c .args .a) (begin c .args .b) ≡ 0
 fine c = sym (c .before .first-number .ensures) ∙ c .if1 .left
 
-first-number-requires : tie.Need-first-number-requires
-first-number-requires c κs = search needs
-
-refused-requires : tie.Need-refused-requires
-refused-requires c κs = search needs
-
 returns : tie.Need-returns
 unfolding remove-edit remove-words remove-on-number pair-place laid-list
 returns c =
@@ -41,17 +35,8 @@ returns c =
     let some = c .before .if1 .taken in
     edit-refused _ _ _ _ _ _ (x .result) (remove-first _ (laid-list _ _ _) _ _ (λ z. some (x .ensures ∙ z)) ∙ sym (x .ensures)) some (c .refused .ensures)
 
-cast-m : tie.Need-cast-m
-cast-m c = search needs
-
 find-requires : tie.Need-find-requires
 find-requires c κs = let s = begin (c .before .before) in find-asks (s .args .a) (s .args .b) (s .pre) (fine (c .before .before))
-
-refused-requires-2 : tie.Need-refused-requires-2
-refused-requires-2 c κs = search needs
-
-same-length : tie.Need-same-length
-same-length c = search needs
 
 returns-2 : tie.Need-returns-2
 unfolding remove-edit remove-words remove-on-number pair-place laid-list
@@ -75,9 +60,6 @@ sub-t16 c =
     let there = sym (look .0) ∙ not-false _ (held c .if2 .left) in
     omega (arith, delete-asks (s .args .a) (s .args .b) (s .pre) (fine (first-passed v)) (look .1) there)
 
-same-length-2 : tie.Need-same-length-2
-same-length-2 c = search needs
-
 returns-3 : tie.Need-returns-3
 unfolding remove-edit remove-words remove-on-number pair-place laid-list head-of
 returns-3 c =
@@ -90,15 +72,15 @@ pub remove-on-words-spec : {M : Type 1} → statement M
 remove-on-words-spec =
     tie.close
     (tie.spec
-    first-number-requires
-    refused-requires
+    (λ c κs. search needs)
+    (λ c κs. search needs)
     returns
-    cast-m
+    (λ c. search needs)
     find-requires
-    refused-requires-2
-    same-length
+    (λ c κs. search needs)
+    (λ c. search needs)
     returns-2
     delete-requires
     sub-t16
-    same-length-2
+    (λ c. search needs)
     returns-3)

@@ -8,15 +8,6 @@ use Rattle.kandurzo.specs.Judging.{check-buffers}
 use Rattle.kandurzo.proofs.judging.check_gate.Statement.{statement}
 use Rattle.kandurzo.proofs.judging.check_gate.Tie as tie
 
-cast-n : tie.Need-cast-n
-cast-n c = search needs
-
-cast-m : tie.Need-cast-m
-cast-m c = search needs
-
-gate-requires : tie.Need-gate-requires
-gate-requires c κs = search needs
-
 returns : tie.Need-returns
 unfolding check-buffers buffer any-short work-words
 returns c =
@@ -24,4 +15,4 @@ returns c =
     c .gate .ensures ∙ ap (λ (b : Bool). gate-of (a .head) (a .agreed) b) (simp (or-assoc, or-false))
 
 pub check-gate-spec : {M : Type 1} → statement M
-check-gate-spec = tie.close (tie.spec cast-n cast-m gate-requires returns)
+check-gate-spec = tie.close (tie.spec (λ c. search needs) (λ c. search needs) (λ c κs. search needs) returns)

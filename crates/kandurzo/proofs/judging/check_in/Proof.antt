@@ -16,20 +16,8 @@ mul-ends c = search (needs, few (c .before .before .before))
 add-weights : tie.Need-add-weights
 add-weights c = search (needs, few (c .before .before .before))
 
-sub-check-words : tie.Need-sub-check-words
-sub-check-words c = search needs
-
-part-check-words-start : tie.Need-part-check-words-start
-part-check-words-start c = search needs
-
 part-check-words-end : tie.Need-part-check-words-end
 part-check-words-end c = search (needs, few (c .before .before .before))
-
-sub-check-words-2 : tie.Need-sub-check-words-2
-sub-check-words-2 c = search needs
-
-part-check-words-start-2 : tie.Need-part-check-words-start-2
-part-check-words-start-2 c = search needs
 
 part-check-words-end-2 : tie.Need-part-check-words-end-2
 part-check-words-end-2 c = search (needs, few (c .before .before .before .before))
@@ -48,11 +36,11 @@ check-in-spec =
     (tie.spec
     mul-ends
     add-weights
-    sub-check-words
-    part-check-words-start
+    (λ c. search needs)
+    (λ c. search needs)
     part-check-words-end
-    sub-check-words-2
-    part-check-words-start-2
+    (λ c. search needs)
+    (λ c. search needs)
     part-check-words-end-2
     check-words-requires
     returns)

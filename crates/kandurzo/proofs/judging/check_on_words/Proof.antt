@@ -16,12 +16,6 @@ opened c = c .before .before .before
 returns : tie.Need-returns
 returns c = let n = c .if1 .taken in record { judged = λ z. absurd (n z); refused = λ _. refl; left = left-shut (c .before .before .before .before .pre) n }
 
-cast-n : tie.Need-cast-n
-cast-n c = search needs
-
-cast-m : tie.Need-cast-m
-cast-m c = search needs
-
 check-in-requires : tie.Need-check-in-requires
 check-in-requires c κs =
     let z = opened c .if1 .left in
@@ -31,9 +25,6 @@ check-in-requires c κs =
 
 clear-requires : tie.Need-clear-requires
 clear-requires c κs = let o = opened (c .before .before) in check-enough _ _ _ _ (begin o .pre .long (o .if1 .left)) .2
-
-same-length : tie.Need-same-length
-same-length c = search needs
 
 returns-2 : tie.Need-returns-2
 returns-2 c =
@@ -45,4 +36,4 @@ returns-2 c =
     }
 
 pub check-on-words-spec : {M : Type 1} → statement M
-check-on-words-spec = tie.close (tie.spec returns cast-n cast-m check-in-requires clear-requires same-length returns-2)
+check-on-words-spec = tie.close (tie.spec returns (λ c. search needs) (λ c. search needs) check-in-requires clear-requires (λ c. search needs) returns-2)

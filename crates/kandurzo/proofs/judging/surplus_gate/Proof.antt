@@ -8,12 +8,6 @@ use Rattle.kandurzo.specs.Judging.{surplus-buffers}
 use Rattle.kandurzo.proofs.judging.surplus_gate.Statement.{statement}
 use Rattle.kandurzo.proofs.judging.surplus_gate.Tie as tie
 
-cast-n : tie.Need-cast-n
-cast-n c = search needs
-
-gate-requires : tie.Need-gate-requires
-gate-requires c κs = search needs
-
 returns : tie.Need-returns
 unfolding surplus-buffers buffer any-short
 returns c =
@@ -21,4 +15,4 @@ returns c =
     c .gate .ensures ∙ ap (λ (b : Bool). gate-of (a .head) (a .agreed) b) (simp or-false)
 
 pub surplus-gate-spec : {M : Type 1} → statement M
-surplus-gate-spec = tie.close (tie.spec cast-n gate-requires returns)
+surplus-gate-spec = tie.close (tie.spec (λ c. search needs) (λ c κs. search needs) returns)

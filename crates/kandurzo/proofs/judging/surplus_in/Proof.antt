@@ -16,20 +16,8 @@ mul-ends c = search (needs, few (c .before .before .before))
 add-weights : tie.Need-add-weights
 add-weights c = search (needs, few (c .before .before .before))
 
-sub-surplus-words : tie.Need-sub-surplus-words
-sub-surplus-words c = search needs
-
-part-surplus-words-start : tie.Need-part-surplus-words-start
-part-surplus-words-start c = search needs
-
 part-surplus-words-end : tie.Need-part-surplus-words-end
 part-surplus-words-end c = search (needs, few (c .before .before .before))
-
-sub-surplus-words-2 : tie.Need-sub-surplus-words-2
-sub-surplus-words-2 c = search needs
-
-part-surplus-words-start-2 : tie.Need-part-surplus-words-start-2
-part-surplus-words-start-2 c = search needs
 
 part-surplus-words-end-2 : tie.Need-part-surplus-words-end-2
 part-surplus-words-end-2 c = search (needs, few (c .before .before .before .before))
@@ -48,11 +36,11 @@ surplus-in-spec =
     (tie.spec
     mul-ends
     add-weights
-    sub-surplus-words
-    part-surplus-words-start
+    (λ c. search needs)
+    (λ c. search needs)
     part-surplus-words-end
-    sub-surplus-words-2
-    part-surplus-words-start-2
+    (λ c. search needs)
+    (λ c. search needs)
     part-surplus-words-end-2
     surplus-words-requires
     returns)

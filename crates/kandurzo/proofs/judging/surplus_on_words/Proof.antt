@@ -8,12 +8,6 @@ use Rattle.kandurzo.proofs.judging.surplus_on_words.Tie as tie
 returns : tie.Need-returns
 returns c = let n = c .if1 .taken in record { judged = λ z. absurd (n z); refused = λ _. refl }
 
-cast-n : tie.Need-cast-n
-cast-n c = search needs
-
-cast-m : tie.Need-cast-m
-cast-m c = search needs
-
 surplus-in-requires : tie.Need-surplus-in-requires
 surplus-in-requires c κs =
     let z = c .before .before .before .if1 .left in
@@ -21,11 +15,8 @@ surplus-in-requires c κs =
     let e = surplus-enough _ _ _ (h .long z) in
     (h .holds z, (e .0, e .1))
 
-same-length : tie.Need-same-length
-same-length c = search needs
-
 returns-2 : tie.Need-returns-2
 returns-2 c = record { judged = λ _. c .surplus-in .ensures; refused = λ n. absurd (n (c .before .before .before .before .if1 .left)) }
 
 pub surplus-on-words-spec : {M : Type 1} → statement M
-surplus-on-words-spec = tie.close (tie.spec returns cast-n cast-m surplus-in-requires same-length returns-2)
+surplus-on-words-spec = tie.close (tie.spec returns (λ c. search needs) (λ c. search needs) surplus-in-requires (λ c. search needs) returns-2)

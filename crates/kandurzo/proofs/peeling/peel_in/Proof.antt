@@ -34,32 +34,11 @@ mul-ends c = search (needs, few (c .before .before .before))
 add-weights : tie.Need-add-weights
 add-weights c = search (needs, few (c .before .before .before))
 
-sub-peel : tie.Need-sub-peel
-sub-peel c = search needs
-
-part-peel-start : tie.Need-part-peel-start
-part-peel-start c = search needs
-
 part-peel-end : tie.Need-part-peel-end
 part-peel-end c = search (needs, few (c .before .before .before))
 
-sub-peel-2 : tie.Need-sub-peel-2
-sub-peel-2 c = search needs
-
-part-peel-start-2 : tie.Need-part-peel-start-2
-part-peel-start-2 c = search needs
-
 part-peel-end-2 : tie.Need-part-peel-end-2
 part-peel-end-2 c = search (needs, few (c .before .before .before .before))
-
-slice-aggregate-peel : tie.Need-slice-aggregate-peel
-slice-aggregate-peel c = search needs
-
-slice-aggregate-peel-2 : tie.Need-slice-aggregate-peel-2
-slice-aggregate-peel-2 c = search needs
-
-slice-aggregate-peel-3 : tie.Need-slice-aggregate-peel-3
-slice-aggregate-peel-3 c = search needs
 
 peel-requires : tie.Need-peel-requires
 peel-requires c κs =
@@ -70,9 +49,6 @@ peel-requires c κs =
       cut-held (s .args .n) (s .args .m) (now (s .args .work)) (s .pre .0),
       record { some = omega arith; few = some; order-long = low; cores-long = low; place-long = low },
     )
-
-slice-aggregate-narrow : tie.Need-slice-aggregate-narrow
-slice-aggregate-narrow c = search needs
 
 narrow-requires : tie.Need-narrow-requires
 unfolding laid-list
@@ -90,9 +66,6 @@ narrow-requires c κs =
       ),
     )
 
-slice-aggregate-narrow-2 : tie.Need-slice-aggregate-narrow-2
-slice-aggregate-narrow-2 c = search needs
-
 narrow-requires-2 : tie.Need-narrow-requires-2
 unfolding laid-list
 narrow-requires-2 c κs =
@@ -101,12 +74,6 @@ narrow-requires-2 c κs =
     let done = rw (cut-list (a .n) (a .m) (now (a .work))) at (v .peel .ensures) in
     let h = begin v .pre in
     (cores-long (list-of (begin v)) _ _ (done .cores-are), (h .1 .1 .0, cores-fit (list-of (begin v)) _ _ (done .cores-are) (h .1 .1 .1)))
-
-same-length : tie.Need-same-length
-same-length c = search needs
-
-same-length-2 : tie.Need-same-length-2
-same-length-2 c = search needs
 
 returns : tie.Need-returns
 unfolding laid-list
@@ -127,20 +94,20 @@ peel-in-spec =
     (tie.spec
     mul-ends
     add-weights
-    sub-peel
-    part-peel-start
+    (λ c. search needs)
+    (λ c. search needs)
     part-peel-end
-    sub-peel-2
-    part-peel-start-2
+    (λ c. search needs)
+    (λ c. search needs)
     part-peel-end-2
-    slice-aggregate-peel
-    slice-aggregate-peel-2
-    slice-aggregate-peel-3
+    (λ c. search needs)
+    (λ c. search needs)
+    (λ c. search needs)
     peel-requires
-    slice-aggregate-narrow
+    (λ c. search needs)
     narrow-requires
-    slice-aggregate-narrow-2
+    (λ c. search needs)
     narrow-requires-2
-    same-length
-    same-length-2
+    (λ c. search needs)
+    (λ c. search needs)
     returns)

@@ -24,12 +24,6 @@ returns c =
     let n = ne-eqb _ 0 (c .if1 .taken) in
     record { order-is = sym (rw n); cores-are = sym (rw n); left = left-shut (c .before .before .before .before .pre) (c .if1 .taken) }
 
-cast-n : tie.Need-cast-n
-cast-n c = search needs
-
-cast-m : tie.Need-cast-m
-cast-m c = search needs
-
 peel-in-requires : tie.Need-peel-in-requires
 peel-in-requires c κs =
     let z = opened c .if1 .left in
@@ -39,15 +33,6 @@ peel-in-requires c κs =
 
 clear-requires : tie.Need-clear-requires
 clear-requires c κs = let o = opened (peeled c) in peel-enough _ _ _ _ (begin o .pre .long (o .if1 .left)) .2
-
-same-length : tie.Need-same-length
-same-length c = search needs
-
-same-length-2 : tie.Need-same-length-2
-same-length-2 c = search needs
-
-same-length-3 : tie.Need-same-length-3
-same-length-3 c = search needs
 
 returns-2 : tie.Need-returns-2
 unfolding if-taken
@@ -59,4 +44,4 @@ returns-2 c =
 
 pub peel-on-words-spec : {M : Type 1} → statement M
 peel-on-words-spec =
-    tie.close (tie.spec returns cast-n cast-m peel-in-requires clear-requires same-length same-length-2 same-length-3 returns-2)
+    tie.close (tie.spec returns (λ c. search needs) (λ c. search needs) peel-in-requires clear-requires (λ c. search needs) (λ c. search needs) (λ c. search needs) returns-2)

@@ -19,13 +19,10 @@ returns-2 c = sym (rw (eq-eqb _ 13 (c .if2 .taken), or-true _))
 clear-requires : tie.Need-clear-requires
 clear-requires c κs = c .before .before .before .before .pre (c .before .before .if1 .left) (c .before .if2 .left)
 
-same-length : tie.Need-same-length
-same-length c = search needs
-
 returns-3 : tie.Need-returns-3
 returns-3 c =
     c .before .before .clear .ensures
     ∙ sym (work-zeros _ _ (c .before .before .before .before .before .if1 .left) (c .before .before .before .before .if2 .left))
 
 pub clear-words-spec : {M : Type 1} → statement M
-clear-words-spec = tie.close (tie.spec returns returns-2 clear-requires same-length returns-3)
+clear-words-spec = tie.close (tie.spec returns returns-2 clear-requires (λ c. search needs) returns-3)

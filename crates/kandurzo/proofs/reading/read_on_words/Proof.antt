@@ -7,17 +7,8 @@ use Rattle.kandurzo.proofs.reading.read_on_words.Tie as tie
 returns : tie.Need-returns
 returns c = read-short _ _ _ _ (c .if1 .taken)
 
-read-words-requires : tie.Need-read-words-requires
-read-words-requires c κs = search needs
-
-cast-count : tie.Need-cast-count
-cast-count c = search needs
-
-same-length : tie.Need-same-length
-same-length c = search needs
-
 returns-2 : tie.Need-returns-2
 returns-2 c = read-file-on _ _ _ _ _ (c .before .before .before .before .before .if1 .left) (c .before .before .before .read-words .ensures)
 
 pub read-on-words-spec : {M : Type 1} → statement M
-read-on-words-spec = tie.close (tie.spec returns read-words-requires cast-count same-length returns-2)
+read-on-words-spec = tie.close (tie.spec returns (λ c κs. search needs) (λ c. search needs) (λ c. search needs) returns-2)

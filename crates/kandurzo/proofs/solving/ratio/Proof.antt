@@ -5,15 +5,9 @@ use Rattle.theory.specs.Ratio.{float-ratio}
 use Rattle.kandurzo.proofs.solving.ratio.Statement.{statement}
 use Rattle.kandurzo.proofs.solving.ratio.Tie as tie
 
-int-to-float-result : tie.Need-int-to-float-result
-int-to-float-result c = search needs
-
-int-to-float-result-2 : tie.Need-int-to-float-result-2
-int-to-float-result-2 c = search needs
-
 returns : tie.Need-returns
 unfolding div float-ratio
 returns c = search needs
 
 pub ratio-spec : {M : Type 1} → statement M
-ratio-spec = tie.close (tie.spec int-to-float-result int-to-float-result-2 returns)
+ratio-spec = tie.close (tie.spec (λ c. search needs) (λ c. search needs) returns)

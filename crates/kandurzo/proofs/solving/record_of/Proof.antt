@@ -3,11 +3,8 @@ use borrow.Author.Needs.{needs}
 use Rattle.kandurzo.proofs.solving.record_of.Statement.{statement}
 use Rattle.kandurzo.proofs.solving.record_of.Tie as tie
 
-ratio-requires : tie.Need-ratio-requires
-ratio-requires c κs = search needs
-
 returns : tie.Need-returns
 returns c = rw (c .ratio .ensures)
 
 pub record-of-spec : {M : Type 1} → statement M
-record-of-spec = tie.close (tie.spec ratio-requires returns)
+record-of-spec = tie.close (tie.spec (λ c κs. search needs) returns)

@@ -42,38 +42,17 @@ mul-ends c = search (needs, few (c .before .before .before .before))
 add-weights : tie.Need-add-weights
 add-weights c = search (needs, few (c .before .before .before .before))
 
-sub-solve : tie.Need-sub-solve
-sub-solve c = search needs
-
-part-solve-start : tie.Need-part-solve-start
-part-solve-start c = search needs
-
 part-solve-end : tie.Need-part-solve-end
 part-solve-end c = search (needs, few (c .before .before .before .before))
 
-sub-solve-2 : tie.Need-sub-solve-2
-sub-solve-2 c = search needs
-
-part-solve-start-2 : tie.Need-part-solve-start-2
-part-solve-start-2 c = search needs
-
 part-solve-end-2 : tie.Need-part-solve-end-2
 part-solve-end-2 c = search (needs, few (c .before .before .before .before .before))
-
-slice-aggregate-solve : tie.Need-slice-aggregate-solve
-slice-aggregate-solve c = search needs
-
-slice-aggregate-solve-2 : tie.Need-slice-aggregate-solve-2
-slice-aggregate-solve-2 c = search needs
 
 solve-requires : tie.Need-solve-requires
 solve-requires c κs =
     let s = c .before .before .before .before .before .before .before .before .before in
     let h = s .pre in
     (cut-held (s .args .n) (s .args .m) (now (s .args .work)) (h .0), (h .1 .0, few s .0, few s .1))
-
-slice-aggregate-narrow : tie.Need-slice-aggregate-narrow
-slice-aggregate-narrow c = search needs
 
 narrow-requires : tie.Need-narrow-requires
 unfolding laid-list
@@ -83,9 +62,6 @@ narrow-requires c κs =
     let is = done v .cores-are in
     (cores-long (list-of (begin v)) _ _ is, (h .1 .1 .0, cores-fit (list-of (begin v)) _ _ is (h .1 .1 .1 .1 .cores)))
 
-slice-aggregate-narrow-2 : tie.Need-slice-aggregate-narrow-2
-slice-aggregate-narrow-2 c = search needs
-
 narrow-requires-2 : tie.Need-narrow-requires-2
 narrow-requires-2 c κs =
     let v = c .before .before .before .before .before .before .before .before .before .before .before in
@@ -94,15 +70,6 @@ narrow-requires-2 c κs =
       omega (arith, done v .shares-long, few s .1),
       (h .1 .1 .1 .0, sheet-small (list-of s) (h .0 .listed) (s .args .m) (pairs-m s) _ _ _ _ _ _ _ (done v) (h .1 .1 .1 .1)),
     )
-
-same-length : tie.Need-same-length
-same-length c = search needs
-
-same-length-2 : tie.Need-same-length-2
-same-length-2 c = search needs
-
-same-length-3 : tie.Need-same-length-3
-same-length-3 c = search needs
 
 returns : tie.Need-returns
 unfolding laid-list
@@ -120,20 +87,20 @@ sheet-in-spec =
     (tie.spec
     mul-ends
     add-weights
-    sub-solve
-    part-solve-start
+    (λ c. search needs)
+    (λ c. search needs)
     part-solve-end
-    sub-solve-2
-    part-solve-start-2
+    (λ c. search needs)
+    (λ c. search needs)
     part-solve-end-2
-    slice-aggregate-solve
-    slice-aggregate-solve-2
+    (λ c. search needs)
+    (λ c. search needs)
     solve-requires
-    slice-aggregate-narrow
+    (λ c. search needs)
     narrow-requires
-    slice-aggregate-narrow-2
+    (λ c. search needs)
     narrow-requires-2
-    same-length
-    same-length-2
-    same-length-3
+    (λ c. search needs)
+    (λ c. search needs)
+    (λ c. search needs)
     returns)

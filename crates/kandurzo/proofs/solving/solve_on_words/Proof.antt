@@ -22,9 +22,6 @@ solved c = c .before .before .before .before .before .before .before
 abbrev cleared : tie.After-slice-known8 → tie.After-clear-arg
 cleared c = c .before .before .before
 
-refused-requires : tie.Need-refused-requires
-refused-requires c κs = search needs
-
 returns : tie.Need-returns
 unfolding declined
 returns c =
@@ -36,12 +33,6 @@ returns c =
       refused = λ _. (e, refl, refl, refl);
       left = left-shut (c .before .before .before .before .before .before .pre) n;
     }
-
-cast-n : tie.Need-cast-n
-cast-n c = search needs
-
-cast-m : tie.Need-cast-m
-cast-m c = search needs
 
 sheet-in-requires : tie.Need-sheet-in-requires
 sheet-in-requires c κs =
@@ -59,18 +50,6 @@ record-of-requires c κs =
     let o = opened (v .before) in
     some-modules _ (begin o .pre .holds (o .if1 .left) .listed) _ refl _ _ _ _ _ _ _ (v .sheet-in .ensures)
 
-same-length : tie.Need-same-length
-same-length c = search needs
-
-same-length-2 : tie.Need-same-length-2
-same-length-2 c = search needs
-
-same-length-3 : tie.Need-same-length-3
-same-length-3 c = search needs
-
-same-length-4 : tie.Need-same-length-4
-same-length-4 c = search needs
-
 returns-2 : tie.Need-returns-2
 returns-2 c =
     let v = solved (cleared (c .before)) in
@@ -87,15 +66,15 @@ pub solve-on-words-spec : {M : Type 1} → statement M
 solve-on-words-spec =
     tie.close
     (tie.spec
-    refused-requires
+    (λ c κs. search needs)
     returns
-    cast-n
-    cast-m
+    (λ c. search needs)
+    (λ c. search needs)
     sheet-in-requires
     clear-requires
     record-of-requires
-    same-length
-    same-length-2
-    same-length-3
-    same-length-4
+    (λ c. search needs)
+    (λ c. search needs)
+    (λ c. search needs)
+    (λ c. search needs)
     returns-2)
