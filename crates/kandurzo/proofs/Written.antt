@@ -2,7 +2,7 @@
 --   a-pair, a-head, a-word                   types; a-pair-there, a-head-there: behind a reference
 --   value, lends, lends-all                  locals: a value, a reference, a slice reference
 --   at, the, part                            a local as a place, its copy, and the copy of one of its fields
---   lent-again, lent-whole                   a slice reference, and an array as a slice, lent once more
+--   lent-again                               a slice reference, lent once more
 -- Assumes nothing: these are definitions.
 use Prim.Native.Nat.{ℕ, _+_}
 use mathlib.Core.List.{[], _∷_}
@@ -49,7 +49,3 @@ part j k = copy (place j (field k ∷ []))
 -- the slice reference in local j, by way of local p to local p + 1
 abbrev pub lent-again : Ty → (j p : ℕ) → Body → Body
 lent-again τ j p rest = seq (assign (at p) (addrOf (place j (field 0 ∷ deref τ ∷ [])))) (seq (assign (at (p + 1)) (aggregate (the p ∷ part j 1 ∷ []))) rest)
-
--- the array in local j, whose length the operand says, likewise
-abbrev pub lent-whole : Operand → (j p : ℕ) → Body → Body
-lent-whole size j p rest = seq (assign (at p) (addrOf (at j))) (seq (assign (at (p + 1)) (aggregate (the p ∷ size ∷ []))) rest)

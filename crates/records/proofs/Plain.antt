@@ -1,7 +1,7 @@
 -- Types of plain data: what a value of one owns are facts alone, and its machine value is a function of it.
 --   Plain               what a walk asks of such a type
 --   Fits, typed-as      a value's relation to its machine value, and that the latter is of the machine type
---   plain-word, plain-half, plain-byte, plain-count, plain-truth, plain-none    u32, u16, u8, usize, bool, ()
+--   plain-number        a number; plain-word, plain-half, plain-byte, plain-count: u32, u16, u8, usize; plain-truth, plain-none: bool, ()
 --   plain-record        a declared struct of plain fields
 -- Assumes `Given`.
 use mathlib.Core.List.{List, [], _∷_}

@@ -1,6 +1,6 @@
 -- The kinds of a walked function's parameters: what is had of each on exit, with the law that takes it to the contract, and how its machine value is spelled.
 --   Kind, Kinds      of one parameter, and of a signature's
---   data-kind        plain data; word-kind, count-kind are u32 and usize, record-kind a declared struct
+--   data-kind        plain data; number-kind: a number, word-kind and count-kind u32 and usize; record-kind a declared struct
 --   mut-kind, shr-kind, ref-kind     a `&mut [T]`, a `&[T]` and a `&mut T` that the function still owns on exit
 --   stays            what is had of the parameters on exit
 --   meets-by         a function meets its contract, from a walk of its MIR
