@@ -35,9 +35,10 @@ use Rattle.records.proofs.Entry as Entry
 use Rattle.records.proofs.Entry.{Par}
 use Rattle.records.proofs.Records.{plain-head, word-row, room-as}
 use Rattle.records.proofs.Copies.{length-put-back}
-use Rattle.records.proofs.Straight.{Plan, calls, gives, makes, drops}
+use Rattle.records.proofs.Cells.{Plan, calls, gives, makes, drops}
 use Rattle.records.proofs.Forms.{Form, value, writes, word, Arguments, Fitting, pars-of}
-use Rattle.records.proofs.Chain.{table, loops, Finishes, Takes, Does, Walked, Spot, spot, outright-at, agree-at, out-at, in-at, array-at, drop-at, returns-at, chains}
+use Rattle.records.proofs.Chain.{table, loops, Finishes, Takes, Does, Walked, Spot, spot, outright-at, agree-at, out-at, in-at, array-at, drop-at}
+use Rattle.records.proofs.Chain.{returns-at, chains}
 use Rattle.records.proofs.Head as N
 use Rattle.records.proofs.agree.Symbol as agree
 use Rattle.records.proofs.copy_out.Symbol as copy-out
@@ -68,7 +69,8 @@ zs-long = length-copies many 0
 pub room-many : {k : ℕ} → k ≡ many → Room u32 k
 room-many e = room-as u32 e (lit< tt, lit< tt)
 
-module _ {Says : Call} {edit : Making Edit} {words : Making (List ℕ)} (changes : (ls : List ℕ) → length ls ≡ many → (h : Head) (ps : List Pair) (a b : ℕ) → Change Says edit words ls h ps a b)
+module _ {Says : Call} {edit : Making Edit} {words : Making (List ℕ)}
+    (changes : (ls : List ℕ) → length ls ≡ many → (h : Head) (ps : List Pair) (a b : ℕ) → Change Says edit words ls h ps a b)
     {M : Type 1} (𝓤 : URA M) (H : Heap 𝓤) (𝓜 : Model 𝓤 H) (𝓖 : GhostRules 𝓤 H) (𝓡 : Running 𝓤 H 𝓜) (γ : Routines)
     (κs : Lfts 1) (qs : Shares 1) (a : Arguments edit-forms κs) (are : Fitting edit-forms κs a) where
   abbrev W : Given 𝓤 H (𝓖 .A)
@@ -115,7 +117,8 @@ module _ {Says : Call} {edit : Making Edit} {words : Making (List ℕ)} (changes
   records-args = by-value N.the-row (plain-head W) h (are .0) ∷ by-value bool (plain-truth W) ok refl ∷ []
 
   abbrev pub change-args : ℕ × ℕ → List (Arg W)
-  change-args l = by-value N.the-row (plain-head W) h (are .0) ∷ by-value bool (plain-truth W) ok refl ∷ by-value usize (plain-count W) (length ps) (refl, are .1 .0 .0 .1 .0)
+  change-args l = by-value N.the-row (plain-head W) h (are .0) ∷ by-value bool (plain-truth W) ok refl ∷ by-value usize (plain-count W) (length ps)
+      (refl, are .1 .0 .0 .1 .0)
       ∷ loan (lend-mut (word-row W fullShare (l .0) (l .1)) us (room-many us-long))
       ∷ by-value u32 (plain-word W) (a .1 .1 .0) (are .1 .1 .0) ∷ by-value u32 (plain-word W) (a .1 .1 .1 .0) (are .1 .1 .1 .0) ∷ []
 
@@ -144,7 +147,8 @@ module _ {Says : Call} {edit : Making Edit} {words : Making (List ℕ)} (changes
       (X : Val → SProp 𝓤) (fin : Finishes pars X D.the-row (plain-changed W) (λ r ws. Says h ps (a .1 .1 .0) (a .1 .1 .1 .0) r (ws .1 .0)))
       (f : Fn) (typed : Takes pars X f) (does : Does pars X f (editor #on)) where
     pub meets-editor : Walked pars X (table W 𝓜 𝓡 γ) (loops W 𝓜 𝓡 γ) f
-    meets-editor = chains 𝓤 H 𝓜 𝓖 𝓡 γ f pars X (typed-as (plain-head W) h (are .0) .1, (fit-slice (are .1 .0 .0 .1 .0) .1, (num (are .1 .1 .0 .1) .1, (num (are .1 .1 .1 .0 .1) .1, tt))))
+    meets-editor = chains 𝓤 H 𝓜 𝓖 𝓡 γ f pars X
+        (typed-as (plain-head W) h (are .0) .1, (fit-slice (are .1 .0 .0 .1 .0) .1, (num (are .1 .1 .0 .1) .1, (num (are .1 .1 .1 .0 .1) .1, tt))))
         typed (editor #on) does (λ bs os.
         let here : Spot 𝓤 H = spot 𝓤 H 𝓜 𝓖 𝓡 γ f pars X bs in
         let l : ℕ × ℕ = words-at (env (f .locals) bs) in
@@ -153,13 +157,15 @@ module _ {Says : Call} {edit : Making Edit} {words : Making (List ℕ)} (changes
         -- let out = records_out(head, agreed); copy_out(list, &mut words, out)
         (outright-at here [] records-args usize (plain-count W) k (tt, (tt, tt)) (λ r ws e. (e, refl)) refl refl (id⊢ 𝓤 _) is-records
         (λ ks. records-thm.met 𝓤 H 𝓜 𝓖 𝓡 (bound records-args ks, tt)) (λ k-fits _.
-        out-at here 1 0 (a .1 .0 .ptr) ps l zs k refl zs-long (k-fits .1) fullShare is-out (are .1 .0 .0 .1) (room-many zs-long) (out-room zs zs-long h ps) refl
+        out-at here 1 0 (a .1 .0 .ptr) ps l zs k refl zs-long (k-fits .1) fullShare is-out (are .1 .0 .0 .1) (room-many zs-long)
+        (out-room zs zs-long h ps) refl
         -- let edit = add_on_words(head, agreed, list.len(), &mut words, a, b), or remove_on_words
         (outright-at here (0 ∷ []) (change-args l) G.the-row (plain-edit W) c (tt, (tt, (tt, (vs, (tt, (tt, tt))))))
         (λ r ws e. (e .0, λ i. (tt, (tt, (tt, (e .1 i, (tt, (tt, tt)))))))) refl (ap (λ (n : ℕ). change-vals (sliceVal l n)) (sym us-long))
         (factI 𝓤 _ (emp 𝓤) us-ready) is-on (met l) (λ c-fits _.
         -- copy_in(list, &words, edit.count)
-        in-at here 1 0 (a .1 .0 .ptr) ps l vs (c .count) refl (done .long) (edit-parts W c c-fits .2) fullShare is-in (are .1 .0 .0 .1) (room-many (done .long)) (done .back) refl
+        in-at here 1 0 (a .1 .0 .ptr) ps l vs (c .count) refl (done .long) (edit-parts W c c-fits .2) fullShare is-in (are .1 .0 .0 .1)
+        (room-many (done .long)) (done .back) refl
         -- Changed { .. }
         (drop-at here 6 many u32 (plain-word W) tt vs (done .long)
         (let fit : Entry.Fit pars end = (tt, (length-put-back ps vs (c .count) (done .back .room .enough), (tt, (tt, tt)))) in

@@ -32,7 +32,7 @@ use Rattle.records.proofs.Entry as Entry
 use Rattle.records.proofs.Entry.{Par}
 use Rattle.records.proofs.Records.{word-row, byte-row, room-as}
 use Rattle.records.proofs.Copies.{length-put-back}
-use Rattle.records.proofs.Straight.{Plan, calls, gives}
+use Rattle.records.proofs.Cells.{Plan, calls, gives}
 use Rattle.records.proofs.Forms.{Form, reads, writes, byte, word, Arguments, Fitting, pars-of}
 use Rattle.records.proofs.Chain.{table, loops, Finishes, Takes, Does, Walked, Spot, spot, calls-at, outright-at, in-at, returns-at, chains}
 use Rattle.records.proofs.copy_in.Symbol as copy-in
@@ -67,7 +67,8 @@ module _ {M : Type 1} (𝓤 : URA M) (H : Heap 𝓤) (𝓜 : Model 𝓤 H) (𝓖
   ws = a .1 .1 .0 .now
 
   abbrev pub read-args : Share → List (Arg W)
-  read-args s = loan (lend-shr (byte-row W s (a .0 .ptr .0) (a .0 .ptr .1)) bytes (are .0 .0 .1)) ∷ by-value usize (plain-count W) (length ps) (refl, are .1 .0 .0 .1 .0)
+  read-args s = loan (lend-shr (byte-row W s (a .0 .ptr .0) (a .0 .ptr .1)) bytes (are .0 .0 .1)) ∷ by-value usize (plain-count W) (length ps)
+      (refl, are .1 .0 .0 .1 .0)
       ∷ loan (lend-mut (word-row W fullShare (a .1 .1 .0 .ptr .0) (a .1 .1 .0 .ptr .1)) ws (are .1 .1 .0 .0 .1)) ∷ []
 
   module _ (e : Edit) (fits : e .number < 2 ^ 32) (us : List ℕ) (same : length us ≡ length ws) where
@@ -85,15 +86,19 @@ module _ {M : Type 1} (𝓤 : URA M) (H : Heap 𝓤) (𝓜 : Model 𝓤 H) (𝓖
       calls clear.name (vint w32 (e .number) ∷ work-val ∷ []) (Unit {0}) (λ _. vunit) (λ _. gives (plain-changed W .val (answer e)))))
 
   -- Said: what the function on words says of the words and of its answer; what copy_in and clear_words ask, and what the call says, come from that
-  module _ (#on : Name) {ρ : Routine} (is-on : γ #on ≡ ρ) (is-in : γ copy-in.name ≡ copy-in.routine) (is-clear : γ clear.name ≡ clear.routine) (Said : List ℕ → Edit → Type 0)
-      (met : (s : Share) (ks : Keys (read-args s)) → ent 𝓤 (Asks (read-args s) (emp 𝓤) ks) (𝓡 .run ρ (values (read-args s)) (Answers (read-args s) G.the-row (λ e zs. Said (zs .1 .1 .0) e) ks)))
+  module _ (#on : Name) {ρ : Routine} (is-on : γ #on ≡ ρ) (is-in : γ copy-in.name ≡ copy-in.routine) (is-clear : γ clear.name ≡ clear.routine)
+      (Said : List ℕ → Edit → Type 0)
+      (met : (s : Share) (ks : Keys (read-args s))
+      → ent 𝓤 (Asks (read-args s) (emp 𝓤) ks) (𝓡 .run ρ (values (read-args s)) (Answers (read-args s) G.the-row (λ e zs. Said (zs .1 .1 .0) e) ks)))
       (enough : (us : List ℕ) (e : Edit) → Said us e → length us ≡ length ws → Room-back ps us (e .count))
       (long : (us : List ℕ) (e : Edit) → Said us e → length us ≡ length ws → (e .number ≡ 12 → ⊥) → (e .number ≡ 13 → ⊥) → 16384 ≤ length us)
       (X : Val → SProp 𝓤) {Says : Changed → Entry.Lasts pars → Type 0} (fin : Finishes pars X D.the-row (plain-changed W) Says)
       (says : (us : List ℕ) (e : Edit) → Said us e → Says (answer e) (tt, (put-back ps us (e .count), (work-left (e .number) us, tt))))
       (f : Fn) (typed : Takes pars X f) (does : Does pars X f (λ _. reader #on)) where
     pub meets-reader : Walked pars X (table W 𝓜 𝓡 γ) (loops W 𝓜 𝓡 γ) f
-    meets-reader = chains 𝓤 H 𝓜 𝓖 𝓡 γ f pars X (fit-slice (are .0 .0 .1 .0) .1, (fit-slice (are .1 .0 .0 .1 .0) .1, (fit-slice (are .1 .1 .0 .0 .1 .0) .1, tt))) typed (λ _. reader #on) does (λ bs os.
+    meets-reader = chains 𝓤 H 𝓜 𝓖 𝓡 γ f pars X
+        (fit-slice (are .0 .0 .1 .0) .1, (fit-slice (are .1 .0 .0 .1 .0) .1, (fit-slice (are .1 .1 .0 .0 .1 .0) .1, tt))) typed (λ _. reader #on) does
+        (λ bs os.
         let here : Spot 𝓤 H = spot 𝓤 H 𝓜 𝓖 𝓡 γ f pars X bs in
         -- let answer = read_on_words(bytes, list.len(), work)
         calls-at here (0 ∷ 2 ∷ []) (read-args (os .0)) G.the-row (plain-edit W) refl refl (id⊢ 𝓤 _) is-on (met (os .0)) (λ e zs e-fits kept said.
@@ -103,9 +108,11 @@ module _ {M : Type 1} (𝓤 : URA M) (H : Heap 𝓤) (𝓜 : Model 𝓤 H) (𝓖
         let back = enough us e said same in
         let end : Entry.Lasts pars = (tt, (put-back ps us (e .count), (work-left (e .number) us, tt))) in
         -- copy_in(list, work, answer.count)
-        in-at here 1 2 (a .1 .0 .ptr) ps (a .1 .1 .0 .ptr) us (e .count) refl same (parts .2) fullShare is-in (are .1 .0 .0 .1) (room-as u32 same (are .1 .1 .0 .0 .1)) back refl
+        in-at here 1 2 (a .1 .0 .ptr) ps (a .1 .1 .0 .ptr) us (e .count) refl same (parts .2) fullShare is-in (are .1 .0 .0 .1)
+        (room-as u32 same (are .1 .1 .0 .0 .1)) back refl
         -- clear_words(answer.number, work)
-        (outright-at here (2 ∷ []) (clear-args e (parts .0) us same) unit (plain-none W) tt (tt, (work-left (e .number) us, tt)) (λ r vs s. (refl, λ i. (tt, (s i, tt)))) refl
+        (outright-at here (2 ∷ []) (clear-args e (parts .0) us same) unit (plain-none W) tt (tt, (work-left (e .number) us, tt))
+        (λ r vs s. (refl, λ i. (tt, (s i, tt)))) refl
         (ap (λ (n : ℕ). vint w32 (e .number) ∷ sliceVal (a .1 .1 .0 .ptr) n ∷ []) (sym same)) (factI 𝓤 _ (emp 𝓤) (long us e said same)) is-clear
         (λ ks. clear-thm.met 𝓤 H 𝓜 𝓖 𝓡 (bound (clear-args e (parts .0) us same) ks, tt)) (λ _ left.
         -- Changed { .. }

@@ -25,7 +25,7 @@ use prog.Wp.{Heap, WpFn, Calls, Loops, noLocal}
 use ghost.Atoms.{Atoms, sem}
 use contract.Monad.{fact, factI}
 use contract.Running.{GhostRules, Running, givenOf, tables, tablesOf}
-use types.Kit.{Given, Item, Go, Sq, runs, lands, ‵, ⋆, mean, nth, put, del, pull, fill, pop, push, ⊢++, atRet, _$_, ! }
+use types.Kit.{Given, Item, Go, Sq, lands, ‵, ⋆, mean, nth, put, del, pull, fill, pop, push, ⊢++, atRet, _$_, ! }
 use types.Run.{Opds}
 use sound.WpLaws.{FmC, fmOf}
 use denote.RattleType.{RattleType}
@@ -45,7 +45,10 @@ use Rattle.records.proofs.Entry as Entry
 use Rattle.records.proofs.Entry.{Par}
 use Rattle.records.proofs.Records.{plain-head, pair-row, word-row}
 use Rattle.records.proofs.Steps.{copies-out, copies-in, asks-agree}
-use Rattle.records.proofs.Straight.{Plan, calls, gives, makes, drops, meets-array, meets-drop, Runs, ahead, room, filled, laid, Walk-of, walks, meets-call, meets-return, shifts, All-fit, params-typed, typed-params}
+use Rattle.records.proofs.Cells.{Plan, calls, gives, makes, drops, Runs, ahead, room}
+use Rattle.records.proofs.Locals.{laid}
+use Rattle.records.proofs.Straight.{meets-array, meets-drop, filled, Walk-of, walks, meets-call, meets-return, shifts, All-fit, params-typed}
+use Rattle.records.proofs.Straight.{typed-params}
 use Rattle.records.proofs.Lent.{calls-lent}
 use Rattle.records.proofs.Head as N
 use Rattle.records.proofs.Cited.{cites-agree, cites-out, cites-in}
@@ -104,7 +107,8 @@ module _ {M : Type 1} {𝓤 : URA M} {H : Heap 𝓤} {A : Atoms 𝓤} (W : Given
 module _ {M : Type 1} {𝓤 : URA M} {H : Heap 𝓤} {A : Atoms 𝓤} {W : Given 𝓤 H A} (pars : List (Par W)) (X : Val → SProp 𝓤) where
   abbrev pub Finishes : (R : RattleType) → Plain W R → (R .Denot → Entry.Lasts pars → Type 0) → Type 1
   Finishes R P Says = (r : R .Denot) (ws : Entry.Lasts pars) → Entry.Fit pars ws
-      → ent 𝓤 (sep 𝓤 (sep 𝓤 (sem 𝓤 H A (Entry.toks pars)) (sep 𝓤 (sem 𝓤 H A (Entry.has pars ws)) (sem 𝓤 H A (R .own r (P .val r ∷ []))))) (fact 𝓤 (Says r ws))) (H .⇛ (X (P .val r)))
+      → ent 𝓤 (sep 𝓤 (sep 𝓤 (sem 𝓤 H A (Entry.toks pars)) (sep 𝓤 (sem 𝓤 H A (Entry.has pars ws)) (sem 𝓤 H A (R .own r (P .val r ∷ [])))))
+      (fact 𝓤 (Says r ws))) (H .⇛ (X (P .val r)))
 
   abbrev pub Walked : Calls 𝓤 H → Loops 𝓤 H → Fn → Type 1
   Walked C Λ f = ent 𝓤 (sep 𝓤 (sem 𝓤 H A (Entry.toks pars)) (sem 𝓤 H A (Entry.owns pars))) (WpFn 𝓤 H C Λ f (Entry.passed pars) (λ v. H .⇛ (X v)))
@@ -114,7 +118,8 @@ module _ {M : Type 1} {𝓤 : URA M} {H : Heap 𝓤} {A : Atoms 𝓤} {W : Given
   Takes f = (bs : Blocks (f .locals)) → T (params-typed (env (f .locals) bs) (Entry.passed pars))
 
   abbrev pub Does : Fn → (Places → Plan) → Type 0
-  Does f plan = (bs : Blocks (f .locals)) → Runs (env (f .locals) bs) (plan (env (f .locals) bs)) (ahead (env (f .locals) bs) (f .body) (room ∷ filled (Entry.passed pars)))
+  Does f plan = (bs : Blocks (f .locals))
+      → Runs (env (f .locals) bs) (plan (env (f .locals) bs)) (ahead (env (f .locals) bs) (f .body) (room ∷ filled (Entry.passed pars)))
 
 -- where a walk stands: the model and its tables, the function, its parameters, what it ends in, and the blocks of its locals
 pub record Spot {M : Type 1} (𝓤 : URA M) (H : Heap 𝓤) : Type 2 where
@@ -127,7 +132,8 @@ pub record Spot {M : Type 1} (𝓤 : URA M) (H : Heap 𝓤) : Type 2 where
   pub ends : Val → SProp 𝓤
   pub blocks : Blocks (fn .locals)
 
-abbrev pub spot : {M : Type 1} (𝓤 : URA M) (H : Heap 𝓤) (𝓜 : Model 𝓤 H) (𝓖 : GhostRules 𝓤 H) → Running 𝓤 H 𝓜 → Routines → (f : Fn) → List (Par (givenOf 𝓤 H 𝓜 𝓖)) → (Val → SProp 𝓤) → Blocks (f .locals) → Spot 𝓤 H
+abbrev pub spot : {M : Type 1} (𝓤 : URA M) (H : Heap 𝓤) (𝓜 : Model 𝓤 H) (𝓖 : GhostRules 𝓤 H) → Running 𝓤 H 𝓜 → Routines → (f : Fn)
+    → List (Par (givenOf 𝓤 H 𝓜 𝓖)) → (Val → SProp 𝓤) → Blocks (f .locals) → Spot 𝓤 H
 spot 𝓤 H 𝓜 𝓖 𝓡 γ f pars X bs = record { model = 𝓜; ghosts = 𝓖; running = 𝓡; routines = γ; fn = f; pars = pars; ends = X; blocks = bs }
 
 module _ {M : Type 1} {𝓤 : URA M} {H : Heap 𝓤} (here : Spot 𝓤 H) where
@@ -175,17 +181,20 @@ module _ {M : Type 1} {𝓤 : URA M} {H : Heap 𝓤} (here : Spot 𝓤 H) where
   backs : (js : List ℕ) (Δ Ys : List (Item 𝓤)) {p : Plan} → On (with-back js Ys Δ) p → On (Ys ++ left js Δ) p
   backs js Δ Ys w = shifts W C Λ E (atRet E Kf) free (back 𝓤 H A js Ys (left js Δ)) w
 
-  module _ (js : List ℕ) {Δ : List (Item 𝓤)} {g : Name} {ρ : Routine} {vs : List Val} (ps : List (Arg W)) (R : RattleType) (P : Plain W R) {Asked : SProp 𝓤} {Said : R .Denot → Lasts ps → Type 0} where
+  module _ (js : List ℕ) {Δ : List (Item 𝓤)} {g : Name} {ρ : Routine} {vs : List Val} (ps : List (Arg W)) (R : RattleType)
+      (P : Plain W R) {Asked : SProp 𝓤} {Said : R .Denot → Lasts ps → Type 0} where
     pub calls-at : {next : R .Denot → Plan} → picked 𝓤 H A js Δ ≡ rows ps → vs ≡ values ps → ent 𝓤 (emp 𝓤) Asked → γ g ≡ ρ
         → ((ks : Keys ps) → ent 𝓤 (Asks ps Asked ks) (𝓡 .run ρ (values ps) (Answers ps R Said ks)))
-        → ((r : R .Denot) (ws : Lasts ps) → Fits R P r → Known ps ws → Said r ws → On (with-back js (after ps ws) Δ) (next r)) → On Δ (calls g vs (R .Denot) (P .val) next)
+        → ((r : R .Denot) (ws : Lasts ps) → Fits R P r → Known ps ws → Said r ws → On (with-back js (after ps ws) Δ) (next r))
+        → On Δ (calls g vs (R .Denot) (P .val) next)
     calls-at at-js is asked named met k = fronts js Δ (rows ps) at-js (meets-call W C Λ E (atRet E Kf) free (λ ys i b cs opds land.
         calls-lent W fm ps R P Asked Said (left js Δ) (laid E cs ++ free) vs is asked (λ ks. by-name W 𝓜 𝓡 γ named (met ks)) opds (λ r ws fits known said.
         land (after ps ws ++ left js Δ) r (typed-as P r fits .1) (backs js Δ (after ps ws) (k r ws fits known said)))))
 
     -- what is answered and left is r₀ and ws₀
     pub outright-at : {next : Plan} (r₀ : R .Denot) (ws₀ : Lasts ps) → ((r : R .Denot) (ws : Lasts ps) → Said r ws → (r ≡ r₀) × (ws ≡ ws₀))
-        → picked 𝓤 H A js Δ ≡ rows ps → vs ≡ values ps → ent 𝓤 (emp 𝓤) Asked → γ g ≡ ρ → ((ks : Keys ps) → ent 𝓤 (Asks ps Asked ks) (𝓡 .run ρ (values ps) (Answers ps R Said ks)))
+        → picked 𝓤 H A js Δ ≡ rows ps → vs ≡ values ps → ent 𝓤 (emp 𝓤) Asked → γ g ≡ ρ
+        → ((ks : Keys ps) → ent 𝓤 (Asks ps Asked ks) (𝓡 .run ρ (values ps) (Answers ps R Said ks)))
         → (Fits R P r₀ → Known ps ws₀ → On (with-back js (after ps ws₀) Δ) next) → On Δ (calls g vs (Unit {0}) (λ _. P .val r₀) (λ _. next))
     outright-at {next} r₀ ws₀ tells at-js is asked named met k = fronts js Δ (rows ps) at-js (meets-call W C Λ E (atRet E Kf) free (λ ys i b cs opds land.
         calls-lent W fm ps R P Asked Said (left js Δ) (laid E cs ++ free) vs is asked (λ ks. by-name W 𝓜 𝓡 γ named (met ks)) opds (λ r ws fits known said.
@@ -207,48 +216,63 @@ module _ {M : Type 1} {𝓤 : URA M} {H : Heap 𝓤} (here : Spot 𝓤 H) where
         land (holds (pair-row W s (at .0) (at .1)) ps ∷ left (i ∷ []) Δ) tt tt (backs (i ∷ []) Δ (holds (pair-row W s (at .0) (at .1)) ps ∷ []) k)))
 
     -- the lengths are told as n and k
-    module _ (i j : ℕ) (at : ℕ × ℕ) (ps : List Pair) (at′ : ℕ × ℕ) (ws : List ℕ) (m : ℕ) {n k : ℕ} (long : length ps ≡ n) (sized : length ws ≡ k) (fits : m < 2 ^ 64) where
-      pub out-at : (s : Share) → γ copy-out.name ≡ copy-out.routine → Room-for (pair-row W s (at .0) (at .1)) ps → Room-for (word-row W fullShare (at′ .0) (at′ .1)) ws → Room-out ps ws m
+    module _ (i j : ℕ) (at : ℕ × ℕ) (ps : List Pair) (at′ : ℕ × ℕ) (ws : List ℕ) (m : ℕ) {n k : ℕ} (long : length ps ≡ n) (sized : length ws ≡ k)
+        (fits : m < 2 ^ 64) where
+      pub out-at : (s : Share) → γ copy-out.name ≡ copy-out.routine → Room-for (pair-row W s (at .0) (at .1)) ps
+          → Room-for (word-row W fullShare (at′ .0) (at′ .1)) ws → Room-out ps ws m
           → picked 𝓤 H A (i ∷ j ∷ []) Δ ≡ holds (pair-row W s (at .0) (at .1)) ps ∷ holds (word-row W fullShare (at′ .0) (at′ .1)) ws ∷ []
-          → On (with-back (i ∷ j ∷ []) (holds (pair-row W s (at .0) (at .1)) ps ∷ holds (word-row W fullShare (at′ .0) (at′ .1)) (laid-out ps ws m) ∷ []) Δ) next
+          → On (with-back (i ∷ j ∷ [])
+          (holds (pair-row W s (at .0) (at .1)) ps ∷ holds (word-row W fullShare (at′ .0) (at′ .1)) (laid-out ps ws m) ∷ []) Δ) next
           → On Δ (calls copy-out.name (sliceVal at n ∷ sliceVal at′ k ∷ vint w64 m ∷ []) (Unit {0}) (λ _. vunit) (λ _. next))
       out-at s named room-ps room-ws enough at-ij next-on = fronts (i ∷ j ∷ []) Δ _ at-ij (meets-call W C Λ E (atRet E Kf) free (λ ys d b cs opds land.
           copies-out (𝓜 .mem) (𝓡 .run) ! fm (cites-out 𝓤 H 𝓜 𝓖 𝓡 γ named) s (at .0) (at .1) ps (at′ .0) (at′ .1) ws m room-ps room-ws fits enough
-          (subst (λ (vs : List Val). Opds (Go {0}) W (‵ ftrue ∷ ‵ ftrue ∷ (left (i ∷ j ∷ []) Δ ++ (laid E cs ++ free))) E ys vs) (λ i. sliceVal at (sym long i) ∷ sliceVal at′ (sym sized i) ∷ vint w64 m ∷ [])
+          (subst (λ (vs : List Val). Opds (Go {0}) W (‵ ftrue ∷ ‵ ftrue ∷ (left (i ∷ j ∷ []) Δ ++ (laid E cs ++ free))) E ys vs)
+          (λ i. sliceVal at (sym long i) ∷ sliceVal at′ (sym sized i) ∷ vint w64 m ∷ [])
           (opds (‵ ftrue ∷ ‵ ftrue ∷ left (i ∷ j ∷ []) Δ))) $
-          land (holds (pair-row W s (at .0) (at .1)) ps ∷ holds (word-row W fullShare (at′ .0) (at′ .1)) (laid-out ps ws m) ∷ left (i ∷ j ∷ []) Δ) tt tt (backs (i ∷ j ∷ []) Δ (_ ∷ _ ∷ []) next-on)))
+          land (holds (pair-row W s (at .0) (at .1)) ps ∷ holds (word-row W fullShare (at′ .0) (at′ .1)) (laid-out ps ws m) ∷ left (i ∷ j ∷ []) Δ) tt tt
+          (backs (i ∷ j ∷ []) Δ (_ ∷ _ ∷ []) next-on)))
 
-      pub in-at : (s : Share) → γ copy-in.name ≡ copy-in.routine → Room-for (pair-row W fullShare (at .0) (at .1)) ps → Room-for (word-row W s (at′ .0) (at′ .1)) ws → Room-back ps ws m
+      pub in-at : (s : Share) → γ copy-in.name ≡ copy-in.routine → Room-for (pair-row W fullShare (at .0) (at .1)) ps
+          → Room-for (word-row W s (at′ .0) (at′ .1)) ws → Room-back ps ws m
           → picked 𝓤 H A (i ∷ j ∷ []) Δ ≡ holds (pair-row W fullShare (at .0) (at .1)) ps ∷ holds (word-row W s (at′ .0) (at′ .1)) ws ∷ []
-          → On (with-back (i ∷ j ∷ []) (holds (pair-row W fullShare (at .0) (at .1)) (put-back ps ws m) ∷ holds (word-row W s (at′ .0) (at′ .1)) ws ∷ []) Δ) next
+          → On (with-back (i ∷ j ∷ [])
+          (holds (pair-row W fullShare (at .0) (at .1)) (put-back ps ws m) ∷ holds (word-row W s (at′ .0) (at′ .1)) ws ∷ []) Δ) next
           → On Δ (calls copy-in.name (sliceVal at n ∷ sliceVal at′ k ∷ vint w64 m ∷ []) (Unit {0}) (λ _. vunit) (λ _. next))
       in-at s named room-ps room-ws enough at-ij next-on = fronts (i ∷ j ∷ []) Δ _ at-ij (meets-call W C Λ E (atRet E Kf) free (λ ys d b cs opds land.
           copies-in (𝓜 .mem) (𝓡 .run) ! fm (cites-in 𝓤 H 𝓜 𝓖 𝓡 γ named) (at .0) (at .1) ps s (at′ .0) (at′ .1) ws m room-ps room-ws fits enough
-          (subst (λ (vs : List Val). Opds (Go {0}) W (‵ ftrue ∷ ‵ ftrue ∷ (left (i ∷ j ∷ []) Δ ++ (laid E cs ++ free))) E ys vs) (λ i. sliceVal at (sym long i) ∷ sliceVal at′ (sym sized i) ∷ vint w64 m ∷ [])
+          (subst (λ (vs : List Val). Opds (Go {0}) W (‵ ftrue ∷ ‵ ftrue ∷ (left (i ∷ j ∷ []) Δ ++ (laid E cs ++ free))) E ys vs)
+          (λ i. sliceVal at (sym long i) ∷ sliceVal at′ (sym sized i) ∷ vint w64 m ∷ [])
           (opds (‵ ftrue ∷ ‵ ftrue ∷ left (i ∷ j ∷ []) Δ))) $
-          land (holds (pair-row W fullShare (at .0) (at .1)) (put-back ps ws m) ∷ holds (word-row W s (at′ .0) (at′ .1)) ws ∷ left (i ∷ j ∷ []) Δ) tt tt (backs (i ∷ j ∷ []) Δ (_ ∷ _ ∷ []) next-on)))
+          land (holds (pair-row W fullShare (at .0) (at .1)) (put-back ps ws m) ∷ holds (word-row W s (at′ .0) (at′ .1)) ws ∷ left (i ∷ j ∷ []) Δ) tt tt
+          (backs (i ∷ j ∷ []) Δ (_ ∷ _ ∷ []) next-on)))
 
   -- ---- n copies of x in local p: an array of the function's own, at place 0
   module _ (p n : ℕ) (R : RattleType) (P : Plain W R) (one : Single (R .mir)) where
     abbrev pub own-at : List (R .Denot) → Item 𝓤
     own-at ys = ‵ (row R fullShare ys (getD E p (noLocal 𝓤 H) .1) 0)
 
-    pub array-at : {Δ : List (Item 𝓤)} {next : Plan} (x : R .Denot) → Fits R P x → On (own-at (copies n x) ∷ Δ) next → On Δ (makes p n (lone (R .mir)) (P .val x) next)
+    pub array-at : {Δ : List (Item 𝓤)} {next : Plan} (x : R .Denot) → Fits R P x → On (own-at (copies n x) ∷ Δ) next
+        → On Δ (makes p n (lone (R .mir)) (P .val x) next)
     array-at x fits w = meets-array W C Λ E (atRet E Kf) free p n R P one x fits w
 
     pub drop-at : {Δ : List (Item 𝓤)} {next : Plan} (ys : List (R .Denot)) → length ys ≡ n → On Δ next → On (own-at ys ∷ Δ) (drops p n (lone (R .mir)) next)
     drop-at ys e w = meets-drop W C Λ E (atRet E Kf) free p n R P one ys e w
 
   -- the return: the parameters are left as ws says, and the contract speaks of r and ws
-  pub returns-at : (os : Entry.Opened pars) (ws : Entry.Lasts pars) → Entry.Fit pars ws → (R : RattleType) (P : Plain W R) (r : R .Denot) → Fits R P r → {Says : Type 0} → Says
-      → ent 𝓤 (sep 𝓤 (sep 𝓤 (sem 𝓤 H A (Entry.toks pars)) (sep 𝓤 (sem 𝓤 H A (Entry.has pars ws)) (sem 𝓤 H A (R .own r (P .val r ∷ []))))) (fact 𝓤 Says)) (Kf (P .val r))
+  pub returns-at : (os : Entry.Opened pars) (ws : Entry.Lasts pars) → Entry.Fit pars ws → (R : RattleType) (P : Plain W R) (r : R .Denot) → Fits R P r
+      → {Says : Type 0} → Says
+      → ent 𝓤 (sep 𝓤 (sep 𝓤 (sem 𝓤 H A (Entry.toks pars)) (sep 𝓤 (sem 𝓤 H A (Entry.has pars ws)) (sem 𝓤 H A (R .own r (P .val r ∷ []))))) (fact 𝓤 Says))
+      (Kf (P .val r))
       → On (Entry.after pars os ws ++ (‵ (Entry.shut pars os) ∷ [])) (gives (P .val r))
   returns-at os ws fit R P r fits says fin = meets-return W C Λ E Kf (Entry.ends pars os ws fit R P r fits (fact 𝓤 _) (factI 𝓤 _ _ says) fin)
 
 -- the whole walk
-pub chains : {M : Type 1} (𝓤 : URA M) (H : Heap 𝓤) (𝓜 : Model 𝓤 H) (𝓖 : GhostRules 𝓤 H) (𝓡 : Running 𝓤 H 𝓜) (γ : Routines) (f : Fn) (pars : List (Par (givenOf 𝓤 H 𝓜 𝓖))) (X : Val → SProp 𝓤)
+pub chains : {M : Type 1} (𝓤 : URA M) (H : Heap 𝓤) (𝓜 : Model 𝓤 H) (𝓖 : GhostRules 𝓤 H) (𝓡 : Running 𝓤 H 𝓜) (γ : Routines) (f : Fn)
+    (pars : List (Par (givenOf 𝓤 H 𝓜 𝓖))) (X : Val → SProp 𝓤)
     → All-fit (Entry.passed pars) → Takes pars X f → (plan : Places → Plan) → Does pars X f plan
-    → ((bs : Blocks (f .locals)) (os : Entry.Opened pars) → On (spot 𝓤 H 𝓜 𝓖 𝓡 γ f pars X bs) (Entry.inside pars os ++ (‵ (Entry.shut pars os) ∷ [])) (plan (env (f .locals) bs)))
+    → ((bs : Blocks (f .locals)) (os : Entry.Opened pars)
+    → On (spot 𝓤 H 𝓜 𝓖 𝓡 γ f pars X bs) (Entry.inside pars os ++ (‵ (Entry.shut pars os) ∷ [])) (plan (env (f .locals) bs)))
     → Walked pars X (table (givenOf 𝓤 H 𝓜 𝓖) 𝓜 𝓡 γ) (loops (givenOf 𝓤 H 𝓜 𝓖) 𝓜 𝓡 γ) f
-chains 𝓤 H 𝓜 𝓖 𝓡 γ f pars X fit typed plan does walk = walks (givenOf 𝓤 H 𝓜 𝓖) (table (givenOf 𝓤 H 𝓜 𝓖) 𝓜 𝓡 γ) (loops (givenOf 𝓤 H 𝓜 𝓖) 𝓜 𝓡 γ) f (λ v. H .⇛ (X v)) pars
+chains 𝓤 H 𝓜 𝓖 𝓡 γ f pars X fit typed plan does walk = walks (givenOf 𝓤 H 𝓜 𝓖) (table (givenOf 𝓤 H 𝓜 𝓖) 𝓜 𝓡 γ) (loops (givenOf 𝓤 H 𝓜 𝓖) 𝓜 𝓡 γ) f
+    (λ v. H .⇛ (X v)) pars
     (λ bs. typed-params (env (f .locals) bs) (Entry.passed pars) (typed bs) fit) (λ bs. plan (env (f .locals) bs)) does walk

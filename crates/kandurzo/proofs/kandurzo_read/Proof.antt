@@ -26,4 +26,4 @@ kandurzo-read-spec 𝓤 H 𝓜 𝓖 𝓡 =
     (λ us e. Read-on read-file (length ps) bytes ws us e) (λ s ks. on.met 𝓤 H 𝓜 𝓖 𝓡 (bound (read-args 𝓤 H 𝓜 𝓖 𝓡 code.env κs qs a are s) ks, tt))
     (λ us e said. read-enough reads-file bytes ps ws us e said) (λ us e said. read-long reads-file bytes ps ws us e said)
     _ (λ v zs fit. ends _ v zs fit) (λ us e said. read-says reads-file bytes ps ws us e said)
-    code.function (λ bs. tt) (λ bs. (tt, refl, λ e. (tt, (tt, refl, λ _. (tt, (tt, refl, λ _. (tt, (tt, tt, refl)))))))))
+    code.function (λ bs. tt) (λ bs. (tt, refl, λ e. (tt, (tt, refl, λ _. (tt, (tt, refl, λ _. (tt, (tt, refl)))))))))

@@ -14,9 +14,10 @@ use Rattle.kandurzo.proofs.kandurzo_remove.Code as code
 pub kandurzo-remove-spec : {M : Type 1} → stated.statement M
 unfolding code.routine
 kandurzo-remove-spec 𝓤 H 𝓜 𝓖 𝓡 =
-    states 𝓤 H 𝓜 𝓖 𝓡 code.env f.ended (kinds-of edit-forms) (f.clauses 𝓤 H (𝓖 .A) (𝓜 .mem) (𝓡 .run)) key.name code.function (code.unfolded 𝓤 H 𝓜 𝓡) (λ κs qs bounds a g are ends.
+    states 𝓤 H 𝓜 𝓖 𝓡 code.env f.ended (kinds-of edit-forms) (f.clauses 𝓤 H (𝓖 .A) (𝓜 .mem) (𝓡 .run)) key.name code.function (code.unfolded 𝓤 H 𝓜 𝓡)
+    (λ κs qs bounds a g are ends.
     meets-editor remove-change 𝓤 H 𝓜 𝓖 𝓡 code.env κs qs a are _ code.calls-kandurzo·edits·remove-on-words
     code.calls-records·agree code.calls-kandurzo·edits·records-out code.calls-records·copy-out code.calls-records·copy-in
     (λ l ks. on.met 𝓤 H 𝓜 𝓖 𝓡 (bound (change-args remove-change 𝓤 H 𝓜 𝓖 𝓡 code.env κs qs a are l) ks, tt))
     _ (λ v zs fit. ends _ v zs fit) code.function (λ bs. tt)
-    (λ bs. (tt, refl, λ _. (tt, (tt, refl, (tt, refl, λ _. (tt, (tt, refl, λ _. (tt, (tt, refl, λ _. (tt, (tt, refl, λ _. (tt, (tt, refl, (tt, tt, refl)))))))))))))))
+    (λ bs. (tt, refl, λ _. (tt, (tt, refl, (tt, refl, λ _. (tt, (tt, refl, λ _. (tt, (tt, refl, λ _. (tt, (tt, refl, λ _. (tt, (refl, (tt, refl)))))))))))))))
