@@ -1,29 +1,20 @@
 -- `add_100` meets its contract: the walk of `Walk`, at 100 records and `add`. Assumes nothing.
 use lib.Dec.{lit≤}
-use mir.Syntax.{int, w64}
-use contract.Running.{givenOf, tables, tablesOf}
-use types.Run.{lit}
-use denote.Triple.Spec.{tripleOf}
-use denote.Triple.Table.{entered, cited}
-use Rattle.records.proofs.Cited.{cites-out, cites-in}
-use Rattle.kandurzo.specs.Listing.{Add-says}
-use Rattle.kandurzo.proofs.kandurzo_add.Symbol as call-def
-use Rattle.kandurzo.proofs.kandurzo_add.Symbol.{name as #call}
-use Rattle.kandurzo.proofs.kandurzo_add.Met as call-thm
+use Rattle.kandurzo.proofs.kandurzo_add.Met as call
 use Rattle.kandurzo.proofs.Outcomes.{add-outcome}
-use Rattle.editing.proofs.Walk.{meets}
-use Rattle.editing.proofs.add_100.Key.{name as #this}
+use Rattle.editing.specs.Lent.{Holds-records}
+use Rattle.editing.proofs.Walk.{refl, bound, needs, kinds-of, states-asking, edit-forms, call-args, meets-edit}
+use Rattle.editing.proofs.add_100.Key as key
 use Rattle.editing.proofs.add_100 as f
 use Rattle.editing.proofs.add_100.Statement as stated
 use Rattle.editing.proofs.add_100.Code as code
 
 pub add-100-spec : {M : Type 1} → stated.statement M
-unfolding code.routine tablesOf
+unfolding code.routine
 add-100-spec 𝓤 H 𝓜 𝓖 𝓡 =
-    entered 𝓤 H (tripleOf 𝓤 H (𝓖 .A) f.signature (f.spec 𝓤 H (𝓖 .A) (𝓜 .mem) (𝓡 .run)))
-    (tables 𝓤 H 𝓜 𝓡 code.env .C) (tables 𝓤 H 𝓜 𝓡 code.env .Λ) #this code.function (code.unfolded 𝓤 H 𝓜 𝓡)
-    (meets 100 (lit≤ tt) (int w64 100) #call Add-says add-outcome
-    𝓤 H (𝓖 .A) (givenOf 𝓤 H 𝓜 𝓖) (𝓜 .mem) (𝓡 .run) (tablesOf 𝓤 H 𝓜 (tables 𝓤 H 𝓜 𝓡 code.env)) (λ K Γ E t. lit t tt)
-    (cites-in 𝓤 H 𝓜 𝓖 𝓡 code.env code.calls-records·copy-in)
-    (cites-out 𝓤 H 𝓜 𝓖 𝓡 code.env code.calls-records·copy-out)
-    (cited 𝓤 H _ 𝓜 𝓡 code.env #call call-def.routine code.calls-kandurzo·kandurzo-add (call-thm.met 𝓤 H 𝓜 𝓖 𝓡)))
+    states-asking 𝓤 H 𝓜 𝓖 𝓡 code.env f.ended (kinds-of edit-forms) (f.clauses 𝓤 H (𝓖 .A) (𝓜 .mem) (𝓡 .run)) key.name code.function (code.unfolded 𝓤 H 𝓜 𝓡)
+    (λ κs qs bounds a g are ends. needs 𝓤 (Holds-records 100 (a .1 .0 .now)) _ (λ has.
+    meets-edit 100 (lit≤ tt) add-outcome 𝓤 H 𝓜 𝓖 𝓡 code.env κs qs a are has _ code.calls-kandurzo·kandurzo-add code.calls-records·copy-in code.calls-records·copy-out
+    (λ l ks. call.met 𝓤 H 𝓜 𝓖 𝓡 (bound (call-args 100 (lit≤ tt) add-outcome 𝓤 H 𝓜 𝓖 𝓡 code.env κs qs a are l) ks, tt))
+    _ (λ v zs fit. ends _ v zs fit) code.function (λ bs. tt)
+    (λ bs. (tt, refl, (tt, refl, λ _. (tt, (tt, refl, λ _. (tt, (tt, refl, λ _. (tt, (refl, (tt, refl))))))))))))

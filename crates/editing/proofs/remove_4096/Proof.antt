@@ -1,29 +1,20 @@
 -- `remove_4096` meets its contract: the walk of `Walk`, at 4096 records and `remove`. Assumes nothing.
-use lib.Dec.{lit<, lit≤}
-use mir.Syntax.{intBig, w64}
-use contract.Running.{givenOf, tables, tablesOf}
-use Rattle.records.proofs.Frame.{big-lit}
-use denote.Triple.Spec.{tripleOf}
-use denote.Triple.Table.{entered, cited}
-use Rattle.records.proofs.Cited.{cites-out, cites-in}
-use Rattle.kandurzo.specs.Listing.{Remove-says}
-use Rattle.kandurzo.proofs.kandurzo_remove.Symbol as call-def
-use Rattle.kandurzo.proofs.kandurzo_remove.Symbol.{name as #call}
-use Rattle.kandurzo.proofs.kandurzo_remove.Met as call-thm
+use lib.Dec.{lit≤}
+use Rattle.kandurzo.proofs.kandurzo_remove.Met as call
 use Rattle.kandurzo.proofs.Outcomes.{remove-outcome}
-use Rattle.editing.proofs.Walk.{meets}
-use Rattle.editing.proofs.remove_4096.Key.{name as #this}
+use Rattle.editing.specs.Lent.{Holds-records}
+use Rattle.editing.proofs.Walk.{refl, bound, needs, kinds-of, states-asking, edit-forms, call-args, meets-edit}
+use Rattle.editing.proofs.remove_4096.Key as key
 use Rattle.editing.proofs.remove_4096 as f
 use Rattle.editing.proofs.remove_4096.Statement as stated
 use Rattle.editing.proofs.remove_4096.Code as code
 
 pub remove-4096-spec : {M : Type 1} → stated.statement M
-unfolding code.routine tablesOf
+unfolding code.routine
 remove-4096-spec 𝓤 H 𝓜 𝓖 𝓡 =
-    entered 𝓤 H (tripleOf 𝓤 H (𝓖 .A) f.signature (f.spec 𝓤 H (𝓖 .A) (𝓜 .mem) (𝓡 .run)))
-    (tables 𝓤 H 𝓜 𝓡 code.env .C) (tables 𝓤 H 𝓜 𝓡 code.env .Λ) #this code.function (code.unfolded 𝓤 H 𝓜 𝓡)
-    (meets 4096 (lit≤ tt) (intBig w64 4096) #call Remove-says remove-outcome
-    𝓤 H (𝓖 .A) (givenOf 𝓤 H 𝓜 𝓖) (𝓜 .mem) (𝓡 .run) (tablesOf 𝓤 H 𝓜 (tables 𝓤 H 𝓜 𝓡 code.env)) (λ K Γ E t. big-lit t (lit< tt))
-    (cites-in 𝓤 H 𝓜 𝓖 𝓡 code.env code.calls-records·copy-in)
-    (cites-out 𝓤 H 𝓜 𝓖 𝓡 code.env code.calls-records·copy-out)
-    (cited 𝓤 H _ 𝓜 𝓡 code.env #call call-def.routine code.calls-kandurzo·kandurzo-remove (call-thm.met 𝓤 H 𝓜 𝓖 𝓡)))
+    states-asking 𝓤 H 𝓜 𝓖 𝓡 code.env f.ended (kinds-of edit-forms) (f.clauses 𝓤 H (𝓖 .A) (𝓜 .mem) (𝓡 .run)) key.name code.function (code.unfolded 𝓤 H 𝓜 𝓡)
+    (λ κs qs bounds a g are ends. needs 𝓤 (Holds-records 4096 (a .1 .0 .now)) _ (λ has.
+    meets-edit 4096 (lit≤ tt) remove-outcome 𝓤 H 𝓜 𝓖 𝓡 code.env κs qs a are has _ code.calls-kandurzo·kandurzo-remove code.calls-records·copy-in code.calls-records·copy-out
+    (λ l ks. call.met 𝓤 H 𝓜 𝓖 𝓡 (bound (call-args 4096 (lit≤ tt) remove-outcome 𝓤 H 𝓜 𝓖 𝓡 code.env κs qs a are l) ks, tt))
+    _ (λ v zs fit. ends _ v zs fit) code.function (λ bs. tt)
+    (λ bs. (tt, refl, (tt, refl, λ _. (tt, (tt, refl, λ _. (tt, (tt, refl, λ _. (tt, (refl, (tt, refl))))))))))))
