@@ -28,7 +28,7 @@ use Rattle.records.proofs.Copies.{length-ends-of, length-laid-out, laid-out-non
 use Rattle.kandurzo.specs.declared.Changed.{Changed}
 use Rattle.kandurzo.specs.declared.Solved.{Solved}
 use Rattle.kandurzo.specs.Buffers.{buffer, any-short, work-words}
-use Rattle.kandurzo.specs.Gate.{gate-causes, gate-number}
+use Rattle.kandurzo.specs.Gate.{gate-number}
 use Rattle.kandurzo.specs.Listing.{head-of}
 use Rattle.kandurzo.specs.Reading.{read-buffers, read-outcome, read-head, records-front, Read-call}
 use Rattle.kandurzo.specs.Solving.{solve-buffers, solve-call-causes, declined, Handed, Solve-call}
@@ -67,9 +67,9 @@ out-past ps ws m room long =
     }
 
 -- nothing is refused by the gate where head and list agree and no buffer is short
-gate-none : (h : Head) (ps : List Pair) (short : Bool) → agrees h ps ≡ true → short ≡ false → gate-number h ps short ≡ 0
-unfolding gate-number gate-causes refusal cause
-gate-none h ps short agreed enough = simp (agreed, enough)
+gate-none : (agreed short : Bool) → agreed ≡ true → short ≡ false → gate-number agreed short ≡ 0
+unfolding gate-number refusal cause
+gate-none t short agreed enough = simp (agreed, enough)
 
 module _ (bytes : List ℕ) (ps : List Pair) (work : List ℕ) (list-long : length ps ≡ 4096) (work-long : length work ≡ 16384)
     (file : Changed) (ps′ : List Pair) (work′ : List ℕ) (work-kept : length work′ ≡ 16384) (says : Read-call read-file bytes ps work file ps′ work′) where
@@ -162,8 +162,8 @@ module _ (bytes : List ℕ) (ps : List Pair) (work : List ℕ) (list-long : leng
           )
 
       solved : found .number ≡ 0
-      unfolding solve-call-causes gate-number gate-causes
-      solved = finds .number .outright ∙ gate-none h ps′ short (agreed g e) enough
+      unfolding solve-call-causes gate-number
+      solved = finds .number .outright ∙ gate-none (agrees h ps′) short (agreed g e) enough
 
       handed : Handed g members cores shares found members′ cores′ shares′
       handed = subst (λ (u : Pairs). Handed u members cores shares found members′ cores′ shares′) (held-as g e) (finds .handed solved)
@@ -200,15 +200,15 @@ module _ (bytes : List ℕ) (ps : List Pair) (work : List ℕ) (list-long : leng
 
     module _ (k : ℕ) (e : read-file 4096 bytes ≡ refused k) where
       -- the head 0,0 agrees with no list
-      shut : gate-number h ps′ short ≡ 0 → ⊥
+      shut : gate-number (agrees h ps′) short ≡ 0 → ⊥
       unfolding head-of held-list
       shut z =
           let n-none : h .n ≡ 0 = ap (λ (u : Head). u .n) (none-read k e) in
-          let l : Listed (held-list h ps′) = listed (held-list h ps′) (held-is-list h ps′ (gate-open h ps′ short z .0)) in
+          let l : Listed (held-list h ps′) = listed (held-list h ps′) (held-is-list h ps′ (gate-open (agrees h ps′) short z .0)) in
           omega (arith, l .some, n-none)
 
       declines : (found ≡ declined (found .number)) × (members′ ≡ members) × (cores′ ≡ cores) × (shares′ ≡ shares)
-      unfolding solve-call-causes gate-number gate-causes
+      unfolding solve-call-causes gate-number
       declines = finds .refused (λ z. shut (sym (finds .number .outright) ∙ z))
 
       answer-none : answer-of file found ≡ refusal-of k

@@ -42,7 +42,7 @@ fn judged(a: Altered, words: &[u32], bytes: &[u8], sheet: &[u16], buffer: &mut [
 
 // One line: the sheet as it is altered, and what check says.
 pub(crate) fn tried(name: &[u8], due: u32, a: Altered) {
-    let mut words = [0u32; 8192];
+    let mut words = [0u32; 12288];
     let mut bytes = [1u8; 512];
     let mut sheet = [5u16; 4096];
     let mut buffer = [7u32; 16400];

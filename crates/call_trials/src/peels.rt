@@ -65,7 +65,7 @@ fn print_six(label: &[u8], entries: &[u16]) {
 
 // One line: what peel says and writes.
 pub(crate) fn tried(name: &[u8], due: u32, a: Altered) {
-    let mut words = [0u32; 8192];
+    let mut words = [0u32; 12288];
     let mut order = [7u16; 8];
     let mut cores = [7u16; 8];
     let mut buffer = [7u32; 16400];

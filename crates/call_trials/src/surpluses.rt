@@ -64,7 +64,7 @@ fn print_line(name: &[u8], due: u32, value: i64, difference: Difference) {
 
 // One line: what surplus says, beside the number and the value due.
 pub(crate) fn tried(name: &[u8], due: u32, value: i64, a: Altered) {
-    let mut words = [0u32; 8192];
+    let mut words = [0u32; 12288];
     let mut firsts = [0u8; 8];
     let mut seconds = [0u8; 8];
     lent::tail(a.damage, &mut words);

@@ -368,7 +368,7 @@ fn put_changed(text: &mut [u8], answer: Changed) -> usize {
 
 // What read makes of the bytes, of the list and of the work buffer.
 fn put_read(text: &mut [u8], bytes: &[u8], work: &mut [u32]) -> usize {
-    let mut words = [0u32; 200];
+    let mut words = [0u32; 12288];
     let answer = read_100(bytes, &mut words, work);
     let head = put_changed(text, answer);
     let list = put_list(text, head, &words);
@@ -410,7 +410,7 @@ fn share(x: u32) -> u16 {
 }
 
 fn try_sheet(line: &[u8], text: &mut [u8]) -> Given {
-    let mut words = [0u32; 8192];
+    let mut words = [0u32; 12288];
     let mut work = [0u32; 16384];
     let first = number_at(line, 0);
     let second = number_at(line, first.next);

@@ -39,9 +39,10 @@ enum Altered {
     Own,
 }
 
-// How a run goes: modules, steps of adds alone, steps of both, what is altered.
+// How a run goes: modules, records of the list, steps of adds alone, steps of both, what is altered.
 struct Plan {
     n: u32,
+    len: u32,
     adds: u32,
     mixed: u32,
     altered: Altered,
@@ -167,21 +168,70 @@ fn own_call(
     );
     let after = answer.head;
     note(answers(own, answer.number, after.n, wide(after.m)), tally);
-    note(same_words(list.len(), list, other), tally);
+    note(same_words(words::first_of(100), list, other), tally);
     bump(tally, 6);
 }
 
-// The call by value, and on lists of 100 records the other too.
-fn call(altered: Altered, ask: Ask, head: Head, list: &mut [u32], tally: &mut [u32]) -> Changed {
-    let mut other = [0u32; 200];
+// Both calls on a list of 100 records: by value, and on a head of its own with a copy of the list.
+fn both_calls(
+    altered: Altered,
+    ask: Ask,
+    head: Head,
+    list: &mut [u32],
+    tally: &mut [u32],
+) -> Changed {
+    let mut other = [0u32; 12288];
     words::copy(list, &mut other);
-    let answer = editing::edit_words(ask.adds, head, list, ask.a, ask.b);
-    if list.len() == 200 {
-        own_call(altered, ask, head, answer, &mut other, list, tally);
-    }
+    let answer = editing::edit_words(ask.adds, 100, head, list, ask.a, ask.b);
+    own_call(altered, ask, head, answer, &mut other, list, tally);
     answer
 }
 
+// The call by value, and on lists of 100 records the other too.
+fn call(
+    altered: Altered,
+    len: u32,
+    ask: Ask,
+    head: Head,
+    list: &mut [u32],
+    tally: &mut [u32],
+) -> Changed {
+    if len == 100 {
+        return both_calls(altered, ask, head, list, tally);
+    }
+    editing::edit_words(ask.adds, wide(len), head, list, ask.a, ask.b)
+}
+
+// The model's answer to a step.
+fn due(plan: Plan, ask: Ask, count: usize, table: &[u8]) -> u32 {
+    if ask.adds {
+        return model::add_number(table, plan.n, count, wide(plan.len), ask.a, ask.b);
+    }
+    model::remove_number(table, plan.n, ask.a, ask.b)
+}
+
+// Makes the step: the answer must be this number, with `count` pairs. The head after it.
+fn made(
+    plan: Plan,
+    ask: Ask,
+    before: Head,
+    number: u32,
+    count: usize,
+    list: &mut [u32],
+    tally: &mut [u32],
+) -> Head {
+    let altered = plan.altered;
+    let answer = call(altered, plan.len, ask, before, list, tally);
+    note(
+        answers(altered_answer(altered, answer), number, plan.n, count),
+        tally,
+    );
+    bump(tally, 1);
+    bump(tally, wide(number));
+    answer.head
+}
+
+// A step, on the model and on the list.
 fn step(
     plan: Plan,
     adds: bool,
@@ -192,24 +242,11 @@ fn step(
     tally: &mut [u32],
 ) -> Run {
     let ask = drawn(plan.n, adds, run, list);
-    let len = list.len() / 2;
-    let mut number = model::remove_number(table, plan.n, ask.a, ask.b);
-    if adds {
-        number = model::add_number(table, plan.n, run.count, len, ask.a, ask.b);
-    }
+    let number = due(plan, ask, run.count, table);
     let count = modelled(number, ask, run.count, table, expected);
     let before = run.head;
-    let altered = plan.altered;
-    let answer = call(altered, ask, before, list, tally);
-    note(
-        answers(altered_answer(altered, answer), number, plan.n, count),
-        tally,
-    );
-    bump(tally, 1);
-    bump(tally, wide(number));
-    let head = answer.head;
     Run {
-        head,
+        head: made(plan, ask, before, number, count, list, tally),
         count,
         state: ask.state,
     }
@@ -238,7 +275,10 @@ fn look(
     let altered = plan.altered;
     alter_records(altered, expected);
     note(held == count, tally);
-    note(same_words(list.len(), list, expected), tally);
+    note(
+        same_words(words::first_of(wide(plan.len)), list, expected),
+        tally,
+    );
     bump(tally, 2);
 }
 
@@ -344,16 +384,16 @@ fn spoil(way: u32, n: u32, list: &mut [u32]) {
 }
 
 // A call that must be refused by 13, with head and list as before.
-fn refused(adds: bool, head: Head, list: &mut [u32], before: &[u32], tally: &mut [u32]) {
+fn refused(adds: bool, len: u32, head: Head, list: &mut [u32], before: &[u32], tally: &mut [u32]) {
     let ask = Ask {
         adds,
         a: 0,
         b: 1,
         state: 0,
     };
-    let answer = call(Altered::Nothing, ask, head, list, tally);
+    let answer = call(Altered::Nothing, len, ask, head, list, tally);
     note(answers(answer, 13, head.n, wide(head.m)), tally);
-    note(same_words(list.len(), list, before), tally);
+    note(same_words(words::first_of(wide(len)), list, before), tally);
     bump(tally, 1);
     bump(tally, 2);
     bump(tally, 13);
@@ -373,8 +413,8 @@ fn disagree(
     spoil(way, head.n, list);
     words::copy(list, before);
     let bad = bad_head(way, head, len);
-    refused(true, bad, list, before, tally);
-    refused(false, bad, list, before, tally);
+    refused(true, len, bad, list, before, tally);
+    refused(false, len, bad, list, before, tally);
 }
 
 // How many ways there are at m pairs: they need two.
@@ -440,51 +480,16 @@ fn grow(plan: Plan, run: Run, expected: &mut [u32], list: &mut [u32], tally: &mu
     end
 }
 
-// A run on a list of `len` records; the random state after it.
-fn course(
-    plan: Plan,
-    len: u32,
-    state: u32,
-    expected: &mut [u32],
-    before: &mut [u32],
-    list: &mut [u32],
-    tally: &mut [u32],
-) -> u32 {
-    let run = begin(plan.n, state, expected, list, tally);
-    let end = grow(plan, run, expected, list, tally);
+// A run on a list of its own; the random state after it.
+fn course(plan: Plan, state: u32, tally: &mut [u32]) -> u32 {
+    let mut expected = [0u32; 12288];
+    let mut before = [0u32; 12288];
+    let mut list = [0u32; 12288];
+    let run = begin(plan.n, state, &mut expected, &mut list, tally);
+    let end = grow(plan, run, &mut expected, &mut list, tally);
     let head = end.head;
-    every_way(head, len, expected, before, list, tally);
+    every_way(head, plan.len, &expected, &mut before, &mut list, tally);
     end.state
-}
-
-fn on_4096(plan: Plan, state: u32, tally: &mut [u32]) -> u32 {
-    let mut expected = [0u32; 8192];
-    let mut before = [0u32; 8192];
-    let mut list = [0u32; 8192];
-    course(
-        plan,
-        4096,
-        state,
-        &mut expected,
-        &mut before,
-        &mut list,
-        tally,
-    )
-}
-
-fn on_100(plan: Plan, state: u32, tally: &mut [u32]) -> u32 {
-    let mut expected = [0u32; 200];
-    let mut before = [0u32; 200];
-    let mut list = [0u32; 200];
-    course(
-        plan,
-        100,
-        state,
-        &mut expected,
-        &mut before,
-        &mut list,
-        tally,
-    )
 }
 
 fn field(label: &[u8], value: u32) {
@@ -508,27 +513,20 @@ fn line(name: &[u8], tally: &[u32]) {
     io::write_all(1, b"\n");
 }
 
-// A run on a list of 100 records, or of 4,096.
-fn on_either(short: bool, plan: Plan, state: u32, tally: &mut [u32]) -> u32 {
-    if short {
-        return on_100(plan, state, tally);
-    }
-    on_4096(plan, state, tally)
-}
-
 // Lists of every number of modules from 2 to below `past`.
-fn every_size(name: &[u8], past: u32, short: bool, adds: u32, mixed: u32) {
+fn every_size(name: &[u8], past: u32, len: u32, adds: u32, mixed: u32) {
     let mut tally = [0u32; 16];
     let mut state = 2463534242;
     let mut n = 2;
     while n < past {
         let plan = Plan {
             n,
+            len,
             adds,
             mixed,
             altered: Altered::Nothing,
         };
-        state = on_either(short, plan, state, &mut tally);
+        state = course(plan, state, &mut tally);
         n += 1;
     }
     line(name, &tally);
@@ -537,9 +535,10 @@ fn every_size(name: &[u8], past: u32, short: bool, adds: u32, mixed: u32) {
 // One long run on 4,096 records.
 fn long(name: &[u8], n: u32, adds: u32, mixed: u32) {
     let mut tally = [0u32; 16];
-    on_4096(
+    course(
         Plan {
             n,
+            len: 4096,
             adds,
             mixed,
             altered: Altered::Nothing,
@@ -553,9 +552,10 @@ fn long(name: &[u8], n: u32, adds: u32, mixed: u32) {
 // A run in which something is altered.
 fn altered_run(name: &[u8], altered: Altered) {
     let mut tally = [0u32; 16];
-    on_100(
+    course(
         Plan {
             n: 20,
+            len: 100,
             adds: 100,
             mixed: 100,
             altered,
@@ -567,9 +567,9 @@ fn altered_run(name: &[u8], altered: Altered) {
 }
 
 fn main() {
-    every_size(b"4,096 records, 2 to 512 modules", 513, false, 6, 10);
+    every_size(b"4,096 records, 2 to 512 modules", 513, 4096, 6, 10);
     // these fill up
-    every_size(b"100 records, 2 to 40 modules", 41, true, 250, 100);
+    every_size(b"100 records, 2 to 40 modules", 41, 100, 250, 100);
     long(b"4,096 records filled, 512 modules", 512, 9000, 2000);
     long(b"4,096 records filled, 100 modules", 100, 20000, 2000);
     altered_run(b"number altered", Altered::Number);

@@ -1,4 +1,4 @@
-// Records in words, two words a record; an index past the end writes nothing.
+// The numbers of records in words, two words a record; an index past the end writes nothing.
 use lists::put_word;
 use lists::word_at;
 

@@ -2,5 +2,3 @@
 pub mod Lent
 pub mod Own
 pub mod Walk
-pub mod Full
-pub mod Whole

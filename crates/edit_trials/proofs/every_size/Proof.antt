@@ -7,19 +7,19 @@ use Rattle.edit_trials.proofs.every_size.Statement.{statement}
 use Rattle.edit_trials.proofs.every_size.Tie as tie
 
 abbrev Inv-loop : tie.InvT-loop
-Inv-loop name past short adds mixed tally₀ state₀ n₀ tally state n = length tally ≡ 16
+Inv-loop name past len adds mixed tally₀ state₀ n₀ tally state n = length tally ≡ 16
 
 abbrev μ-loop : tie.MeasureT-loop
-μ-loop name past short adds mixed tally₀ state₀ n₀ tally state n = past - n
+μ-loop name past len adds mixed tally₀ state₀ n₀ tally state n = past - n
 
 loop-holds : tie.Need-loop-holds Inv-loop μ-loop
 loop-holds c = search needs
 
-slice-aggregate-on-either : tie.Need-slice-aggregate-on-either Inv-loop μ-loop
-slice-aggregate-on-either c = search needs
+slice-aggregate-course : tie.Need-slice-aggregate-course Inv-loop μ-loop
+slice-aggregate-course c = search needs
 
-on-either-requires : tie.Need-on-either-requires Inv-loop μ-loop
-on-either-requires c κs = search needs
+course-requires : tie.Need-course-requires Inv-loop μ-loop
+course-requires c κs = search needs
 
 add-n : tie.Need-add-n Inv-loop μ-loop
 add-n c = search needs
@@ -46,8 +46,8 @@ every-size-spec =
     Inv-loop
     μ-loop
     loop-holds
-    slice-aggregate-on-either
-    on-either-requires
+    slice-aggregate-course
+    course-requires
     add-n
     loop-less
     loop-again

@@ -1,14 +1,9 @@
--- `add_4096` meets its contract: the walk of `Walk`, at `kandurzo_add`. Assumes nothing.
-use mathlib.Core.Path.{refl}
+-- `add_4096` meets its contract: the walk of `Walk`, at 4096 records and `add`. Assumes nothing.
 use lib.Dec.{lit≤}
-use denote.Triple.Walked.{needs}
-use Rattle.records.proofs.Calls.{bound}
-use Rattle.records.proofs.Forms.{kinds-of}
-use Rattle.records.proofs.Stated.{states-asking}
-use Rattle.kandurzo.specs.Listing.{Add-says}
-use Rattle.kandurzo.proofs.kandurzo_add.Met as on
-use Rattle.editing.specs.Lent.{Holds}
-use Rattle.editing.proofs.Walk.{through-forms, through-args, meets-through}
+use Rattle.kandurzo.proofs.kandurzo_add.Met as call
+use Rattle.kandurzo.proofs.Outcomes.{add-outcome}
+use Rattle.editing.specs.Lent.{Holds-records}
+use Rattle.editing.proofs.Walk.{refl, bound, needs, kinds-of, states-asking, edit-forms, call-args, meets-edit}
 use Rattle.editing.proofs.add_4096.Key as key
 use Rattle.editing.proofs.add_4096 as f
 use Rattle.editing.proofs.add_4096.Statement as stated
@@ -17,10 +12,9 @@ use Rattle.editing.proofs.add_4096.Code as code
 pub add-4096-spec : {M : Type 1} → stated.statement M
 unfolding code.routine
 add-4096-spec 𝓤 H 𝓜 𝓖 𝓡 =
-    states-asking 𝓤 H 𝓜 𝓖 𝓡 code.env f.ended (kinds-of through-forms) (f.clauses 𝓤 H (𝓖 .A) (𝓜 .mem) (𝓡 .run))
-    key.name code.function (code.unfolded 𝓤 H 𝓜 𝓡) (λ κs qs bounds a g are ends. needs 𝓤 (Holds 4096 (a .1 .0 .now)) _ (λ has.
-    meets-through Add-says 4096
-    (lit≤ tt) 𝓤 H 𝓜 𝓖 𝓡 code.env κs qs a are has _ code.calls-kandurzo·kandurzo-add code.calls-records·copy-in code.calls-records·copy-out
-    (λ l ks. on.met 𝓤 H 𝓜 𝓖 𝓡 (bound (through-args Add-says 4096 (lit≤ tt) 𝓤 H 𝓜 𝓖 𝓡 code.env κs qs a are has l) ks, tt))
-    _ (λ v zs fit. ends _ v zs fit)
-    code.function (λ bs. tt) (λ bs. (tt, refl, (tt, refl, λ _. (tt, (tt, refl, λ r. (tt, (tt, refl, λ _. (tt, (refl, (tt, refl))))))))))))
+    states-asking 𝓤 H 𝓜 𝓖 𝓡 code.env f.ended (kinds-of edit-forms) (f.clauses 𝓤 H (𝓖 .A) (𝓜 .mem) (𝓡 .run)) key.name code.function (code.unfolded 𝓤 H 𝓜 𝓡)
+    (λ κs qs bounds a g are ends. needs 𝓤 (Holds-records 4096 (a .1 .0 .now)) _ (λ has.
+    meets-edit 4096 (lit≤ tt) add-outcome 𝓤 H 𝓜 𝓖 𝓡 code.env κs qs a are has _ code.calls-kandurzo·kandurzo-add code.calls-records·copy-in code.calls-records·copy-out
+    (λ l ks. call.met 𝓤 H 𝓜 𝓖 𝓡 (bound (call-args 4096 (lit≤ tt) add-outcome 𝓤 H 𝓜 𝓖 𝓡 code.env κs qs a are l) ks, tt))
+    _ (λ v zs fit. ends _ v zs fit) code.function (λ bs. tt)
+    (λ bs. (tt, refl, (tt, refl, λ _. (tt, (tt, refl, λ _. (tt, (tt, refl, λ _. (tt, (refl, (tt, refl))))))))))))

@@ -1,14 +1,9 @@
--- `remove_4096` meets its contract: the walk of `Walk`, at `kandurzo_remove`. Assumes nothing.
-use mathlib.Core.Path.{refl}
+-- `remove_4096` meets its contract: the walk of `Walk`, at 4096 records and `remove`. Assumes nothing.
 use lib.Dec.{lit≤}
-use denote.Triple.Walked.{needs}
-use Rattle.records.proofs.Calls.{bound}
-use Rattle.records.proofs.Forms.{kinds-of}
-use Rattle.records.proofs.Stated.{states-asking}
-use Rattle.kandurzo.specs.Listing.{Remove-says}
-use Rattle.kandurzo.proofs.kandurzo_remove.Met as on
-use Rattle.editing.specs.Lent.{Holds}
-use Rattle.editing.proofs.Walk.{through-forms, through-args, meets-through}
+use Rattle.kandurzo.proofs.kandurzo_remove.Met as call
+use Rattle.kandurzo.proofs.Outcomes.{remove-outcome}
+use Rattle.editing.specs.Lent.{Holds-records}
+use Rattle.editing.proofs.Walk.{refl, bound, needs, kinds-of, states-asking, edit-forms, call-args, meets-edit}
 use Rattle.editing.proofs.remove_4096.Key as key
 use Rattle.editing.proofs.remove_4096 as f
 use Rattle.editing.proofs.remove_4096.Statement as stated
@@ -17,10 +12,9 @@ use Rattle.editing.proofs.remove_4096.Code as code
 pub remove-4096-spec : {M : Type 1} → stated.statement M
 unfolding code.routine
 remove-4096-spec 𝓤 H 𝓜 𝓖 𝓡 =
-    states-asking 𝓤 H 𝓜 𝓖 𝓡 code.env f.ended (kinds-of through-forms) (f.clauses 𝓤 H (𝓖 .A) (𝓜 .mem) (𝓡 .run))
-    key.name code.function (code.unfolded 𝓤 H 𝓜 𝓡) (λ κs qs bounds a g are ends. needs 𝓤 (Holds 4096 (a .1 .0 .now)) _ (λ has.
-    meets-through Remove-says 4096
-    (lit≤ tt) 𝓤 H 𝓜 𝓖 𝓡 code.env κs qs a are has _ code.calls-kandurzo·kandurzo-remove code.calls-records·copy-in code.calls-records·copy-out
-    (λ l ks. on.met 𝓤 H 𝓜 𝓖 𝓡 (bound (through-args Remove-says 4096 (lit≤ tt) 𝓤 H 𝓜 𝓖 𝓡 code.env κs qs a are has l) ks, tt))
-    _ (λ v zs fit. ends _ v zs fit)
-    code.function (λ bs. tt) (λ bs. (tt, refl, (tt, refl, λ _. (tt, (tt, refl, λ r. (tt, (tt, refl, λ _. (tt, (refl, (tt, refl))))))))))))
+    states-asking 𝓤 H 𝓜 𝓖 𝓡 code.env f.ended (kinds-of edit-forms) (f.clauses 𝓤 H (𝓖 .A) (𝓜 .mem) (𝓡 .run)) key.name code.function (code.unfolded 𝓤 H 𝓜 𝓡)
+    (λ κs qs bounds a g are ends. needs 𝓤 (Holds-records 4096 (a .1 .0 .now)) _ (λ has.
+    meets-edit 4096 (lit≤ tt) remove-outcome 𝓤 H 𝓜 𝓖 𝓡 code.env κs qs a are has _ code.calls-kandurzo·kandurzo-remove code.calls-records·copy-in code.calls-records·copy-out
+    (λ l ks. call.met 𝓤 H 𝓜 𝓖 𝓡 (bound (call-args 4096 (lit≤ tt) remove-outcome 𝓤 H 𝓜 𝓖 𝓡 code.env κs qs a are l) ks, tt))
+    _ (λ v zs fit. ends _ v zs fit) code.function (λ bs. tt)
+    (λ bs. (tt, refl, (tt, refl, λ _. (tt, (tt, refl, λ _. (tt, (tt, refl, λ _. (tt, (refl, (tt, refl))))))))))))
