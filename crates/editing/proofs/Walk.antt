@@ -161,7 +161,7 @@ module _ (len : ℕ) (few : len ≤ 4096) {Says : Call} (decides : (h : Head) (p
         -- let mut list = [Pair { a: 0, b: 0 }; len]; copy_in(&mut list, words, len)
         lends-at here 5 len few fullShare (a .1 .0 .ptr) us (are .1 .0 .0 .1) has is-in
         -- let answer = add(head, &mut list, a, b), or another
-        (outright-at here (0 ∷ []) (call-args l) D.the-row (plain-changed W) (outcome .answer) (tt, (outcome .left, (tt, (tt, tt))))
+        (outright-at here (call-args l) D.the-row (plain-changed W) (0 ∷ []) (outcome .answer) (tt, (outcome .left, (tt, (tt, tt))))
         (λ r zs e. let only = outcome .only r (zs .1 .0) e in (only .0, λ i. (tt, (only .1 i, (tt, (tt, tt)))))) refl
         (ap (λ (n : ℕ). call-vals (sliceVal l n)) (sym ps-long)) (id⊢ 𝓤 _) is-call (met l) (λ fits kept.
         let long : length (outcome .left) ≡ len = kept .0 ∙ ps-long in

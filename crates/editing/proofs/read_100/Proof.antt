@@ -105,7 +105,7 @@ module _ {M : Type 1} (𝓤 : URA M) (H : Heap 𝓤) (𝓜 : Model 𝓤 H) (𝓖
         -- let mut list = [Pair { a: 7, b: 9 }; 100]: [list; bytes; words; work]
         array-at here 4 100 P.the-row (plain-pair W) tt seven-nine fits
         -- let answer = read(bytes, &mut list, work)
-        (calls-at here (1 ∷ 0 ∷ 3 ∷ []) (read-args l (os .0)) D.the-row (plain-changed W) refl (λ i. read-vals (sliceVal l (sym list-long i))) (id⊢ 𝓤 _)
+        (calls-at here (read-args l (os .0)) D.the-row (plain-changed W) (1 ∷ 0 ∷ 3 ∷ []) refl (λ i. read-vals (sliceVal l (sym list-long i))) (id⊢ 𝓤 _)
         code.calls-kandurzo·kandurzo-read (λ ks. read-thm.met 𝓤 H 𝓜 𝓖 𝓡 (bound (read-args l (os .0)) ks, tt)) (λ r zs r-fits sized said.
         let ps : List Pair = zs .1 .0 in
         let kept : length ps ≡ 100 = sized .1 .0 ∙ list-long in
