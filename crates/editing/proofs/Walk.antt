@@ -93,11 +93,11 @@ module _ {M : Type 1} {𝓤 : URA M} {H : Heap 𝓤} (here : Spot 𝓤 H) (p len
 
   -- the words are held first, and the list is then held before them
   pub lends-at : {Δ : List (Item 𝓤)} {next : Plan} → γ copy-in.name ≡ copy-in.routine
-      → On here (own-at here p len P.the-row (plain-pair given) tt (lent-list len few ws) ∷ words-row ∷ Δ) next
+      → On here (own-at here p len P.the-row (plain-pair given) tt (lent-list len ws) ∷ words-row ∷ Δ) next
       → On here (words-row ∷ Δ) (lending given (env (f .locals) bs) p len at (length ws) next)
   lends-at is-in on = array-at here p len P.the-row (plain-pair given) tt blank (blank-fits given)
       (in-at here 0 1 (list-place 𝓤 H (env (f .locals) bs) p) (copies len blank) at ws len (length-copies len blank) refl (small len few) s is-in
-      (room-of len few (copies len blank) (length-copies len blank)) room (room-in len few ws has) refl on)
+      (room-of len few (copies len blank) (length-copies len blank)) room (room-in len ws few has) refl on)
 
 -- ---- add and remove
 
@@ -120,10 +120,10 @@ module _ (len : ℕ) (few : len ≤ 4096) {Says : Call} (decides : (h : Head) (p
   us = a .1 .0 .now
 
   abbrev ps : List Pair
-  ps = lent-list len few us
+  ps = lent-list len us
 
   pub ps-long : length ps ≡ len
-  ps-long = length-lent len few us
+  ps-long = length-lent len us
 
   pub outcome : Outcome Says h ps (a .1 .1 .0) (a .1 .1 .1 .0)
   outcome = decides h ps (a .1 .1 .0) (a .1 .1 .1 .0)
@@ -169,9 +169,9 @@ module _ (len : ℕ) (few : len ≤ 4096) {Says : Call} (decides : (h : Head) (p
         out-at here 0 1 l (outcome .left) (a .1 .0 .ptr) us len long refl (small len few) fullShare is-out (room-of len few (outcome .left) long)
         (are .1 .0 .0 .1) (room-out len few us (has .long) (outcome .left) long) refl
         (drop-at here 5 len P.the-row (plain-pair W) tt (outcome .left) long
-        (let fit : Entry.Fit pars end = (tt, (length-after len few us has (outcome .left) long, (tt, (tt, tt)))) in
+        (let fit : Entry.Fit pars end = (tt, (length-after len us few has (outcome .left) long, (tt, (tt, tt)))) in
         returns-at here os end fit D.the-row (plain-changed W) (outcome .answer) fits
-        (through len few us Says h (a .1 .1 .0) (a .1 .1 .1 .0) (outcome .answer) (outcome .left) (outcome .says)) (fin (outcome .answer) end fit))))))
+        (through len us Says h (a .1 .1 .0) (a .1 .1 .1 .0) (outcome .answer) (outcome .left) (outcome .says)) (fin (outcome .answer) end fit))))))
 
 -- ---- calls that read the list
 
@@ -208,10 +208,10 @@ module _ {n : ℕ} (others : List (Form (suc n))) (p : ℕ) {M : Type 1} (𝓤 :
   ws = a .1 .0 .now
 
   abbrev list : List Pair
-  list = lent-list 4096 full ws
+  list = lent-list 4096 ws
 
   pub list-long : length list ≡ 4096
-  list-long = length-lent 4096 full ws
+  list-long = length-lent 4096 ws
 
   abbrev pub reader-args : ℕ × ℕ → Entry.Opened more → List (Arg G)
   reader-args l os = by-value N.the-row (plain-head G) (a .0) (are .0)
@@ -228,7 +228,8 @@ module _ {n : ℕ} (others : List (Form (suc n))) (p : ℕ) {M : Type 1} (𝓤 :
       (met : (l : ℕ × ℕ) (os : Entry.Opened more) (ks : Keys (reader-args l os)) → ent 𝓤 (Asks (reader-args l os) (emp 𝓤) ks)
       (𝓡 .run ρ (values (reader-args l os)) (Answers (reader-args l os) R (Said l os) ks)))
       (X : Val → SProp 𝓤) {Says : R .Denot → Entry.Lasts its-pars → Type 0} (fin : Finishes its-pars X R plain-R Says)
-      (says : (l : ℕ × ℕ) (os : Entry.Opened more) (r : R .Denot) (zs : Lasts (reader-args l os)) → Said l os r zs → Says r (tt, (tt, hand .left os (zs .1 .1))))
+      (says : (l : ℕ × ℕ) (os : Entry.Opened more) (r : R .Denot) (zs : Lasts (reader-args l os)) → Said l os r zs
+      → Says r (tt, (tt, hand .left os (zs .1 .1))))
       (f : Fn) (typed : Takes its-pars X f) (does : Does its-pars X f (reader #call)) where
     pub meets-reader : Walked its-pars X (table G 𝓜 𝓡 γ) (loops G 𝓜 𝓡 γ) f
     meets-reader = chains 𝓤 H 𝓜 𝓖 𝓡 γ f its-pars X
