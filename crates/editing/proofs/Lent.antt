@@ -43,7 +43,7 @@ room-of len few l e = room-as P.the-row e (small len few, lt-of-le-of-lt (mul-le
 pub room-out : (len : ℕ) → len ≤ 4096 → (ws : List ℕ) → 12288 ≤ length ws → (l : List Pair) → length l ≡ len → Room-out l ws len
 room-out len few ws long l e = record { enough = omega (arith, e); few = few; long = λ _. long }
 
-module _ (len : ℕ) (few : len ≤ 4096) (ws : List ℕ) where
+module _ (len : ℕ) (ws : List ℕ) where
   abbrev pub lent-list : List Pair
   lent-list = put-back (copies len blank) ws len
 
@@ -57,7 +57,7 @@ module _ (len : ℕ) (few : len ≤ 4096) (ws : List ℕ) where
   pub length-lent : length lent-list ≡ len
   length-lent = length-put-back (copies len blank) ws len (omega (arith, length-copies len blank)) ∙ length-copies len blank
 
-  module _ (holds : Holds-records len ws) where
+  module _ (few : len ≤ 4096) (holds : Holds-records len ws) where
     pub room-in : Room-back (copies len blank) ws len
     room-in = record { room = room-out len few ws (holds .long) (copies len blank) (length-copies len blank); fits = holds .fits }
 

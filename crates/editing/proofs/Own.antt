@@ -19,7 +19,8 @@ use base.Fml.{Lft, GName, Share, Fml, fsep, fat, flft, flent, fres}
 use prog.Wp.{Heap, WpFn, Tables}
 use ghost.Atoms.{Atoms, sem}
 use contract.Monad.{fact, factI}
-use types.Kit.{Given, Item, Goal, Seq, ‵, _⊛_, some, later, _$_, _∵_, !, qed, by, move, drop, use1, use3, split, pick, rewrite, fsplit, fjoin, fpick, fpack, await, updating, now as at-once, show, done}
+use types.Kit.{Given, Item, Goal, Seq, ‵, _⊛_, some, later, _$_, _∵_, !, qed, by, move, drop, use1, use3, split}
+use types.Kit.{pick, rewrite, fsplit, fjoin, fpick, fpack, await, updating, now as at-once, show, done}
 use types.Part.{agg}
 use types.Run.{look, stop, from, and-then, no-more, addr, of-opd}
 use types.SemTy.{Body}
@@ -73,7 +74,8 @@ module _ {M : Type 1} {𝓤 : URA M} {H : Heap 𝓤} {A : Atoms 𝓤} (W : Given
   cell-lies : (h : Head) → Fits N.the-row (plain-head W) h → ent 𝓤 (sem 𝓤 H A (cell h)) (sem 𝓤 H A (lies h))
   unfolding partOf
   cell-lies h fits =
-      qed W (‵ (cell h) ∷ []) ∵ use1 W (‵ (cellAt fullShare (N.the-row .mir) (plain-head W .val h ∷ []) b 0)) (W .laws .at-raw fullShare a-head b 0 (plain-head W .val h)) $
+      qed W (‵ (cell h) ∷ []) ∵ use1 W (‵ (cellAt fullShare (N.the-row .mir) (plain-head W .val h ∷ []) b 0))
+      (W .laws .at-raw fullShare a-head b 0 (plain-head W .val h)) $
       owned ! N.the-row (Is N.the-row) (plain-head W .makes) h (plain-head W .val h ∷ []) fits $ move ! (1 ∷ 0 ∷ []) $ fjoin ! $
       fpack ! (List Val) (λ vs. fsep (cellAt fullShare (N.the-row .mir) vs b 0) (N.the-row .own h vs)) (plain-head W .val h ∷ []) $ done !
 
@@ -98,7 +100,8 @@ module _ {M : Type 1} {𝓤 : URA M} {H : Heap 𝓤} {A : Atoms 𝓤} (W : Given
 
     head-backs : (ν : ℕ) (δ : GName) (y : Head) → ent 𝓤 (sem 𝓤 H A (fsep (flft (ν ∷ []) fullShare) (fsep (left δ y) (kept ν δ)))) (H .⇛ (sem 𝓤 H A (lies y)))
     head-backs ν δ y =
-        qed W (‵ (fsep (flft (ν ∷ []) fullShare) (fsep (left δ y) (kept ν δ))) ∷ []) ∵ updating ! $ fsplit ! $ lft-end ! tt $ move ! (1 ∷ []) $ fsplit ! $ move ! (2 ∷ 1 ∷ 0 ∷ []) $
+        qed W (‵ (fsep (flft (ν ∷ []) fullShare) (fsep (left δ y) (kept ν δ))) ∷ []) ∵ updating ! $ fsplit ! $ lft-end ! tt $ move ! (1 ∷ []) $ fsplit ! $
+        move ! (2 ∷ 1 ∷ 0 ∷ []) $
         use3 W (later (‵ (lies y))) (ref-back 𝓤 H A W N.the-row (ν ∷ []) δ y b 0) $ await ! tt $ at-once ! $ done !
 
     abbrev lend-head : Fits N.the-row (plain-head W) h → Loan W
@@ -118,7 +121,8 @@ module _ {M : Type 1} {𝓤 : URA M} {H : Heap 𝓤} {A : Atoms 𝓤} (W : Given
       backs = head-backs;
     }
 
-  opens-head : {K : Type 0} {Γ : List (Item 𝓤)} {G : Goal 𝓤 H} → K → (y : Head) → (Fits N.the-row (plain-head W) y → Seq K W (‵ (cell y) ∷ Γ) G) → Seq K W (‵ (lies y) ∷ Γ) G
+  opens-head : {K : Type 0} {Γ : List (Item 𝓤)} {G : Goal 𝓤 H} → K → (y : Head)
+      → (Fits N.the-row (plain-head W) y → Seq K W (‵ (cell y) ∷ Γ) G) → Seq K W (‵ (lies y) ∷ Γ) G
   unfolding partOf
   opens-head t y k = fpick t (λ vs. fsplit t $ move t (1 ∷ []) $ peeks t N.the-row (Is N.the-row) (shows 𝓤 H A N.the-row) y vs (λ is. drop t $
       rewrite t 0 (λ (us : List Val). ‵ (cellAt fullShare (N.the-row .mir) us b 0)) (plain-head W .tells y vs is) refl $
@@ -182,7 +186,8 @@ module _ (called : Name) {Says : Call} (decides : (h : Head) (ps : List Pair) (a
         ∷ by-value u32 (plain-word W) m (refl, m-fits) ∷ by-value u32 (plain-word W) n (refl, n-fits) ∷ []
 
     walk : ent 𝓤 (onEntry 𝓤 H A f.signature (κ, tt) (q, tt) (entry pars .3) (entry pars .4)) (WpFn 𝓤 H (𝓣 .C) (𝓣 .Λ) (made called) (passed pars) Post)
-    walk = begins (𝓣 .C) (𝓣 .Λ) (made called) Post pars (λ bs. (typed-as (plain-head W) h is-head, (fit-slice (room .0), (num m-fits, (num n-fits, tt))))) (λ bs os.
+    walk = begins (𝓣 .C) (𝓣 .Λ) (made called) Post pars
+        (λ bs. (typed-as (plain-head W) h is-head, (fit-slice (room .0), (num m-fits, (num n-fits, tt))))) (λ bs os.
         let l : ℕ = block (env locals bs) 5 in
         -- let mut own = head
         sets ! (2 + 5) empty (of-opd ! (var ! (2 + 1) refl)) (typed-as (plain-head W) h is-head) $
@@ -191,19 +196,23 @@ module _ (called : Name) {Says : Call} (decides : (h : Head) (ps : List Pair) (a
         sets ! (2 + 8) empty (ptr-of ! (2 + 2) refl refl) (tt, tt) $ sets ! (2 + 9) empty (slice-again ! (2 + 8) (2 + 2) refl refl refl) (fit-slice (room .0)) $
         -- [own; list]
         move ! (7 ∷ 0 ∷ []) $
-        calls-outright ! fm (args l) u32 (plain-word W) (emp 𝓤) (λ r ws. Says h ps m n (changed-to r (ws .0)) (ws .1 .0)) refl (id⊢ 𝓤 _) (λ ks. known (bound (args l) ks, tt))
+        calls-outright ! fm (args l) u32 (plain-word W) (emp 𝓤) (λ r ws. Says h ps m n (changed-to r (ws .0)) (ws .1 .0)) refl (id⊢ 𝓤 _)
+        (λ ks. known (bound (args l) ks, tt))
         (r₀ .number) (r₀ .head, (ys, (tt, (tt, tt))))
         (λ r ws e. let t = tells r (ws .0) (ws .1 .0) e in (t .0, λ i. (t .1 i, (t .2 i, (tt, (tt, tt))))))
-        (and-then ! (var ! (2 + 7) refl) (and-then ! (var ! (2 + 9) refl) (and-then ! (var ! (3 + 3) refl) (and-then ! (var ! (3 + 4) refl) (no-more !))))) (λ r-fits sized.
+        (and-then ! (var ! (2 + 7) refl) (and-then ! (var ! (2 + 9) refl) (and-then ! (var ! (3 + 3) refl) (and-then ! (var ! (3 + 4) refl) (no-more !)))))
+        (λ r-fits sized.
         opens-head W l ! (r₀ .head) (λ y-fits. move ! (1 ∷ 2 ∷ 3 ∷ 4 ∷ 5 ∷ 6 ∷ 7 ∷ 0 ∷ []) $
         lands-in ! (2 + 6) empty (num (r-fits .1)) $
         -- Changed { number, head: own }
         sets ! (2 + 10) empty (of-opd ! (var ! (2 + 5) refl)) (typed-as (plain-head W) (r₀ .head) y-fits) $
-        sets ! (2 + 0) empty (agg ! (and-then ! (var ! (2 + 6) refl) (and-then ! (var ! (2 + 10) refl) (no-more !)))) (typed-as (plain-changed W) r₀ (fits-all (r-fits .1) y-fits)) $
+        sets ! (2 + 0) empty (agg ! (and-then ! (var ! (2 + 6) refl) (and-then ! (var ! (2 + 10) refl) (no-more !))))
+        (typed-as (plain-changed W) r₀ (fits-all (r-fits .1) y-fits)) $
         leaves ! 2 (λ j. true) _ refl (look ! (2 + 0) refl) $
         by ! (ends pars os (tt, (ys, (tt, (tt, tt)))) (tt, (sized .1 .0, (tt, (tt, tt)))) D.the-row (plain-changed W) r₀ (fits-all (r-fits .1) y-fits)
         (fact 𝓤 (Says h ps m n r₀ ys)) (factI 𝓤 _ _ (outcome .says))
-        (ends-at 𝓤 H A f.ended (stays f.ended kinds) (call-clauses Says 𝓤) W (entry pars, tt) _ r₀ (tt, (ys, (tt, (tt, tt)))) (tt, (sized .1 .0, (tt, (tt, tt)))))))))
+        (ends-at 𝓤 H A f.ended (stays f.ended kinds) (call-clauses Says 𝓤) W (entry pars, tt) _ r₀
+        (tt, (ys, (tt, (tt, tt)))) (tt, (sized .1 .0, (tt, (tt, tt)))))))))
 
   pub meets : Meets 𝓤 H A f.signature (WpFn 𝓤 H (𝓣 .C) (𝓣 .Λ) (made called)) (closing 𝓤 H A f.ended (call-clauses Says 𝓤))
   meets = meets-by f.ended kinds 𝓤 H A W (call-clauses Says 𝓤) 𝓣 (made called) (λ κs qs bounds a g are. via 𝓤 _ (fst∗ 𝓤 _ (emp 𝓤))

@@ -24,7 +24,9 @@ same-length-3 : tie.Need-same-length-3
 same-length-3 c = search needs
 
 returns-2 : tie.Need-returns-2
-returns-2 c = let l = c .before .before .before .before .before .before in is-lent (peel-4096-requires (l .before) (l .peel-4096 .lifetimes)) (l .peel-4096 .ensures)
+returns-2 c =
+    let l = c .before .before .before .before .before .before in
+    is-lent (peel-4096-requires (l .before) (l .peel-4096 .lifetimes)) (l .peel-4096 .ensures)
 
 pub peel-lent-spec : {M : Type 1} → statement M
 peel-lent-spec = tie.close (tie.spec are-records-requires returns peel-4096-requires same-length same-length-2 same-length-3 returns-2)

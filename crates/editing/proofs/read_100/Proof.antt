@@ -111,7 +111,8 @@ module _ {M : Type 1} (𝓤 : URA M) (H : Heap 𝓤) (𝓜 : Model 𝓤 H) (𝓖
         let kept : length ps ≡ 100 = sized .1 .0 ∙ list-long in
         let room = room-out 100 few us long ps kept in
         -- copy_out(&list, words, 100)
-        out-at here 0 2 l ps (a .1 .0 .ptr) us 100 kept refl (lit< tt) fullShare code.calls-records·copy-out (room-of 100 few ps kept) (are .1 .0 .0 .1) room refl
+        out-at here 0 2 l ps (a .1 .0 .ptr) us 100 kept refl (lit< tt) fullShare code.calls-records·copy-out
+        (room-of 100 few ps kept) (are .1 .0 .0 .1) room refl
         (drop-at here 4 100 P.the-row (plain-pair W) tt ps kept
         (let end : Entry.Lasts pars = (tt, (laid-out ps us 100, (zs .1 .1 .0, tt))) in
         let fit : Entry.Fit pars end = (tt, (length-laid-out ps us 100 room, (sized .1 .1 .0, tt))) in
