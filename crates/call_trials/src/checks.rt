@@ -1,7 +1,7 @@
 // check: a cycle of 5 modules, the group all of them, and each pair lies wholly with one end: P = 5, Q = 5, every load is 5.
 use crate::lent;
 use crate::lent::Damage;
-use editing::check_lent;
+use lending::check_lent;
 use verify::Verdict;
 
 // What is altered: the list; the first member byte and the first share; the lengths lent.

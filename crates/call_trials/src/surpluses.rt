@@ -1,7 +1,7 @@
 // surplus: groups of the list *tail* of document 01, whose found group is 0 to 3, of ratio 6/4.
 use crate::lent;
 use crate::lent::Damage;
-use editing::surplus_lent;
+use lending::surplus_lent;
 use verify::Difference;
 
 // What is altered: the list; the two sets, by the first member bytes that are 1 and the first byte; the lengths lent.

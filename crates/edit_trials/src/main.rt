@@ -164,7 +164,7 @@ fn own_call(
 ) {
     let own = altered_own(
         altered,
-        editing::edit_own(ask.adds, head, other, ask.a, ask.b),
+        lending::edit_own(ask.adds, head, other, ask.a, ask.b),
     );
     let after = answer.head;
     note(answers(own, answer.number, after.n, wide(after.m)), tally);
@@ -182,7 +182,7 @@ fn both_calls(
 ) -> Changed {
     let mut other = [0u32; 12288];
     words::copy(list, &mut other);
-    let answer = editing::edit_words(ask.adds, 100, head, list, ask.a, ask.b);
+    let answer = lending::edit_words(ask.adds, 100, head, list, ask.a, ask.b);
     own_call(altered, ask, head, answer, &mut other, list, tally);
     answer
 }
@@ -199,7 +199,7 @@ fn call(
     if len == 100 {
         return both_calls(altered, ask, head, list, tally);
     }
-    editing::edit_words(ask.adds, wide(len), head, list, ask.a, ask.b)
+    lending::edit_words(ask.adds, wide(len), head, list, ask.a, ask.b)
 }
 
 // The model's answer to a step.

@@ -1,0 +1,21 @@
+-- `add_4096` meets its contract: the walk of `Walk`, at 4096 records and `add`. Assumes nothing.
+use lib.Dec.{lit≤}
+use Rattle.kandurzo.proofs.kandurzo_add.Met as call
+use Rattle.kandurzo.proofs.Outcomes.{add-outcome}
+use Rattle.lending.specs.Lent.{Holds-records}
+use Rattle.lending.proofs.Walk.{refl, bound, needs, kinds-of, states-asking, through-forms, through-args, meets-through}
+use Rattle.lending.proofs.add_4096.Key as key
+use Rattle.lending.proofs.add_4096 as f
+use Rattle.lending.proofs.add_4096.Statement as stated
+use Rattle.lending.proofs.add_4096.Code as code
+
+pub add-4096-spec : {M : Type 1} → stated.statement M
+unfolding code.routine
+add-4096-spec 𝓤 H 𝓜 𝓖 𝓡 =
+    states-asking 𝓤 H 𝓜 𝓖 𝓡 code.env f.ended (kinds-of through-forms) (f.clauses 𝓤 H (𝓖 .A) (𝓜 .mem) (𝓡 .run)) key.name code.function (code.unfolded 𝓤 H 𝓜 𝓡)
+    (λ κs qs bounds a g are ends. needs 𝓤 (Holds-records 4096 (a .1 .0 .now)) _ (λ has.
+    meets-through 4096 (lit≤ tt) add-outcome 𝓤 H 𝓜 𝓖 𝓡 code.env κs qs a are has _
+    code.calls-kandurzo·kandurzo-add code.calls-records·copy-in code.calls-records·copy-out
+    (λ l ks. call.met 𝓤 H 𝓜 𝓖 𝓡 (bound (through-args 4096 (lit≤ tt) add-outcome 𝓤 H 𝓜 𝓖 𝓡 code.env κs qs a are l) ks, tt))
+    _ (λ v zs fit. ends _ v zs fit) code.function (λ bs. tt)
+    (λ bs. (tt, refl, (tt, refl, λ _. (tt, (tt, refl, λ _. (tt, (tt, refl, λ _. (tt, (refl, (tt, refl))))))))))))

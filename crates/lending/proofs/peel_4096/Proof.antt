@@ -1,0 +1,44 @@
+-- `peel_4096` meets its contract: the walk of `Walk`, of a call that reads the list. Assumes nothing.
+use mathlib.Core.Path.{subst}
+use denote.Builtin.{u32}
+use Rattle.records.proofs.Plain.{plain-word}
+use Rattle.records.proofs.Records.{half-row, word-row}
+use Rattle.kandurzo.specs.Peeling.{Peel-call}
+use Rattle.kandurzo.proofs.kandurzo_peel.Met as call
+use Rattle.lending.specs.Lent.{Holds-records}
+use Rattle.lending.proofs.Walk.{refl, List, [], _∷_, Pair, Form, writes, half, word, fullShare, givenOf, loan, lend-mut, fit-slice, bound}
+use Rattle.lending.proofs.Walk.{needs, kinds-of, pars-of, states-asking, lent-as, Handing, lent-forms, lent-args, meets-lent}
+use Rattle.lending.proofs.peel_4096.Key as key
+use Rattle.lending.proofs.peel_4096 as f
+use Rattle.lending.proofs.peel_4096.Statement as stated
+use Rattle.lending.proofs.peel_4096.Code as code
+
+abbrev others : List (Form 4)
+others = writes 1 tt half ∷ writes 2 tt half ∷ writes 3 tt word ∷ []
+
+pub peel-4096-spec : {M : Type 1} → stated.statement M
+unfolding code.routine
+peel-4096-spec 𝓤 H 𝓜 𝓖 𝓡 =
+    states-asking 𝓤 H 𝓜 𝓖 𝓡 code.env f.ended (kinds-of (lent-forms others)) (f.clauses 𝓤 H (𝓖 .A) (𝓜 .mem) (𝓡 .run))
+    key.name code.function (code.unfolded 𝓤 H 𝓜 𝓡) (λ κs qs bounds a g are ends. needs 𝓤 (Holds-records 4096 (a .1 .0 .now)) _ (λ has.
+    let W = givenOf 𝓤 H 𝓜 𝓖 in
+    let hand : Handing W (pars-of W κs qs others (a .1 .1) (are .1 .1)) = record {
+      args = λ os. loan (lend-mut (half-row W fullShare (a .1 .1 .0 .ptr .0) (a .1 .1 .0 .ptr .1)) (a .1 .1 .0 .now) (are .1 .1 .0 .0 .1))
+          ∷ loan (lend-mut (half-row W fullShare (a .1 .1 .1 .0 .ptr .0) (a .1 .1 .1 .0 .ptr .1)) (a .1 .1 .1 .0 .now) (are .1 .1 .1 .0 .0 .1))
+          ∷ loan (lend-mut (word-row W fullShare (a .1 .1 .1 .1 .0 .ptr .0) (a .1 .1 .1 .1 .0 .ptr .1))
+          (a .1 .1 .1 .1 .0 .now) (are .1 .1 .1 .1 .0 .0 .1)) ∷ [];
+      left = λ os zs. (zs .0, (zs .1 .0, (zs .1 .1 .0, tt)));
+      rows-are = λ os. refl;
+      values-are = λ os. refl;
+      after-is = λ os zs. refl;
+      fit = λ os zs known. (known .0, (known .1 .0, (known .1 .1 .0, tt)));
+      typed = (fit-slice (are .1 .1 .0 .0 .1 .0) .1, (fit-slice (are .1 .1 .1 .0 .0 .1 .0) .1, (fit-slice (are .1 .1 .1 .1 .0 .0 .1 .0) .1, tt)));
+    } in
+    meets-lent others 6 𝓤 H 𝓜 𝓖 𝓡 code.env κs qs a are hand u32 (plain-word W) has _
+    code.calls-kandurzo·kandurzo-peel code.calls-records·copy-in
+    (λ l os ks. call.met 𝓤 H 𝓜 𝓖 𝓡 (bound (lent-args others 6 𝓤 H 𝓜 𝓖 𝓡 code.env κs qs a are hand u32 (plain-word W) l os) ks, tt))
+    _ (λ v zs fit. ends _ v zs fit)
+    (λ l os r zs said. subst (λ (ps : List Pair). Peel-call (a .0) ps (a .1 .1 .0 .now) (a .1 .1 .1 .0 .now) (a .1 .1 .1 .1 .0 .now)
+    r (zs .1 .1 .0) (zs .1 .1 .1 .0) (zs .1 .1 .1 .1 .0))
+    (lent-as 4096 (a .1 .0 .now)) said)
+    code.function (λ bs. tt) (λ bs. (tt, refl, (tt, refl, λ _. (tt, (tt, refl, λ _. (tt, (refl, (tt, refl))))))))))
