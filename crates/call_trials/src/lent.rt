@@ -1,7 +1,7 @@
 // The lists that are lent, and how a line is printed.
 ghost use Prim.Native.Nat.{_≤_};
-use lists::put_word;
-use lists::word_at;
+use generated::put_word;
+use generated::word_at;
 
 // What is altered of a list of 5 modules whose last record is 3,4: the head's N, how many more pairs than there are the head's M says, and that record.
 pub(crate) struct Damage {

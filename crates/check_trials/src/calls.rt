@@ -16,7 +16,7 @@ pub(crate) fn can_call(
 ) -> bool
     ensures { λ r. ⌜ (r ≡ true → Held-words n m (now (ends .entry)) (now (weights .entry)) × ((n ≤ first) × (least ≤ second))) ⌝ }
 {
-    if !lists::is_held(n, m, ends, weights) {
+    if !generated::is_held(n, m, ends, weights) {
         return false;
     }
     if first < n {

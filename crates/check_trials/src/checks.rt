@@ -9,8 +9,8 @@ use crate::sheets;
 use crate::sheets::Change;
 use crate::sheets::Sheet;
 use crate::tally::Tally;
-use lists::Kind;
-use lists::wide;
+use generated::Kind;
+use generated::wide;
 ghost use Prim.Native.Nat.{_≤_, _<_};
 
 // The answers are counted as accepted, refused by 7, by 8, by 9.
@@ -77,7 +77,7 @@ fn try_sheet(sheet: Sheet, change: Change, at: usize, seen: Tally) -> Tally {
     let mut weights = [0u32; 4096];
     let mut members = [0u8; 512];
     let mut shares = [0u16; 4096];
-    let m = lists::fill(kind, n, 1, &mut ends, &mut weights).m;
+    let m = generated::generate(kind, n, 1, &mut ends, &mut weights).m;
     if sheets::places(change, wide(n), m) <= at {
         return seen;
     }

@@ -1,6 +1,6 @@
 // Check and surplus as document 01 states them and as plainly as can be: a pass over the bytes for the size, one over the pairs for the inside
 // count, and one over the pairs for each module's load. A list has m pairs; `trials` reads and counts them.
-use lists::put_word;
+use generated::put_word;
 use std::num::wrapping_add_u32;
 use std::num::wrapping_sub_u32;
 use trials::Ends;
@@ -131,7 +131,7 @@ fn minus(x: u32, y: u32) -> i64 {
 // The surplus: modules of the second group times inside count of the first, minus inside count of the second times modules of the first.
 pub(crate) fn surplus(first: Group, second: Group) -> i64 {
     minus(
-        lists::times(second.size, first.inside),
-        lists::times(first.size, second.inside),
+        generated::times(second.size, first.inside),
+        generated::times(first.size, second.inside),
     )
 }

@@ -2,8 +2,8 @@
 // is altered in one place of them.
 use crate::plain::byte_at;
 use crate::plain::share_at;
-use lists::Kind;
-use lists::narrow;
+use generated::Kind;
+use generated::as_word;
 use std::num::wrapping_add_u32;
 use std::num::wrapping_add_usize;
 use std::num::wrapping_sub_u32;
@@ -95,7 +95,7 @@ pub(crate) fn mark(group: usize, members: &mut [u8]) {
 
 // A fair share of a pair.
 fn pair_share(kind: Kind, q: u32, pair: Ends) -> u32 {
-    fair_share(kind, q, narrow(pair.a), narrow(pair.b))
+    fair_share(kind, q, as_word(pair.a), as_word(pair.b))
 }
 
 // A fair share for each pair.

@@ -3,7 +3,7 @@
 use crate::checks;
 use crate::surpluses;
 use crate::tally::Tally;
-use lists::Kind;
+use generated::Kind;
 
 // What is tried of a list.
 pub enum Asked {
@@ -47,7 +47,7 @@ fn every_code(asked: Asked, m: usize, ends: &[u32], weights: &[u32], seen: Tally
 fn try_list(asked: Asked, mask: u32, seen: Tally) -> Tally {
     let mut ends = [0u32; 8192];
     let mut weights = [0u32; 4096];
-    let m = lists::fill(Kind::Mask(mask), 4, 1, &mut ends, &mut weights).m;
+    let m = generated::generate(Kind::Mask(mask), 4, 1, &mut ends, &mut weights).m;
     every_code(asked, m, &ends, &weights, seen)
 }
 

@@ -5,7 +5,7 @@ use crate::plain;
 use crate::plain::read_group;
 use crate::sheets::mark;
 use crate::tally::Tally;
-use lists::Kind;
+use generated::Kind;
 
 // The answers are counted as above zero, zero, below zero, refused by 7.
 fn answer(number: u32, value: i64) -> usize {
@@ -74,7 +74,7 @@ fn try_first(kind: Kind, k: usize, l: usize, seen: Tally) -> Tally {
     let mut weights = [0u32; 4096];
     let mut first = [0u8; 512];
     let mut second = [0u8; 512];
-    let m = lists::fill(kind, 512, 1, &mut ends, &mut weights).m;
+    let m = generated::generate(kind, 512, 1, &mut ends, &mut weights).m;
     mark(k, &mut first);
     mark(l, &mut second);
     weigh(512, m, &ends, &weights, &first, &second, seen)

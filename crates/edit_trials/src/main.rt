@@ -7,12 +7,12 @@
 mod model;
 mod words;
 
+use generated::bump;
+use generated::next;
+use generated::same_words;
+use generated::wide;
+use generated::word_at;
 use kandurzo::Changed;
-use lists::bump;
-use lists::next;
-use lists::same_words;
-use lists::wide;
-use lists::word_at;
 use records::Head;
 
 // Where a run stands: the head, the model's count of pairs, and the random state.

@@ -1,6 +1,6 @@
 // The plain model of a list: a table of 512 by 512 modules, 1 where the pair is in the list, in both orders.
 use super::words::put_record;
-use lists::wide;
+use generated::wide;
 
 // Entry a,b of the table.
 fn held(table: &[u8], a: u32, b: u32) -> bool {

@@ -1,6 +1,6 @@
 // The numbers of records in words, two words a record; an index past the end writes nothing.
-use lists::put_word;
-use lists::word_at;
+use generated::put_word;
+use generated::word_at;
 
 // Where record j's numbers lie.
 pub(crate) fn first_of(j: usize) -> usize {

@@ -4,7 +4,7 @@
 // entry altered, each of which must differ.
 mod plain;
 
-use lists::Kind;
+use generated::Kind;
 use trials::Listed;
 use trials::Sweep;
 
@@ -51,7 +51,7 @@ fn one_more(x: u32) -> u32 {
 fn seen(tally: Tally, m: usize, state: u32, outcome: Outcome) -> Tally {
     let mut now = tally;
     now.lists = one_more(now.lists);
-    now.pairs = std::num::wrapping_add_u32(now.pairs, lists::narrow(m));
+    now.pairs = std::num::wrapping_add_u32(now.pairs, generated::as_word(m));
     now.state = state;
     match outcome {
         Outcome::Unheld => now.unheld = one_more(now.unheld),
@@ -71,9 +71,9 @@ fn alter(
 ) -> u32 {
     match altered {
         Altered::Nothing => {}
-        Altered::Order => lists::bump(order, 0),
-        Altered::Cores => lists::bump(cores, 0),
-        Altered::Place => lists::bump(place, 0),
+        Altered::Order => generated::bump(order, 0),
+        Altered::Cores => generated::bump(cores, 0),
+        Altered::Place => generated::bump(place, 0),
         Altered::Remainder => return one_more(at),
     }
     at
@@ -93,13 +93,13 @@ fn agrees(
 ) -> bool {
     let mut plain_order = [0u32; 512];
     let mut plain_cores = [0u32; 512];
-    let size = lists::wide(n);
+    let size = generated::wide(n);
     plain::leaving(size, m, ends, &mut plain_order);
-    if !lists::same_words(size, order, &plain_order) {
+    if !generated::same_words(size, order, &plain_order) {
         return false;
     }
     plain::core_numbers(n, m, ends, &mut plain_cores);
-    if !lists::same_words(size, cores, &plain_cores) {
+    if !generated::same_words(size, cores, &plain_cores) {
         return false;
     }
     if !plain::places_right(size, order, place) {
@@ -113,8 +113,8 @@ fn compare(n: u32, m: usize, ends: &[u32], weights: &[u32], altered: Altered) ->
     let mut order = [0u32; 512];
     let mut cores = [0u32; 512];
     let mut place = [0u32; 512];
-    let size = lists::wide(n);
-    if !lists::is_held(size, m, ends, weights) {
+    let size = generated::wide(n);
+    if !generated::is_held(size, m, ends, weights) {
         return Outcome::Unheld;
     }
     let best = peel::peel(
@@ -141,7 +141,7 @@ fn attempt(list: Listed, altered: Altered, tally: Tally) -> Tally {
     let mut weights = [0u32; 4096];
     let kind = list.kind;
     let n = list.n;
-    let walk = lists::fill(kind, n, tally.state, &mut ends, &mut weights);
+    let walk = generated::generate(kind, n, tally.state, &mut ends, &mut weights);
     seen(
         tally,
         walk.m,

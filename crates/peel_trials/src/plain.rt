@@ -1,9 +1,9 @@
 // Leaving order, core numbers and the densest remainder, as document 01 defines them and as plainly as can be: everything is counted anew
 // whenever it is looked at. A list has m pairs; `trials` counts them.
-use lists::narrow;
-use lists::put_word;
-use lists::wide;
-use lists::word_at;
+use generated::as_word;
+use generated::put_word;
+use generated::wide;
+use generated::word_at;
 use std::num::wrapping_add_u32;
 use std::num::wrapping_sub_u32;
 
@@ -44,7 +44,7 @@ fn take_turns(
     while i < n {
         trials::count_degrees(m, ends, present, degrees);
         let v = fewest(n, present, degrees);
-        put_word(order, i, narrow(v));
+        put_word(order, i, as_word(v));
         put_word(present, v, 0);
         i += 1;
     }
@@ -104,7 +104,7 @@ pub(crate) fn places_right(n: usize, order: &[u32], place: &[u32]) -> bool {
 
 // Whether p inside, when i of n have left, is a lower ratio than r inside, when j have.
 fn thinner(n: u32, p: u32, i: u32, r: u32, j: u32) -> bool {
-    lists::times(wrapping_sub_u32(n, j), p) < lists::times(wrapping_sub_u32(n, i), r)
+    generated::times(wrapping_sub_u32(n, j), p) < generated::times(wrapping_sub_u32(n, i), r)
 }
 
 // How many have left when the densest remainder is left, of equals the largest: all remainders are tried.

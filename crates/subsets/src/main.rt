@@ -6,8 +6,8 @@
 mod plain;
 
 use densest::Solution;
-use lists::Kind;
-use lists::wide;
+use generated::Kind;
+use generated::wide;
 use trials::Listed;
 use trials::Sweep;
 use verify::Verdict;
@@ -58,7 +58,7 @@ fn one_more(x: u32) -> u32 {
 fn seen(tally: Tally, m: usize, state: u32, outcome: Outcome) -> Tally {
     let mut now = tally;
     now.lists = one_more(now.lists);
-    now.pairs = std::num::wrapping_add_u32(now.pairs, lists::narrow(m));
+    now.pairs = std::num::wrapping_add_u32(now.pairs, generated::as_word(m));
     now.state = state;
     match outcome {
         Outcome::Unheld => now.unheld = one_more(now.unheld),
@@ -108,8 +108,8 @@ fn alter(
         Altered::Size => answer.q = one_more(answer.q),
         Altered::Order => answer.k = one_more(answer.k),
         Altered::Core => answer.core = one_more(answer.core),
-        Altered::Number => lists::bump(cores, 0),
-        Altered::Share => lists::put_word(shares, 0, one_more(answer.q)),
+        Altered::Number => generated::bump(cores, 0),
+        Altered::Share => generated::put_word(shares, 0, one_more(answer.q)),
     }
     answer
 }
@@ -128,7 +128,7 @@ fn put_share(sheet: &mut [u16], j: usize, x: u32) {
 fn copy_shares(m: usize, shares: &[u32], sheet: &mut [u16]) {
     let mut j = 0;
     while j < m {
-        put_share(sheet, j, lists::word_at(shares, j));
+        put_share(sheet, j, generated::word_at(shares, j));
         j += 1;
     }
 }
@@ -137,7 +137,7 @@ fn copy_shares(m: usize, shares: &[u32], sheet: &mut [u16]) {
 fn same_members(n: usize, members: &[u8], set: &[u32]) -> bool {
     let mut v = 0;
     while v < n {
-        if wide_byte(byte_at(members, v)) != lists::word_at(set, v) {
+        if wide_byte(byte_at(members, v)) != generated::word_at(set, v) {
             return false;
         }
         v += 1;
@@ -184,7 +184,7 @@ fn reaches(k: u32, number: u32) -> u32 {
 fn same_core(n: usize, k: u32, cores: &[u32], set: &[u32]) -> bool {
     let mut v = 0;
     while v < n {
-        if reaches(k, lists::word_at(cores, v)) != lists::word_at(set, v) {
+        if reaches(k, generated::word_at(cores, v)) != generated::word_at(set, v) {
             return false;
         }
         v += 1;
@@ -260,7 +260,7 @@ fn compare(n: u32, m: usize, ends: &[u32], weights: &[u32], altered: Altered) ->
     let mut shares = [0u32; 4096];
     let mut sheet = [0u16; 4096];
     let size = wide(n);
-    if !lists::is_held(size, m, ends, weights) {
+    if !generated::is_held(size, m, ends, weights) {
         return Outcome::Unheld;
     }
     let solution = densest::solve(
@@ -288,7 +288,7 @@ fn attempt(list: Listed, altered: Altered, tally: Tally) -> Tally {
     let mut weights = [0u32; 4096];
     let kind = list.kind;
     let n = list.n;
-    let walk = lists::fill(kind, n, tally.state, &mut ends, &mut weights);
+    let walk = generated::generate(kind, n, tally.state, &mut ends, &mut weights);
     seen(
         tally,
         walk.m,
@@ -341,7 +341,7 @@ fn alike(name: &[u8], kind: Kind, least: u32, each: u32, count: u32) {
 
 // Lists of 1 to 12 modules, `count` of each number.
 fn each(name: &[u8], kind: Kind, count: u32) {
-    alike(name, kind, 1, count, lists::times(12, count));
+    alike(name, kind, 1, count, generated::times(12, count));
 }
 
 // Lists of 512 modules.

@@ -1,9 +1,9 @@
 // The found group, its ratio rounded up and the core of that order, as document 01 defines them and as plainly as can be: every set of modules
 // is counted, and a core is what is left when no more modules drop. A set has a word for each module, 1 for a member. A list has m pairs; `trials`
 // counts them.
-use lists::put_word;
-use lists::wide;
-use lists::word_at;
+use generated::put_word;
+use generated::wide;
+use generated::word_at;
 use std::num::wrapping_add_u32;
 
 // The densest set so far: its number, its inside count and its size.
@@ -37,8 +37,8 @@ fn size(n: usize, set: &[u32]) -> u32 {
 
 // Whether p inside q modules is a higher ratio than the best, or the same one in more modules.
 fn better(p: u32, q: u32, best: Best) -> bool {
-    let mine = lists::times(best.q, p);
-    let other = lists::times(q, best.p);
+    let mine = generated::times(best.q, p);
+    let other = generated::times(q, best.p);
     if mine == other {
         return best.q < q;
     }

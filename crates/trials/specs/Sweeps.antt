@@ -5,8 +5,8 @@
 use mathlib.Core.Bool.{cond}
 use Prim.Native.Nat.{ℕ, _+_, _*_, _-_, _/_, _%_, _^_}
 use lib.Dec.{eqb, ltb}
-use Rattle.lists.specs.declared.Kind.{Kind}
-use Rattle.lists.specs.declared.Kind.the-variants.{Mask, Chance}
+use Rattle.generated.specs.declared.Kind.{Kind}
+use Rattle.generated.specs.declared.Kind.the-variants.{Mask, Chance}
 use Rattle.trials.specs.declared.Listed.{Listed}
 use Rattle.trials.specs.declared.Sweep.{Sweep}
 use Rattle.trials.specs.declared.Sweep.the-variants.{Every, Drawn, Alike}

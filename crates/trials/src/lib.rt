@@ -6,11 +6,11 @@ ghost use lib.ListN.{length};
 ghost use Rattle.theory.specs.Basics.{table};
 ghost use Rattle.trials.specs.Sweeps.{part, masked-at, listed-at, lists-in};
 ghost use Rattle.trials.specs.Plain.{ends-at, pair-from, inside-from, pair-counted, counted, dropping, drop-one, drop-below, rounds-of, core-of};
-use lists::Kind;
-use lists::bump;
-use lists::put_word;
-use lists::wide;
-use lists::word_at;
+use generated::Kind;
+use generated::bump;
+use generated::put_word;
+use generated::wide;
+use generated::word_at;
 use std::num::wrapping_add_u32;
 
 // Lists to try, one after the other.

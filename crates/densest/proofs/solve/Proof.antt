@@ -34,14 +34,8 @@ array-borrow-prefix-scope c = few (c .before .before .before .before .before .be
 slice-aggregate-solve-in-2 : tie.Need-slice-aggregate-solve-in-2
 slice-aggregate-solve-in-2 c = sym (front-long (c .before .before .before .before .before .before .before))
 
-slice-relend-prefix-solve-in : tie.Need-slice-relend-prefix-solve-in
-slice-relend-prefix-solve-in c = search needs
-
 slice-aggregate-solve-in-3 : tie.Need-slice-aggregate-solve-in-3
 slice-aggregate-solve-in-3 c = sym (members-long (c .before .before .before .before .before .before .before .before))
-
-slice-relend-prefix-solve-in-2 : tie.Need-slice-relend-prefix-solve-in-2
-slice-relend-prefix-solve-in-2 c = search needs
 
 slice-aggregate-solve-in-4 : tie.Need-slice-aggregate-solve-in-4
 slice-aggregate-solve-in-4 c = sym (shares-long (c .before .before .before .before .before .before .before .before .before .before))
@@ -50,15 +44,6 @@ solve-in-requires : tie.Need-solve-in-requires
 solve-in-requires c κs =
     let s = c .before .before .before .before .before .before .before .before .before .before in
     (s .pre .0, ((front-long s, front-long s), (members-long s, s .pre .1 .1, shares-long s)))
-
-same-length : tie.Need-same-length
-same-length c = search needs
-
-same-length-2 : tie.Need-same-length-2
-same-length-2 c = search needs
-
-same-length-3 : tie.Need-same-length-3
-same-length-3 c = search needs
 
 returns : tie.Need-returns
 returns c =
@@ -78,12 +63,12 @@ solve-spec =
     slice-aggregate-solve-in
     array-borrow-prefix-scope
     slice-aggregate-solve-in-2
-    slice-relend-prefix-solve-in
+    (λ c. search needs)
     slice-aggregate-solve-in-3
-    slice-relend-prefix-solve-in-2
+    (λ c. search needs)
     slice-aggregate-solve-in-4
     solve-in-requires
-    same-length
-    same-length-2
-    same-length-3
+    (λ c. search needs)
+    (λ c. search needs)
+    (λ c. search needs)
     returns)

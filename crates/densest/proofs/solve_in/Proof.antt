@@ -47,18 +47,9 @@ bounded c =
 scope-long : (c : tie.After-find-best) → length (c .find-best .last .1 .1 .1 .1 .1 .1 .1 .1 .0) ≡ start c .args .n
 scope-long c = c .find-best .kept .1 .1 .1 .1 .1 .1 .1 .1 .0 ∙ start c .pre .1 .0 .1
 
-slice-aggregate-peel : tie.Need-slice-aggregate-peel
-slice-aggregate-peel c = search needs
-
-slice-aggregate-peel-2 : tie.Need-slice-aggregate-peel-2
-slice-aggregate-peel-2 c = search needs
-
 peel-requires : tie.Need-peel-requires
 peel-requires c κs =
     let q = c .before .before .before .before .before .before .before .before .before .before .pre in (q .0, peelable-zeros _ _ _ _ _ (q .0) (q .1 .1 .1))
-
-slice-aggregate-find-best : tie.Need-slice-aggregate-find-best
-slice-aggregate-find-best c = search needs
 
 find-best-requires : tie.Need-find-best-requires
 find-best-requires c κs =
@@ -78,9 +69,6 @@ find-best-requires c κs =
 
 slice-aggregate-write-shares : tie.Need-slice-aggregate-write-shares
 slice-aggregate-write-shares c = sym (peeled (c .before .before .before .before .before .before .before .before .before) .peel .kept .1 .1 .1 .1 .1 .1 .1 .0)
-
-slice-aggregate-write-shares-2 : tie.Need-slice-aggregate-write-shares-2
-slice-aggregate-write-shares-2 c = search needs
 
 write-shares-requires : tie.Need-write-shares-requires
 write-shares-requires c κs =
@@ -102,20 +90,8 @@ rounded-up-requires c κs = bounded (found (c .before .before)) .some
 group-size-requires : tie.Need-group-size-requires
 group-size-requires c κs = let f = found (c .before .before .before .before) in (few (start f), scope-long f)
 
-same-length : tie.Need-same-length
-same-length c = search needs
-
-same-length-2 : tie.Need-same-length-2
-same-length-2 c = search needs
-
-same-length-3 : tie.Need-same-length-3
-same-length-3 c = search needs
-
 same-length-4 : tie.Need-same-length-4
 same-length-4 c = peeled (found (c .before .before .before .before .before)) .peel .kept .1 .1 .1 .1 .1 .1 .0
-
-same-length-5 : tie.Need-same-length-5
-same-length-5 c = search needs
 
 returns : tie.Need-returns
 unfolding list-in
@@ -135,19 +111,19 @@ pub solve-in-spec : {M : Type 1} → statement M
 solve-in-spec =
     tie.close
     (tie.spec
-    slice-aggregate-peel
-    slice-aggregate-peel-2
+    (λ c. search needs)
+    (λ c. search needs)
     peel-requires
-    slice-aggregate-find-best
+    (λ c. search needs)
     find-best-requires
     slice-aggregate-write-shares
-    slice-aggregate-write-shares-2
+    (λ c. search needs)
     write-shares-requires
     rounded-up-requires
     group-size-requires
-    same-length
-    same-length-2
-    same-length-3
+    (λ c. search needs)
+    (λ c. search needs)
+    (λ c. search needs)
     same-length-4
-    same-length-5
+    (λ c. search needs)
     returns)

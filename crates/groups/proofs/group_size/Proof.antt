@@ -19,20 +19,11 @@ loop-holds : tie.Need-loop-holds Inv-loop μ-loop
 unfolding size
 loop-holds c = (omega arith, omega arith, omega arith, omega arith, refl)
 
-shared-slice-read-count : tie.Need-shared-slice-read-count Inv-loop μ-loop
-shared-slice-read-count c = omega arith
-
 cast-count : tie.Need-cast-count Inv-loop μ-loop
 cast-count c = omega (arith, c .shared-slice-known .given (c .before .before .loop .v))
 
 add-count : tie.Need-add-count Inv-loop μ-loop
 add-count c = omega (arith, c .shared-slice-known .given (c .before .before .loop .v))
-
-add-v : tie.Need-add-v Inv-loop μ-loop
-add-v c = omega arith
-
-loop-less : tie.Need-loop-less Inv-loop μ-loop
-loop-less c = omega arith
 
 loop-again : tie.Need-loop-again Inv-loop μ-loop
 loop-again c =
@@ -50,10 +41,10 @@ group-size-spec =
     Inv-loop
     μ-loop
     loop-holds
-    shared-slice-read-count
+    (λ c. omega arith)
     cast-count
     add-count
-    add-v
-    loop-less
+    (λ c. omega arith)
+    (λ c. omega arith)
     loop-again
     returns)

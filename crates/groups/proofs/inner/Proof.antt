@@ -14,12 +14,9 @@ shared-slice-read-both c = omega (arith, c .before .two-ends .ensures)
 shared-slice-read-both-2 : tie.Need-shared-slice-read-both-2
 shared-slice-read-both-2 c = omega (arith, c .before .before .two-ends .ensures)
 
-both-requires : tie.Need-both-requires
-both-requires c κs = search needs
-
 returns : tie.Need-returns
 unfolding is-in
 returns c = let e = c .before .before .before .two-ends .ensures in rw (← e .first, ← e .second) (c .both .ensures)
 
 pub inner-spec : {M : Type 1} → statement M
-inner-spec = tie.close (tie.spec two-ends-requires shared-slice-read-both shared-slice-read-both-2 both-requires returns)
+inner-spec = tie.close (tie.spec two-ends-requires shared-slice-read-both shared-slice-read-both-2 (λ c κs. search needs) returns)

@@ -29,9 +29,6 @@ mul-pick c = let l = c .before .before .loop .inv .0 .weights-long in omega arit
 shared-slice-read-pick : tie.Need-shared-slice-read-pick Inv-loop μ-loop
 shared-slice-read-pick c = let l = c .before .before .before .loop .inv .0 .weights-long in omega arith
 
-pick-requires : tie.Need-pick-requires Inv-loop μ-loop
-pick-requires c κs = tt
-
 -- what pair j adds is at most its weight, 1,000
 adds-few : (c : tie.After-pick Inv-loop μ-loop) → c .pick .result ≤ 1000
 adds-few c =
@@ -48,12 +45,6 @@ add-count : tie.Need-add-count Inv-loop μ-loop
 add-count c =
     let i = c .before .before .before .before .loop .inv in
     omega (arith, few-pairs _ _ _ _ (i .0 .listed), adds-few c)
-
-add-j : tie.Need-add-j Inv-loop μ-loop
-add-j c = omega arith
-
-loop-less : tie.Need-loop-less Inv-loop μ-loop
-loop-less c = omega arith
 
 loop-again : tie.Need-loop-again Inv-loop μ-loop
 loop-again c =
@@ -85,9 +76,9 @@ inside-count-spec =
     inner-requires
     mul-pick
     shared-slice-read-pick
-    pick-requires
+    (λ c κs. tt)
     add-count
-    add-j
-    loop-less
+    (λ c. omega arith)
+    (λ c. omega arith)
     loop-again
     returns)

@@ -5,20 +5,14 @@ use Rattle.lending.proofs.Lent.{has, has-not, is-lent, is-none}
 use Rattle.lending.proofs.check_lent.Statement.{statement}
 use Rattle.lending.proofs.check_lent.Tie as tie
 
-are-records-requires : tie.Need-are-records-requires
-are-records-requires c κs = search needs
-
 returns : tie.Need-returns
 returns c = is-none (has-not (c .if1 .taken) (c .before .are-records .ensures)) (refl, refl)
 
 check-4096-requires : tie.Need-check-4096-requires
 check-4096-requires c κs = let t = c .before in has (t .if1 .left) (t .before .are-records .ensures)
 
-same-length : tie.Need-same-length
-same-length c = search needs
-
 returns-2 : tie.Need-returns-2
 returns-2 c = let l = c .before .before in is-lent (check-4096-requires (l .before) (l .check-4096 .lifetimes)) (l .check-4096 .ensures)
 
 pub check-lent-spec : {M : Type 1} → statement M
-check-lent-spec = tie.close (tie.spec are-records-requires returns check-4096-requires same-length returns-2)
+check-lent-spec = tie.close (tie.spec (λ c κs. search needs) returns check-4096-requires (λ c. search needs) returns-2)

@@ -5,23 +5,11 @@ use Rattle.lending.proofs.Lent.{as-add, as-remove, has, has-not, is-len
 use Rattle.lending.proofs.edit_own.Statement.{statement}
 use Rattle.lending.proofs.edit_own.Tie as tie
 
-are-records-requires : tie.Need-are-records-requires
-are-records-requires c κs = search needs
-
-no-list-requires : tie.Need-no-list-requires
-no-list-requires c κs = search needs
-
-same-length : tie.Need-same-length
-same-length c = search needs
-
 returns : tie.Need-returns
 returns c = is-none (has-not (c .before .if1 .taken) (c .before .before .are-records .ensures)) (c .no-list .ensures, refl)
 
 add-to-100-requires : tie.Need-add-to-100-requires
 add-to-100-requires c κs = let t = c .before .before in has (t .if1 .left) (t .before .are-records .ensures)
-
-same-length-2 : tie.Need-same-length-2
-same-length-2 c = search needs
 
 returns-2 : tie.Need-returns-2
 returns-2 c =
@@ -30,9 +18,6 @@ returns-2 c =
 
 remove-from-100-requires : tie.Need-remove-from-100-requires
 remove-from-100-requires c κs = let t = c .before .before in has (t .if1 .left) (t .before .are-records .ensures)
-
-same-length-3 : tie.Need-same-length-3
-same-length-3 c = search needs
 
 returns-3 : tie.Need-returns-3
 returns-3 c =
@@ -43,13 +28,13 @@ pub edit-own-spec : {M : Type 1} → statement M
 edit-own-spec =
     tie.close
     (tie.spec
-    are-records-requires
-    no-list-requires
-    same-length
+    (λ c κs. search needs)
+    (λ c κs. search needs)
+    (λ c. search needs)
     returns
     add-to-100-requires
-    same-length-2
+    (λ c. search needs)
     returns-2
     remove-from-100-requires
-    same-length-3
+    (λ c. search needs)
     returns-3)

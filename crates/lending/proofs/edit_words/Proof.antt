@@ -5,15 +5,6 @@ use Rattle.lending.proofs.Lent.{as-add, as-remove, holds-at, through-at
 use Rattle.lending.proofs.edit_words.Statement.{statement}
 use Rattle.lending.proofs.edit_words.Tie as tie
 
-are-list-requires : tie.Need-are-list-requires
-are-list-requires c κs = search needs
-
-no-list-requires : tie.Need-no-list-requires
-no-list-requires c κs = search needs
-
-same-length : tie.Need-same-length
-same-length c = search needs
-
 returns : tie.Need-returns
 returns c = is-none (has-not (c .before .if1 .taken) (c .before .before .are-list .ensures)) (c .no-list .ensures, refl)
 
@@ -22,9 +13,6 @@ add-100-requires c κs =
     let t = c .before .before in
     let its = has (t .before .if1 .left) (t .before .before .are-list .ensures) in
     holds-at (t .if2 .taken) (its .1)
-
-same-length-2 : tie.Need-same-length-2
-same-length-2 c = search needs
 
 returns-2 : tie.Need-returns-2
 returns-2 c =
@@ -39,9 +27,6 @@ remove-100-requires c κs =
     let its = has (t .before .if1 .left) (t .before .before .are-list .ensures) in
     holds-at (t .if2 .taken) (its .1)
 
-same-length-3 : tie.Need-same-length-3
-same-length-3 c = search needs
-
 returns-3 : tie.Need-returns-3
 returns-3 c =
     let l = c .before .before in
@@ -54,9 +39,6 @@ add-4096-requires c κs =
     let t = c .before .before in
     let its = has (t .before .if1 .left) (t .before .before .are-list .ensures) in
     holds-at (not-100 (t .if2 .left) (its .0)) (its .1)
-
-same-length-4 : tie.Need-same-length-4
-same-length-4 c = search needs
 
 returns-4 : tie.Need-returns-4
 returns-4 c =
@@ -71,9 +53,6 @@ remove-4096-requires c κs =
     let its = has (t .before .if1 .left) (t .before .before .are-list .ensures) in
     holds-at (not-100 (t .if2 .left) (its .0)) (its .1)
 
-same-length-5 : tie.Need-same-length-5
-same-length-5 c = search needs
-
 returns-5 : tie.Need-returns-5
 returns-5 c =
     let l = c .before .before in
@@ -85,19 +64,19 @@ pub edit-words-spec : {M : Type 1} → statement M
 edit-words-spec =
     tie.close
     (tie.spec
-    are-list-requires
-    no-list-requires
-    same-length
+    (λ c κs. search needs)
+    (λ c κs. search needs)
+    (λ c. search needs)
     returns
     add-100-requires
-    same-length-2
+    (λ c. search needs)
     returns-2
     remove-100-requires
-    same-length-3
+    (λ c. search needs)
     returns-3
     add-4096-requires
-    same-length-4
+    (λ c. search needs)
     returns-4
     remove-4096-requires
-    same-length-5
+    (λ c. search needs)
     returns-5)

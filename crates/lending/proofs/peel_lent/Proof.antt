@@ -5,23 +5,11 @@ use Rattle.lending.proofs.Lent.{has, has-not, is-lent, is-none}
 use Rattle.lending.proofs.peel_lent.Statement.{statement}
 use Rattle.lending.proofs.peel_lent.Tie as tie
 
-are-records-requires : tie.Need-are-records-requires
-are-records-requires c κs = search needs
-
 returns : tie.Need-returns
 returns c = is-none (has-not (c .if1 .taken) (c .before .are-records .ensures)) (refl, refl, refl, refl)
 
 peel-4096-requires : tie.Need-peel-4096-requires
 peel-4096-requires c κs = let t = c .before .before .before in has (t .if1 .left) (t .before .are-records .ensures)
-
-same-length : tie.Need-same-length
-same-length c = search needs
-
-same-length-2 : tie.Need-same-length-2
-same-length-2 c = search needs
-
-same-length-3 : tie.Need-same-length-3
-same-length-3 c = search needs
 
 returns-2 : tie.Need-returns-2
 returns-2 c =
@@ -29,4 +17,4 @@ returns-2 c =
     is-lent (peel-4096-requires (l .before) (l .peel-4096 .lifetimes)) (l .peel-4096 .ensures)
 
 pub peel-lent-spec : {M : Type 1} → statement M
-peel-lent-spec = tie.close (tie.spec are-records-requires returns peel-4096-requires same-length same-length-2 same-length-3 returns-2)
+peel-lent-spec = tie.close (tie.spec (λ c κs. search needs) returns peel-4096-requires (λ c. search needs) (λ c. search needs) (λ c. search needs) returns-2)

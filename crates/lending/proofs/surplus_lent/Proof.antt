@@ -5,9 +5,6 @@ use Rattle.lending.proofs.Lent.{has, has-not, is-lent, is-none}
 use Rattle.lending.proofs.surplus_lent.Statement.{statement}
 use Rattle.lending.proofs.surplus_lent.Tie as tie
 
-are-records-requires : tie.Need-are-records-requires
-are-records-requires c κs = search needs
-
 returns : tie.Need-returns
 returns c = is-none (has-not (c .if1 .taken) (c .before .are-records .ensures)) refl
 
@@ -18,4 +15,4 @@ returns-2 : tie.Need-returns-2
 returns-2 c = is-lent (surplus-4096-requires (c .before) (c .surplus-4096 .lifetimes)) (c .surplus-4096 .ensures)
 
 pub surplus-lent-spec : {M : Type 1} → statement M
-surplus-lent-spec = tie.close (tie.spec are-records-requires returns surplus-4096-requires returns-2)
+surplus-lent-spec = tie.close (tie.spec (λ c κs. search needs) returns surplus-4096-requires returns-2)

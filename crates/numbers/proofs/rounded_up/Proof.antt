@@ -19,12 +19,6 @@ some p q h l = let e : (p - 1) + q ≡ p + q - 1 = omega arith in sym (add-div-r
 returns : tie.Need-returns
 returns c = none _ _ (c .before .pre) (c .if1 .taken)
 
-sub-result : tie.Need-sub-result
-sub-result c = search needs
-
-div-result : tie.Need-div-result
-div-result c = search needs
-
 add-result : tie.Need-add-result
 add-result c = omega (arith, div-le-self (c .before .args .p - 1) (c .before .args .q))
 
@@ -32,4 +26,4 @@ returns-2 : tie.Need-returns-2
 returns-2 c = some _ _ (c .before .pre) (omega arith)
 
 pub rounded-up-spec : {M : Type 1} → statement M
-rounded-up-spec = tie.close (tie.spec returns sub-result div-result add-result returns-2)
+rounded-up-spec = tie.close (tie.spec returns (λ c. search needs) (λ c. search needs) add-result returns-2)

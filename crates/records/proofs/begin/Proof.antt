@@ -5,9 +5,6 @@ use Rattle.records.specs.Scan.{fits, begin-of}
 use Rattle.records.proofs.begin.Statement.{statement}
 use Rattle.records.proofs.begin.Tie as tie
 
-cast-m : tie.Need-cast-m
-cast-m c = search needs
-
 returns : tie.Need-returns
 unfolding begin-of fits
 returns c = simp (lt-leb _ _ (c .if1 .taken))
@@ -25,4 +22,4 @@ unfolding begin-of fits
 returns-4 c = simp (le-leb _ _ (c .before .before .before .if1 .left), le-leb _ _ (c .before .if2 .left), le-leb _ _ (c .if3 .left))
 
 pub begin-spec : {M : Type 1} → statement M
-begin-spec = tie.close (tie.spec cast-m returns returns-2 returns-3 returns-4)
+begin-spec = tie.close (tie.spec (λ c. search needs) returns returns-2 returns-3 returns-4)

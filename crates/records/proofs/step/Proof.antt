@@ -56,9 +56,6 @@ passed e = e .before .before .args
 returns : tie.Need-returns
 returns c = let a = c .before .before .args in failed-before (a .n) (a .seen) (a .p) (c .if1 .taken)
 
-cast-if2 : tie.Need-cast-if2
-cast-if2 c = search needs
-
 returns-2 : tie.Need-returns-2
 returns-2 c = let e = c .before .before in let a = passed e in outside (a .n) (a .seen) (a .p) (e .if1 .left) (omega (arith, c .if2 .taken))
 
@@ -86,4 +83,4 @@ returns-5 c =
     other-first (a .n) (a .seen) (a .p) (e .if1 .left) (omega (arith, f .if2 .left)) (omega (arith, g .if3 .left)) (c .before .before .if4 .left)
 
 pub step-spec : {M : Type 1} → statement M
-step-spec = tie.close (tie.spec returns cast-if2 returns-2 returns-3 returns-4 returns-5)
+step-spec = tie.close (tie.spec returns (λ c. search needs) returns-2 returns-3 returns-4 returns-5)

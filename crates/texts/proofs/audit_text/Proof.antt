@@ -10,28 +10,16 @@ use borrow.Author.Needs.{needs}
 use Rattle.texts.proofs.audit_text.Statement.{statement}
 use Rattle.texts.proofs.audit_text.Tie as tie
 
-audit-requires : tie.Need-audit-requires
-audit-requires c κs = search needs
-
 write-refusal-requires : tie.Need-write-refusal-requires
 write-refusal-requires c κs =
     let a = c .before .before .before in
     omega (arith, a .before .before .before .before .pre)
-
-same-length : tie.Need-same-length
-same-length c = search needs
 
 returns : tie.Need-returns
 returns c =
     let a = c .before .before .before .before .before .before in
     prints (verdict-refused (a .audit .ensures) (c .before .before .before .before .if1 .taken)) (c .before .before .write-refusal .ensures)
     (omega (arith, refusal-length (a .audit .result .number), a .before .before .before .before .pre))
-
-slice-aggregate-write-line : tie.Need-slice-aggregate-write-line
-slice-aggregate-write-line c = search needs
-
-slice-aggregate-write-line-2 : tie.Need-slice-aggregate-write-line-2
-slice-aggregate-write-line-2 c = search needs
 
 write-line-requires : tie.Need-write-line-requires
 unfolding accepted-form text
@@ -41,9 +29,6 @@ write-line-requires c κs =
       and-small _ (small .0) (and-small _ (small .1) no-more) .each,
       omega (arith, accepted-length (a .audit .result .p ∷ a .audit .result .q ∷ []), a .before .before .before .before .pre),
     )
-
-same-length-2 : tie.Need-same-length-2
-same-length-2 c = search needs
 
 returns-2 : tie.Need-returns-2
 unfolding accepted-form text
@@ -56,12 +41,12 @@ pub audit-text-spec : {M : Type 1} → statement M
 audit-text-spec =
     tie.close
     (tie.spec
-    audit-requires
+    (λ c κs. search needs)
     write-refusal-requires
-    same-length
+    (λ c. search needs)
     returns
-    slice-aggregate-write-line
-    slice-aggregate-write-line-2
+    (λ c. search needs)
+    (λ c. search needs)
     write-line-requires
-    same-length-2
+    (λ c. search needs)
     returns-2)

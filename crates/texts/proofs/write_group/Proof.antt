@@ -10,12 +10,6 @@ use borrow.Author.Needs.{needs}
 use Rattle.texts.proofs.write_group.Statement.{statement}
 use Rattle.texts.proofs.write_group.Tie as tie
 
-slice-aggregate-write-line : tie.Need-slice-aggregate-write-line
-slice-aggregate-write-line c = search needs
-
-slice-aggregate-write-line-2 : tie.Need-slice-aggregate-write-line-2
-slice-aggregate-write-line-2 c = search needs
-
 -- where the function begins
 abbrev begin : tie.After-write-line → tie.Start
 begin c = c .before .before .before .before .before .before
@@ -36,9 +30,6 @@ write-members-requires c κs =
     let start = begin w in
     (start .pre .0 .few, members-left (start .args .found) _ (start .pre .1) (w .write-line .ensures) .room)
 
-same-length : tie.Need-same-length
-same-length c = search needs
-
 returns : tie.Need-returns
 unfolding head-form text
 returns c =
@@ -50,9 +41,9 @@ pub write-group-spec : {M : Type 1} → statement M
 write-group-spec =
     tie.close
     (tie.spec
-    slice-aggregate-write-line
-    slice-aggregate-write-line-2
+    (λ c. search needs)
+    (λ c. search needs)
     write-line-requires
     write-members-requires
-    same-length
+    (λ c. search needs)
     returns)

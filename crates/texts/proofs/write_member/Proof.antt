@@ -11,23 +11,11 @@ use Rattle.texts.proofs.write_member.Tie as tie
 returns : tie.Need-returns
 returns c = rw (ne-eqb _ _ (c .if1 .taken)) (puts-none _ _)
 
-cast-t8 : tie.Need-cast-t8
-cast-t8 c = search needs
-
-slice-aggregate-write-line : tie.Need-slice-aggregate-write-line
-slice-aggregate-write-line c = search needs
-
-slice-aggregate-write-line-2 : tie.Need-slice-aggregate-write-line-2
-slice-aggregate-write-line-2 c = search needs
-
 write-line-requires : tie.Need-write-line-requires
 unfolding member-form text
 write-line-requires c κs =
     let start = c .before .before .before .before .before in
     (and-small _ (start .pre .0) no-more .each, rw (eq-eqb _ _ (c .before .before .before .if1 .left)) at (start .pre .1))
-
-same-length : tie.Need-same-length
-same-length c = search needs
 
 returns-2 : tie.Need-returns-2
 unfolding member-form text
@@ -38,9 +26,9 @@ write-member-spec =
     tie.close
     (tie.spec
     returns
-    cast-t8
-    slice-aggregate-write-line
-    slice-aggregate-write-line-2
+    (λ c. search needs)
+    (λ c. search needs)
+    (λ c. search needs)
     write-line-requires
-    same-length
+    (λ c. search needs)
     returns-2)

@@ -18,9 +18,6 @@ abbrev μ-loop : tie.MeasureT-loop
 loop-holds : tie.Need-loop-holds Inv-loop μ-loop
 loop-holds c = left-start _ _ _ (c .before .before .pre .1)
 
-shared-slice-read-write-member : tie.Need-shared-slice-read-write-member Inv-loop μ-loop
-shared-slice-read-write-member c = search needs
-
 write-member-requires : tie.Need-write-member-requires Inv-loop μ-loop
 write-member-requires c κs =
     let l = c .before .before in
@@ -29,12 +26,6 @@ write-member-requires c κs =
       omega (arith, l .loop-test .taken, start .pre .0),
       omega (arith, simp length-append at (rw next at (l .before .loop .inv .room))),
     )
-
-add-v : tie.Need-add-v Inv-loop μ-loop
-add-v c = search needs
-
-loop-less : tie.Need-loop-less Inv-loop μ-loop
-loop-less c = search needs
 
 loop-again : tie.Need-loop-again Inv-loop μ-loop
 loop-again c =
@@ -54,10 +45,10 @@ write-members-spec =
     Inv-loop
     μ-loop
     loop-holds
-    shared-slice-read-write-member
+    (λ c. search needs)
     write-member-requires
-    add-v
-    loop-less
+    (λ c. search needs)
+    (λ c. search needs)
     loop-again
     same-length
     returns)

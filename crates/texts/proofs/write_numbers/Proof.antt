@@ -21,20 +21,8 @@ abbrev μ-loop : tie.MeasureT-loop
 loop-holds : tie.Need-loop-holds Inv-loop μ-loop
 loop-holds c = left-start _ _ _ (c .before .before .pre .1)
 
-mul-t8 : tie.Need-mul-t8 Inv-loop μ-loop
-mul-t8 c = search needs
-
-shared-slice-read-t11 : tie.Need-shared-slice-read-t11 Inv-loop μ-loop
-shared-slice-read-t11 c = search needs
-
 cast-t12 : tie.Need-cast-t12 Inv-loop μ-loop
 cast-t12 c = omega (arith, small-at _ (c .before .before .before .before .before .pre .0) (c .before .before .loop .v))
-
-slice-aggregate-write-line : tie.Need-slice-aggregate-write-line Inv-loop μ-loop
-slice-aggregate-write-line c = search needs
-
-slice-aggregate-write-line-2 : tie.Need-slice-aggregate-write-line-2 Inv-loop μ-loop
-slice-aggregate-write-line-2 c = search needs
 
 write-line-requires : tie.Need-write-line-requires Inv-loop μ-loop
 unfolding number-form text
@@ -45,12 +33,6 @@ write-line-requires c κs =
       and-small _ (small-at _ (start .pre .0) (l .before .loop .v)) no-more .each,
       omega (arith, simp length-append at (rw next at (l .before .loop .inv .room))),
     )
-
-add-v : tie.Need-add-v Inv-loop μ-loop
-add-v c = search needs
-
-loop-less : tie.Need-loop-less Inv-loop μ-loop
-loop-less c = search needs
 
 loop-again : tie.Need-loop-again Inv-loop μ-loop
 unfolding number-form text
@@ -71,14 +53,14 @@ write-numbers-spec =
     Inv-loop
     μ-loop
     loop-holds
-    mul-t8
-    shared-slice-read-t11
+    (λ c. search needs)
+    (λ c. search needs)
     cast-t12
-    slice-aggregate-write-line
-    slice-aggregate-write-line-2
+    (λ c. search needs)
+    (λ c. search needs)
     write-line-requires
-    add-v
-    loop-less
+    (λ c. search needs)
+    (λ c. search needs)
     loop-again
     same-length
     returns)

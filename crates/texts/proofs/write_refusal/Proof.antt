@@ -9,12 +9,6 @@ use borrow.Author.Needs.{needs}
 use Rattle.texts.proofs.write_refusal.Statement.{statement}
 use Rattle.texts.proofs.write_refusal.Tie as tie
 
-slice-aggregate-write-line : tie.Need-slice-aggregate-write-line
-slice-aggregate-write-line c = search needs
-
-slice-aggregate-write-line-2 : tie.Need-slice-aggregate-write-line-2
-slice-aggregate-write-line-2 c = search needs
-
 -- where the function begins
 abbrev begin : tie.After-write-line → tie.Start
 begin c = c .before .before .before .before .before
@@ -30,12 +24,6 @@ write-number-requires c κs =
     let start = begin w in
     omega (arith, simp length-append at (refusal-left (start .args .number) (start .pre) (w .write-line .ensures) .room))
 
-slice-aggregate-write-line-3 : tie.Need-slice-aggregate-write-line-3
-slice-aggregate-write-line-3 c = search needs
-
-slice-aggregate-write-line-4 : tie.Need-slice-aggregate-write-line-4
-slice-aggregate-write-line-4 c = search needs
-
 write-line-requires-2 : tie.Need-write-line-requires-2
 unfolding filled is-place between text
 write-line-requires-2 c κs =
@@ -43,9 +31,6 @@ write-line-requires-2 c κs =
     let w = n .before .before .before .before in
     let start = begin w in
     (no-more .each, refusal-end (start .args .number) (start .pre) (w .write-line .ensures) (n .write-number .ensures) .room)
-
-same-length : tie.Need-same-length
-same-length c = search needs
 
 returns : tie.Need-returns
 unfolding filled is-place between text
@@ -60,12 +45,12 @@ pub write-refusal-spec : {M : Type 1} → statement M
 write-refusal-spec =
     tie.close
     (tie.spec
-    slice-aggregate-write-line
-    slice-aggregate-write-line-2
+    (λ c. search needs)
+    (λ c. search needs)
     write-line-requires
     write-number-requires
-    slice-aggregate-write-line-3
-    slice-aggregate-write-line-4
+    (λ c. search needs)
+    (λ c. search needs)
     write-line-requires-2
-    same-length
+    (λ c. search needs)
     returns)

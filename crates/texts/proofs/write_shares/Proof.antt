@@ -23,43 +23,10 @@ abbrev μ-loop : tie.MeasureT-loop
 loop-holds : tie.Need-loop-holds Inv-loop μ-loop
 loop-holds c = left-start _ _ _ (c .before .before .before .pre .1)
 
-mul-t9 : tie.Need-mul-t9 Inv-loop μ-loop
-mul-t9 c = search needs
-
-mul-t11 : tie.Need-mul-t11 Inv-loop μ-loop
-mul-t11 c = search needs
-
-shared-slice-read-t13 : tie.Need-shared-slice-read-t13 Inv-loop μ-loop
-shared-slice-read-t13 c = search needs
-
-mul-t14 : tie.Need-mul-t14 Inv-loop μ-loop
-mul-t14 c = search needs
-
-add-t15 : tie.Need-add-t15 Inv-loop μ-loop
-add-t15 c = search needs
-
-mul-t16 : tie.Need-mul-t16 Inv-loop μ-loop
-mul-t16 c = search needs
-
-shared-slice-read-t18 : tie.Need-shared-slice-read-t18 Inv-loop μ-loop
-shared-slice-read-t18 c = search needs
-
-mul-t19 : tie.Need-mul-t19 Inv-loop μ-loop
-mul-t19 c = search needs
-
-shared-slice-read-t21 : tie.Need-shared-slice-read-t21 Inv-loop μ-loop
-shared-slice-read-t21 c = search needs
-
 cast-t22 : tie.Need-cast-t22 Inv-loop μ-loop
 cast-t22 c =
     let l = c .before .before .before .before in
     omega (arith, small-at _ (l .before .before .before .before .pre .0 .shares-digits) (l .loop .j))
-
-slice-aggregate-write-line : tie.Need-slice-aggregate-write-line Inv-loop μ-loop
-slice-aggregate-write-line c = search needs
-
-slice-aggregate-write-line-2 : tie.Need-slice-aggregate-write-line-2 Inv-loop μ-loop
-slice-aggregate-write-line-2 c = search needs
 
 write-line-requires : tie.Need-write-line-requires Inv-loop μ-loop
 unfolding share-form text
@@ -71,12 +38,6 @@ write-line-requires c κs =
       and-small _ (small .0) (and-small _ (small .1) (and-small _ (small-at _ (start .pre .0 .shares-digits) (l .before .loop .j)) no-more)) .each,
       omega (arith, simp length-append at (rw next at (l .before .loop .inv .room))),
     )
-
-add-j : tie.Need-add-j Inv-loop μ-loop
-add-j c = search needs
-
-loop-less : tie.Need-loop-less Inv-loop μ-loop
-loop-less c = search needs
 
 loop-again : tie.Need-loop-again Inv-loop μ-loop
 unfolding share-form text
@@ -101,21 +62,21 @@ write-shares-spec =
     Inv-loop
     μ-loop
     loop-holds
-    mul-t9
-    mul-t11
-    shared-slice-read-t13
-    mul-t14
-    add-t15
-    mul-t16
-    shared-slice-read-t18
-    mul-t19
-    shared-slice-read-t21
+    (λ c. search needs)
+    (λ c. search needs)
+    (λ c. search needs)
+    (λ c. search needs)
+    (λ c. search needs)
+    (λ c. search needs)
+    (λ c. search needs)
+    (λ c. search needs)
+    (λ c. search needs)
     cast-t22
-    slice-aggregate-write-line
-    slice-aggregate-write-line-2
+    (λ c. search needs)
+    (λ c. search needs)
     write-line-requires
-    add-j
-    loop-less
+    (λ c. search needs)
+    (λ c. search needs)
     loop-again
     same-length
     returns)

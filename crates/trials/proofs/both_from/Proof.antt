@@ -4,14 +4,8 @@ use borrow.Author.Needs.{needs}
 use Rattle.trials.proofs.both_from.Statement.{statement}
 use Rattle.trials.proofs.both_from.Tie as tie
 
-word-at-requires : tie.Need-word-at-requires
-word-at-requires c κs = search needs
-
 returns : tie.Need-returns
 returns c = from-first _ _ _ (c .before .word-at .ensures) (c .if1 .taken)
-
-word-at-requires-2 : tie.Need-word-at-requires-2
-word-at-requires-2 c κs = search needs
 
 returns-2 : tie.Need-returns-2
 returns-2 c = from-second _ _ _ (c .before .before .before .word-at .ensures) (c .before .before .if1 .left) (c .before .word-at2 .ensures) (c .if2 .taken)
@@ -21,4 +15,4 @@ returns-3 c = from-both _ _ _ (c .before .before .before .word-at .ensures) (c .
 
 pub both-from-spec : {M : Type 1} → statement M
 both-from-spec =
-    tie.close (tie.spec word-at-requires returns word-at-requires-2 returns-2 returns-3)
+    tie.close (tie.spec (λ c κs. search needs) returns (λ c κs. search needs) returns-2 returns-3)

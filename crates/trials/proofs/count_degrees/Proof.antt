@@ -20,23 +20,8 @@ Inv-loop m ends present degrees₀ j₀ degrees j = (j ≤ m) × (length degrees
 abbrev μ-loop : tie.MeasureT-loop
 μ-loop m ends present degrees₀ j₀ degrees j = m - j
 
-set-all-requires : tie.Need-set-all-requires Inv-loop μ-loop
-set-all-requires c κs = search needs
-
 loop-holds : tie.Need-loop-holds Inv-loop μ-loop
 loop-holds c = (omega arith, refl, counts-first _ _ _ _ _ (c .before .before .set-all .ensures))
-
-pair-at-requires : tie.Need-pair-at-requires Inv-loop μ-loop
-pair-at-requires c κs = search needs
-
-count-pair-requires : tie.Need-count-pair-requires Inv-loop μ-loop
-count-pair-requires c κs = search needs
-
-add-j : tie.Need-add-j Inv-loop μ-loop
-add-j c = search needs
-
-loop-less : tie.Need-loop-less Inv-loop μ-loop
-loop-less c = search needs
 
 loop-again : tie.Need-loop-again Inv-loop μ-loop
 loop-again c =
@@ -48,9 +33,6 @@ loop-again c =
       turns-again _ _ _ _ _ (l .loop .inv .2) _ (d .before .before .before .loop-test .taken)
           (d .count-pair .ensures ∙ ap (λ p. pair-counted (a .present .now) p (l .loop .degrees)) (d .before .before .pair-at .ensures)),
     )
-
-same-length : tie.Need-same-length Inv-loop μ-loop
-same-length c = search needs
 
 returns : tie.Need-returns Inv-loop μ-loop
 returns c =
@@ -66,12 +48,12 @@ count-degrees-spec =
     (tie.spec
     Inv-loop
     μ-loop
-    set-all-requires
+    (λ c κs. search needs)
     loop-holds
-    pair-at-requires
-    count-pair-requires
-    add-j
-    loop-less
+    (λ c κs. search needs)
+    (λ c κs. search needs)
+    (λ c. search needs)
+    (λ c. search needs)
     loop-again
-    same-length
+    (λ c. search needs)
     returns)

@@ -4,18 +4,6 @@ use borrow.Author.Needs.{needs}
 use Rattle.trials.proofs.count_pair.Statement.{statement}
 use Rattle.trials.proofs.count_pair.Tie as tie
 
-both-from-requires : tie.Need-both-from-requires
-both-from-requires c κs = search needs
-
-bump-requires : tie.Need-bump-requires
-bump-requires c κs = search needs
-
-bump-requires-2 : tie.Need-bump-requires-2
-bump-requires-2 c κs = search needs
-
-same-length : tie.Need-same-length
-same-length c = search needs
-
 returns : tie.Need-returns
 returns c =
     let two = c .before .before in
@@ -29,4 +17,4 @@ returns-2 c = pair-absent _ _ _ (c .before .both-from .ensures) (c .if1 .left)
 pub count-pair-spec : {M : Type 1} → statement M
 count-pair-spec =
     tie.close
-    (tie.spec both-from-requires bump-requires bump-requires-2 same-length returns returns-2)
+    (tie.spec (λ c κs. search needs) (λ c κs. search needs) (λ c κs. search needs) (λ c. search needs) returns returns-2)

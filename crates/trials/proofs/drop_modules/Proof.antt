@@ -20,23 +20,11 @@ loop-holds : tie.Need-loop-holds Inv-loop μ-loop
 unfolding drop-below
 loop-holds c = (omega arith, refl, turns-first _ _ _)
 
-drop-module-requires : tie.Need-drop-module-requires Inv-loop μ-loop
-drop-module-requires c κs = search needs
-
-add-v : tie.Need-add-v Inv-loop μ-loop
-add-v c = search needs
-
-loop-less : tie.Need-loop-less Inv-loop μ-loop
-loop-less c = search needs
-
 loop-again : tie.Need-loop-again Inv-loop μ-loop
 loop-again c =
     let d = c .before .before in
     let l = d .before .before .before in
     (omega arith, search needs, turns-again _ _ _ _ _ (l .loop .inv .2) _ (d .before .before .loop-test .taken) (d .drop-module .ensures))
-
-same-length : tie.Need-same-length Inv-loop μ-loop
-same-length c = search needs
 
 returns : tie.Need-returns Inv-loop μ-loop
 returns c = turns-end _ _ _ _ _ (c .before .loop .inv .2) (c .loop-test .left)
@@ -48,9 +36,9 @@ drop-modules-spec =
     Inv-loop
     μ-loop
     loop-holds
-    drop-module-requires
-    add-v
-    loop-less
+    (λ c κs. search needs)
+    (λ c. search needs)
+    (λ c. search needs)
     loop-again
-    same-length
+    (λ c. search needs)
     returns)

@@ -5,15 +5,6 @@ use borrow.Author.Needs.{needs}
 use Rattle.trials.proofs.how_many.Statement.{statement}
 use Rattle.trials.proofs.how_many.Tie as tie
 
-enum-told : tie.Need-enum-told
-enum-told c = search needs
-
-enum-told-2 : tie.Need-enum-told-2
-enum-told-2 c = search needs
-
-enum-known-sweep : tie.Need-enum-known-sweep
-enum-known-sweep c = search needs
-
 returns : tie.Need-returns
 unfolding lists-in
 returns c = rw (c .enum-told .given .1) refl
@@ -28,4 +19,4 @@ returns-3 c = rw (c .before .sweep .given .1) refl
 
 pub how-many-spec : {M : Type 1} → statement M
 how-many-spec =
-    tie.close (tie.spec enum-told enum-told-2 enum-known-sweep returns returns-2 returns-3)
+    tie.close (tie.spec (λ c. search needs) (λ c. search needs) (λ c. search needs) returns returns-2 returns-3)

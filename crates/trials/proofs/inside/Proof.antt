@@ -19,21 +19,6 @@ loop-holds : tie.Need-loop-holds Inv-loop μ-loop
 unfolding inside-from
 loop-holds c = (omega arith, turns-first _ _ _)
 
-pair-at-requires : tie.Need-pair-at-requires Inv-loop μ-loop
-pair-at-requires c κs = search needs
-
-both-from-requires : tie.Need-both-from-requires Inv-loop μ-loop
-both-from-requires c κs = search needs
-
-wrapping-add-u32-requires : tie.Need-wrapping-add-u32-requires Inv-loop μ-loop
-wrapping-add-u32-requires c κs = search needs
-
-add-j : tie.Need-add-j Inv-loop μ-loop
-add-j c = search needs
-
-loop-less : tie.Need-loop-less Inv-loop μ-loop
-loop-less c = search needs
-
 loop-again : tie.Need-loop-again Inv-loop μ-loop
 loop-again c =
     let both = c .before in
@@ -55,10 +40,10 @@ inside-spec =
     Inv-loop
     μ-loop
     loop-holds
-    pair-at-requires
-    both-from-requires
-    wrapping-add-u32-requires
-    add-j
-    loop-less
+    (λ c κs. search needs)
+    (λ c κs. search needs)
+    (λ c κs. search needs)
+    (λ c. search needs)
+    (λ c. search needs)
     loop-again
     returns)

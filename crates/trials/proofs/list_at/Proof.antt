@@ -6,33 +6,6 @@ use borrow.Author.Needs.{needs}
 use Rattle.trials.proofs.list_at.Statement.{statement}
 use Rattle.trials.proofs.list_at.Tie as tie
 
-enum-told : tie.Need-enum-told
-enum-told c = search needs
-
-masked-requires : tie.Need-masked-requires
-masked-requires c κs = search needs
-
-enum-told-2 : tie.Need-enum-told-2
-enum-told-2 c = search needs
-
-add-t10 : tie.Need-add-t10
-add-t10 c = search needs
-
-mul-t11 : tie.Need-mul-t11
-mul-t11 c = search needs
-
-add-t14 : tie.Need-add-t14
-add-t14 c = search needs
-
-enum-known-sweep : tie.Need-enum-known-sweep
-enum-known-sweep c = search needs
-
-parted-requires : tie.Need-parted-requires
-parted-requires c κs = search needs
-
-wrapping-add-u32-requires : tie.Need-wrapping-add-u32-requires
-wrapping-add-u32-requires c κs = search needs
-
 returns : tie.Need-returns
 unfolding listed-at
 returns c = rw (c .before .enum-told .given .1) (c .masked .ensures)
@@ -49,15 +22,15 @@ pub list-at-spec : {M : Type 1} → statement M
 list-at-spec =
     tie.close
     (tie.spec
-    enum-told
-    masked-requires
-    enum-told-2
-    add-t10
-    mul-t11
-    add-t14
-    enum-known-sweep
-    parted-requires
-    wrapping-add-u32-requires
+    (λ c. search needs)
+    (λ c κs. search needs)
+    (λ c. search needs)
+    (λ c. search needs)
+    (λ c. search needs)
+    (λ c. search needs)
+    (λ c. search needs)
+    (λ c κs. search needs)
+    (λ c κs. search needs)
     returns
     returns-2
     returns-3)

@@ -1,7 +1,6 @@
 -- `trials::masked` meets its contract. Assumes nothing.
 use borrow.Author.Tests.{lt-ltb, le-ltb}
 use Rattle.trials.specs.Sweeps.{masked-at}
-use borrow.Author.Needs.{needs}
 use Rattle.trials.proofs.masked.Statement.{statement}
 use Rattle.trials.proofs.masked.Tie as tie
 

@@ -19,18 +19,6 @@ abbrev μ-loop : tie.MeasureT-loop
 loop-holds : tie.Need-loop-holds Inv-loop μ-loop
 loop-holds c = (omega arith, refl, refl, rounds-first _ _ _ _ _ _)
 
-count-degrees-requires : tie.Need-count-degrees-requires Inv-loop μ-loop
-count-degrees-requires c κs = search needs
-
-drop-modules-requires : tie.Need-drop-modules-requires Inv-loop μ-loop
-drop-modules-requires c κs = search needs
-
-same-length : tie.Need-same-length Inv-loop μ-loop
-same-length c = search needs
-
-same-length-2 : tie.Need-same-length-2 Inv-loop μ-loop
-same-length-2 c = search needs
-
 returns : tie.Need-returns Inv-loop μ-loop
 returns c =
     let d = c .before .before .before in
@@ -38,12 +26,6 @@ returns c =
     let t = g .before .before .before in
     let l = t .before in
     rounds-stop _ _ _ _ _ _ _ _ (l .loop .inv .3) (t .loop-test .taken) (l .loop .inv .2) (g .count-degrees .ensures) (d .drop-modules .ensures) (c .if1 .taken)
-
-add-round : tie.Need-add-round Inv-loop μ-loop
-add-round c = search needs
-
-loop-less : tie.Need-loop-less Inv-loop μ-loop
-loop-less c = search needs
 
 loop-again : tie.Need-loop-again Inv-loop μ-loop
 loop-again c =
@@ -57,12 +39,6 @@ loop-again c =
       rounds-again _ _ _ _ _ _ _ _ (l .loop .inv .3) (t .loop-test .taken) (l .loop .inv .2) (g .count-degrees .ensures) (d .drop-modules .ensures) (c .if1 .left),
     )
 
-same-length-3 : tie.Need-same-length-3 Inv-loop μ-loop
-same-length-3 c = search needs
-
-same-length-4 : tie.Need-same-length-4 Inv-loop μ-loop
-same-length-4 c = search needs
-
 returns-2 : tie.Need-returns-2 Inv-loop μ-loop
 returns-2 c = rounds-end _ _ _ _ _ _ _ _ (c .before .loop .inv .3) (c .loop-test .left)
 
@@ -73,14 +49,14 @@ shrink-spec =
     Inv-loop
     μ-loop
     loop-holds
-    count-degrees-requires
-    drop-modules-requires
-    same-length
-    same-length-2
+    (λ c κs. search needs)
+    (λ c κs. search needs)
+    (λ c. search needs)
+    (λ c. search needs)
     returns
-    add-round
-    loop-less
+    (λ c. search needs)
+    (λ c. search needs)
     loop-again
-    same-length-3
-    same-length-4
+    (λ c. search needs)
+    (λ c. search needs)
     returns-2)

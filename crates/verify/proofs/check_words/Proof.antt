@@ -14,9 +14,6 @@ use Rattle.verify.proofs.check_words.Tie as tie
 counted-requires : tie.Need-counted-requires
 counted-requires c κs = let h = c .before .before .before .before .pre in (few-modules _ _ _ _ (h .0 .listed), h .1 .0)
 
-refused-requires : tie.Need-refused-requires
-refused-requires c κs = search needs
-
 returns : tie.Need-returns
 returns c =
     let s = c .before .before .before .before .before .before .before in
@@ -30,9 +27,6 @@ shares-fit-requires c κs =
       (h .0 .weights-long, h .1 .1),
       (lent-light _ _ _ _ (h .0), omega (arith, c .before .counted .ensures, counted-small _ _ _ _ (h .0) (s .args .members .now))),
     )
-
-refused-requires-2 : tie.Need-refused-requires-2
-refused-requires-2 c κs = search needs
 
 returns-2 : tie.Need-returns-2
 returns-2 c =
@@ -67,9 +61,6 @@ loads-of-requires c κs =
       ),
     )
 
-slice-aggregate-greatest-of : tie.Need-slice-aggregate-greatest-of
-slice-aggregate-greatest-of c = search needs
-
 greatest-of-requires : tie.Need-greatest-of-requires
 greatest-of-requires c κs =
     let s = c .before .before .before .before .before .before .before .before .before .before .before .before in
@@ -95,9 +86,6 @@ weighed c =
           top-is _ _ _ _ _ _ (c .before .before .loads-of .result) _ (c .before .before .loads-of .ensures) (c .greatest-of .ensures);
     }
 
-refused-requires-3 : tie.Need-refused-requires-3
-refused-requires-3 c κs = search needs
-
 returns-3 : tie.Need-returns-3
 returns-3 c = rw (c .refused3 .ensures) (refused-9 _ _ _ _ _ _ _ _ _ (weighed (c .before .before)) (omega arith))
 
@@ -109,16 +97,16 @@ check-words-spec =
     tie.close
     (tie.spec
     counted-requires
-    refused-requires
+    (λ c κs. search needs)
     returns
     shares-fit-requires
-    refused-requires-2
+    (λ c κs. search needs)
     returns-2
     slice-aggregate-inside-count
     inside-count-requires
     loads-of-requires
-    slice-aggregate-greatest-of
+    (λ c. search needs)
     greatest-of-requires
-    refused-requires-3
+    (λ c κs. search needs)
     returns-3
     returns-4)

@@ -10,9 +10,6 @@ use Rattle.verify.proofs.counted.Tie as tie
 front-long : (s : tie.Start) → length (take (s .args .n) (s .args .members .now)) ≡ s .args .n
 front-long s = length-take-le (s .args .n) (s .args .members .now) (s .pre .1)
 
-bytes-good-requires : tie.Need-bytes-good-requires
-bytes-good-requires c κs = search needs
-
 slice-aggregate-group-size : tie.Need-slice-aggregate-group-size
 slice-aggregate-group-size c = sym (front-long (c .before .before .before .before))
 
@@ -30,4 +27,4 @@ returns-2 c = rw (← c .before .bytes-good .ensures, c .if1 .left)
 pub counted-spec : {M : Type 1} → statement M
 counted-spec =
     tie.close
-    (tie.spec bytes-good-requires slice-aggregate-group-size group-size-requires returns returns-2)
+    (tie.spec (λ c κs. search needs) slice-aggregate-group-size group-size-requires returns returns-2)

@@ -15,20 +15,8 @@ gain c = product-le (c .args .a) (c .args .b) (c .pre .0 .0) (c .pre .0 .1)
 loss : (c : tie.Start) → c .args .c * c .args .d ≤ 2097152000
 loss c = omega (arith, mul-comm (c .args .c) (c .args .d), product-le (c .args .d) (c .args .c) (c .pre .1 .1) (c .pre .1 .0))
 
-cast-result : tie.Need-cast-result
-cast-result c = search needs
-
-cast-result-2 : tie.Need-cast-result-2
-cast-result-2 c = search needs
-
 mul-result : tie.Need-mul-result
 mul-result c = product-fits (c .args .a) (c .args .b) (omega arith) (omega arith) (gain c)
-
-cast-result-3 : tie.Need-cast-result-3
-cast-result-3 c = search needs
-
-cast-result-4 : tie.Need-cast-result-4
-cast-result-4 c = search needs
 
 mul-result-2 : tie.Need-mul-result-2
 mul-result-2 c = product-fits (c .args .c) (c .args .d) (omega arith) (omega arith) (loss c)
@@ -52,4 +40,4 @@ returns c =
 pub cross-difference-spec : {M : Type 1} → statement M
 cross-difference-spec =
     tie.close
-    (tie.spec cast-result cast-result-2 mul-result cast-result-3 cast-result-4 mul-result-2 sub-result returns)
+    (tie.spec (λ c. search needs) (λ c. search needs) mul-result (λ c. search needs) (λ c. search needs) mul-result-2 sub-result returns)

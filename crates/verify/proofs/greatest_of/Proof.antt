@@ -14,21 +14,6 @@ abbrev μ-loop : tie.MeasureT-loop
 loop-holds : tie.Need-loop-holds Inv-loop μ-loop
 loop-holds c = climbing-starts _ _
 
-mul-greater : tie.Need-mul-greater Inv-loop μ-loop
-mul-greater c = omega arith
-
-shared-slice-read-greater : tie.Need-shared-slice-read-greater Inv-loop μ-loop
-shared-slice-read-greater c = omega arith
-
-add-v : tie.Need-add-v Inv-loop μ-loop
-add-v c = omega arith
-
-loop-less : tie.Need-loop-less Inv-loop μ-loop
-loop-less c = omega arith
-
-greater-requires : tie.Need-greater-requires Inv-loop μ-loop
-greater-requires c κs = tt
-
 loop-again : tie.Need-loop-again Inv-loop μ-loop
 loop-again c =
     let at = c .before .before .before in
@@ -39,4 +24,4 @@ returns c = climbing-ends _ _ (c .before .loop .v) (c .before .loop .top) (c .be
 
 pub greatest-of-spec : {M : Type 1} → statement M
 greatest-of-spec =
-    tie.close (tie.spec Inv-loop μ-loop loop-holds mul-greater shared-slice-read-greater greater-requires add-v loop-less loop-again returns)
+    tie.close (tie.spec Inv-loop μ-loop loop-holds (λ c. omega arith) (λ c. omega arith) (λ c κs. tt) (λ c. omega arith) (λ c. omega arith) loop-again returns)

@@ -21,15 +21,6 @@ two-ends-requires : tie.Need-two-ends-requires Inv-loop μ-loop
 two-ends-requires c κs =
     let h = c .before .before .before .before .before .pre .0 in (list-ends _ _ _ _ (h .listed) (h .ends-long), omega arith)
 
-share-at-requires : tie.Need-share-at-requires Inv-loop μ-loop
-share-at-requires c κs = omega arith
-
-mul-rest : tie.Need-mul-rest Inv-loop μ-loop
-mul-rest c = omega arith
-
-shared-slice-read-rest : tie.Need-shared-slice-read-rest Inv-loop μ-loop
-shared-slice-read-rest c = omega arith
-
 -- what holds in the turn
 at-turn : (c : tie.After-shared-slice-known4 Inv-loop μ-loop) →
     let at = c .before .before .before .before in
@@ -74,12 +65,6 @@ add-loads-2 c = omega (arith, at-turn c .second)
 array-write-loads-2 : tie.Need-array-write-loads-2 Inv-loop μ-loop
 array-write-loads-2 c = omega (arith, at-turn c)
 
-add-j : tie.Need-add-j Inv-loop μ-loop
-add-j c = omega arith
-
-loop-less : tie.Need-loop-less Inv-loop μ-loop
-loop-less c = omega arith
-
 loop-again : tie.Need-loop-again Inv-loop μ-loop
 unfolding both-more
 loop-again c = at-turn c .next
@@ -97,9 +82,9 @@ loads-of-spec =
     μ-loop
     loop-holds
     two-ends-requires
-    share-at-requires
-    mul-rest
-    shared-slice-read-rest
+    (λ c κs. omega arith)
+    (λ c. omega arith)
+    (λ c. omega arith)
     mul-rest-2
     sub-rest
     mul-loads
@@ -110,7 +95,7 @@ loads-of-spec =
     array-read-loads-2
     add-loads-2
     array-write-loads-2
-    add-j
-    loop-less
+    (λ c. omega arith)
+    (λ c. omega arith)
     loop-again
     returns)

@@ -16,12 +16,6 @@ abbrev μ-loop : tie.MeasureT-loop
 loop-holds : tie.Need-loop-holds Inv-loop μ-loop
 loop-holds c = sharing-starts _ _ _ _ (c .before .before .pre .0 .1)
 
-mul-if1 : tie.Need-mul-if1 Inv-loop μ-loop
-mul-if1 c = omega arith
-
-shared-slice-read-if1 : tie.Need-shared-slice-read-if1 Inv-loop μ-loop
-shared-slice-read-if1 c = omega arith
-
 mul-if1-2 : tie.Need-mul-if1-2 Inv-loop μ-loop
 unfolding Light
 mul-if1-2 c =
@@ -29,20 +23,11 @@ mul-if1-2 c =
     let s = at .before .before .before in
     omega (arith, units-small _ _ (s .pre .1 .0 (at .loop .j) (omega arith)) (s .pre .1 .1))
 
-share-at-requires : tie.Need-share-at-requires Inv-loop μ-loop
-share-at-requires c κs = omega arith
-
 returns : tie.Need-returns Inv-loop μ-loop
 returns c =
     let at = c .before .before .before .before in
     let s = at .before .before .before in
     sharing-bad _ _ _ _ (s .pre .0 .1) (at .loop .j) (at .loop .inv) (omega arith) (omega arith)
-
-add-j : tie.Need-add-j Inv-loop μ-loop
-add-j c = omega arith
-
-loop-less : tie.Need-loop-less Inv-loop μ-loop
-loop-less c = omega arith
 
 loop-again : tie.Need-loop-again Inv-loop μ-loop
 loop-again c =
@@ -60,12 +45,12 @@ shares-fit-spec =
     Inv-loop
     μ-loop
     loop-holds
-    mul-if1
-    shared-slice-read-if1
+    (λ c. omega arith)
+    (λ c. omega arith)
     mul-if1-2
-    share-at-requires
+    (λ c κs. omega arith)
     returns
-    add-j
-    loop-less
+    (λ c. omega arith)
+    (λ c. omega arith)
     loop-again
     returns-2)

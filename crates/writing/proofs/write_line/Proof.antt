@@ -24,18 +24,6 @@ abbrev μ-loop : tie.MeasureT-loop
 loop-holds : tie.Need-loop-holds Inv-loop μ-loop
 loop-holds c = (left-start _ _ _ (c .before .before .before .pre .1), omega arith, omega arith)
 
-shared-slice-read-c : tie.Need-shared-slice-read-c Inv-loop μ-loop
-shared-slice-read-c c = search needs
-
-add-j : tie.Need-add-j Inv-loop μ-loop
-add-j c = search needs
-
-is-place-requires : tie.Need-is-place-requires Inv-loop μ-loop
-is-place-requires c κs = search needs
-
-number-for-requires : tie.Need-number-for-requires Inv-loop μ-loop
-number-for-requires c κs = search needs
-
 -- a number's digits come next
 digits-next : (c : tie.After-number-for Inv-loop μ-loop) →
     let l = c .before .before .before .before .before in
@@ -52,12 +40,6 @@ digits-next c =
 write-number-requires : tie.Need-write-number-requires Inv-loop μ-loop
 write-number-requires c κs =
     left-front (c .before .before .before .before .before .before .loop .inv .0) (spell 9 (c .before .number-for .result)) _ (digits-next (c .before))
-
-add-k : tie.Need-add-k Inv-loop μ-loop
-add-k c = omega arith
-
-loop-less : tie.Need-loop-less Inv-loop μ-loop
-loop-less c = search needs
 
 loop-again : tie.Need-loop-again Inv-loop μ-loop
 loop-again c =
@@ -94,9 +76,6 @@ slice-write-out c = byte-room c
 add-i : tie.Need-add-i Inv-loop μ-loop
 add-i c = omega (arith, byte-room c, c .before .before .before .before .loop .inv .0 .long)
 
-loop-less-2 : tie.Need-loop-less-2 Inv-loop μ-loop
-loop-less-2 c = search needs
-
 loop-again-2 : tie.Need-loop-again-2 Inv-loop μ-loop
 loop-again-2 c =
     let l = c .before .before .before in (
@@ -120,17 +99,17 @@ write-line-spec =
     Inv-loop
     μ-loop
     loop-holds
-    shared-slice-read-c
-    add-j
-    is-place-requires
-    number-for-requires
+    (λ c. search needs)
+    (λ c. search needs)
+    (λ c κs. search needs)
+    (λ c κs. search needs)
     write-number-requires
-    add-k
-    loop-less
+    (λ c. omega arith)
+    (λ c. search needs)
     loop-again
     slice-write-out
     add-i
-    loop-less-2
+    (λ c. search needs)
     loop-again-2
     same-length
     returns)

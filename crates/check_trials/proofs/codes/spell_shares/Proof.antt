@@ -12,37 +12,16 @@ Inv-loop code m shares₀ rest₀ j₀ shares rest j = length shares ≡ length 
 abbrev μ-loop : tie.MeasureT-loop
 μ-loop code m shares₀ rest₀ j₀ shares rest j = m - j
 
-loop-holds : tie.Need-loop-holds Inv-loop μ-loop
-loop-holds c = search needs
-
-put-share-requires : tie.Need-put-share-requires Inv-loop μ-loop
-put-share-requires c κs = search needs
-
-add-j : tie.Need-add-j Inv-loop μ-loop
-add-j c = search needs
-
-loop-less : tie.Need-loop-less Inv-loop μ-loop
-loop-less c = search needs
-
-loop-again : tie.Need-loop-again Inv-loop μ-loop
-loop-again c = search needs
-
-same-length : tie.Need-same-length Inv-loop μ-loop
-same-length c = search needs
-
-returns : tie.Need-returns Inv-loop μ-loop
-returns c = search needs
-
 pub spell-shares-spec : {M : Type 1} → statement M
 spell-shares-spec =
     tie.close
     (tie.spec
     Inv-loop
     μ-loop
-    loop-holds
-    put-share-requires
-    add-j
-    loop-less
-    loop-again
-    same-length
-    returns)
+    (λ c. search needs)
+    (λ c κs. search needs)
+    (λ c. search needs)
+    (λ c. search needs)
+    (λ c. search needs)
+    (λ c. search needs)
+    (λ c. search needs))

@@ -19,17 +19,8 @@ difference-fits x y hx hy = rw (toZ-pos w64 x (omega arith), toZ-pos w64 y (omeg
     go true = record { sfits = omega arith }
     go false = record { sfits = omega arith }
 
-cast-result : tie.Need-cast-result
-cast-result c = search needs
-
-cast-result-2 : tie.Need-cast-result-2
-cast-result-2 c = search needs
-
 sub-result : tie.Need-sub-result
 sub-result c = difference-fits (c .args .x) (c .args .y) (omega arith) (omega arith)
 
-returns : tie.Need-returns
-returns c = search needs
-
 pub minus-spec : {M : Type 1} → statement M
-minus-spec = tie.close (tie.spec cast-result cast-result-2 sub-result returns)
+minus-spec = tie.close (tie.spec (λ c. search needs) (λ c. search needs) sub-result (λ c. search needs))

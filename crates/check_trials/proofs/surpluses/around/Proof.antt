@@ -10,37 +10,16 @@ Inv-loop kind l now₀ k₀ now k = Unit {0}
 abbrev μ-loop : tie.MeasureT-loop
 μ-loop kind l now₀ k₀ now k = 290 - k
 
-try-first-requires : tie.Need-try-first-requires Inv-loop μ-loop
-try-first-requires c κs = search needs
-
-loop-holds : tie.Need-loop-holds Inv-loop μ-loop
-loop-holds c = search needs
-
-try-first-requires-2 : tie.Need-try-first-requires-2 Inv-loop μ-loop
-try-first-requires-2 c κs = search needs
-
-add-k : tie.Need-add-k Inv-loop μ-loop
-add-k c = search needs
-
-loop-less : tie.Need-loop-less Inv-loop μ-loop
-loop-less c = search needs
-
-loop-again : tie.Need-loop-again Inv-loop μ-loop
-loop-again c = search needs
-
-returns : tie.Need-returns Inv-loop μ-loop
-returns c = search needs
-
 pub around-spec : {M : Type 1} → statement M
 around-spec =
     tie.close
     (tie.spec
     Inv-loop
     μ-loop
-    try-first-requires
-    loop-holds
-    try-first-requires-2
-    add-k
-    loop-less
-    loop-again
-    returns)
+    (λ c κs. search needs)
+    (λ c. search needs)
+    (λ c κs. search needs)
+    (λ c. search needs)
+    (λ c. search needs)
+    (λ c. search needs)
+    (λ c. search needs))

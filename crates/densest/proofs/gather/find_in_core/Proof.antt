@@ -62,36 +62,15 @@ mark-at-least-requires : tie.Need-mark-at-least-requires
 unfolding list-in
 mark-at-least-requires c κs = let q = begin (c .before) .pre in (q .0 .cored .long, omega (arith, q .1))
 
-slice-aggregate-gather : tie.Need-slice-aggregate-gather
-slice-aggregate-gather c = search needs
-
-slice-aggregate-gather-2 : tie.Need-slice-aggregate-gather-2
-slice-aggregate-gather-2 c = search needs
-
 gather-requires : tie.Need-gather-requires
 gather-requires c κs =
     let k = c .before .before .before .before .before in
     let s = begin (rounded k) in
     (s .pre .0 .held, (core-long k, (omega (arith, short s), short s)))
 
-slice-aggregate-keep-at-least : tie.Need-slice-aggregate-keep-at-least
-slice-aggregate-keep-at-least c = search needs
-
 keep-at-least-requires : tie.Need-keep-at-least-requires
 unfolding list-in
 keep-at-least-requires c κs = let s = start (c .before .before .before) in (s .pre .0 .cored .long, few-modules _ _ _ _ (s .pre .0 .held .listed))
-
-slice-aggregate-find : tie.Need-slice-aggregate-find
-slice-aggregate-find c = search needs
-
-slice-aggregate-find-2 : tie.Need-slice-aggregate-find-2
-slice-aggregate-find-2 c = search needs
-
-slice-aggregate-find-3 : tie.Need-slice-aggregate-find-3
-slice-aggregate-find-3 c = search needs
-
-slice-aggregate-find-4 : tie.Need-slice-aggregate-find-4
-slice-aggregate-find-4 c = search needs
 
 find-requires : tie.Need-find-requires
 find-requires c κs =
@@ -117,9 +96,6 @@ find-requires c κs =
       room = room-zeros (t .gather .result) 8192 (omega (arith, short s));
     }
 
-slice-aggregate-scatter : tie.Need-slice-aggregate-scatter
-slice-aggregate-scatter c = search needs
-
 scatter-requires : tie.Need-scatter-requires
 scatter-requires c κs =
     let f = c .before .before .before .before .before .before .before .before in
@@ -133,15 +109,6 @@ same-length : tie.Need-same-length
 same-length c =
     let f = c .before .before .before .before .before .before .before .before .before .before .before in
     marked (gathered (kept f)) .mark-at-least .kept .1 .1 .1 .0
-
-same-length-2 : tie.Need-same-length-2
-same-length-2 c = search needs
-
-same-length-3 : tie.Need-same-length-3
-same-length-3 c = search needs
-
-same-length-4 : tie.Need-same-length-4
-same-length-4 c = search needs
 
 returns : tie.Need-returns
 returns c =
@@ -159,20 +126,20 @@ find-in-core-spec =
     (tie.spec
     rounded-up-requires
     mark-at-least-requires
-    slice-aggregate-gather
-    slice-aggregate-gather-2
+    (λ c. search needs)
+    (λ c. search needs)
     gather-requires
-    slice-aggregate-keep-at-least
+    (λ c. search needs)
     keep-at-least-requires
-    slice-aggregate-find
-    slice-aggregate-find-2
-    slice-aggregate-find-3
-    slice-aggregate-find-4
+    (λ c. search needs)
+    (λ c. search needs)
+    (λ c. search needs)
+    (λ c. search needs)
     find-requires
-    slice-aggregate-scatter
+    (λ c. search needs)
     scatter-requires
     same-length
-    same-length-2
-    same-length-3
-    same-length-4
+    (λ c. search needs)
+    (λ c. search needs)
+    (λ c. search needs)
     returns)

@@ -28,75 +28,15 @@ loop-holds c =
       gathering-start _ _ _ _ _,
     )
 
-mul-gathered : tie.Need-mul-gathered Inv-loop μ-loop
-mul-gathered c = omega arith
-
-mul-gathered-2 : tie.Need-mul-gathered-2 Inv-loop μ-loop
-mul-gathered-2 c = omega arith
-
-shared-slice-read-gathered : tie.Need-shared-slice-read-gathered Inv-loop μ-loop
-shared-slice-read-gathered c = omega arith
-
-mul-gathered-3 : tie.Need-mul-gathered-3 Inv-loop μ-loop
-mul-gathered-3 c = omega arith
-
-mul-gathered-4 : tie.Need-mul-gathered-4 Inv-loop μ-loop
-mul-gathered-4 c = omega arith
-
-slice-write-gathered : tie.Need-slice-write-gathered Inv-loop μ-loop
-slice-write-gathered c = omega arith
-
-mul-gathered-5 : tie.Need-mul-gathered-5 Inv-loop μ-loop
-mul-gathered-5 c = omega arith
-
-add-gathered : tie.Need-add-gathered Inv-loop μ-loop
-add-gathered c = omega arith
-
-mul-gathered-6 : tie.Need-mul-gathered-6 Inv-loop μ-loop
-mul-gathered-6 c = omega arith
-
-shared-slice-read-gathered-2 : tie.Need-shared-slice-read-gathered-2 Inv-loop μ-loop
-shared-slice-read-gathered-2 c = omega arith
-
-mul-gathered-7 : tie.Need-mul-gathered-7 Inv-loop μ-loop
-mul-gathered-7 c = omega arith
-
-add-gathered-2 : tie.Need-add-gathered-2 Inv-loop μ-loop
-add-gathered-2 c = omega arith
-
-mul-gathered-8 : tie.Need-mul-gathered-8 Inv-loop μ-loop
-mul-gathered-8 c = omega arith
-
 slice-write-gathered-2 : tie.Need-slice-write-gathered-2 Inv-loop μ-loop
 slice-write-gathered-2 c = simp length-set (omega arith)
-
-mul-counts : tie.Need-mul-counts Inv-loop μ-loop
-mul-counts c = omega arith
-
-shared-slice-read-counts : tie.Need-shared-slice-read-counts Inv-loop μ-loop
-shared-slice-read-counts c = omega arith
-
-mul-counts-2 : tie.Need-mul-counts-2 Inv-loop μ-loop
-mul-counts-2 c = omega arith
-
-slice-write-counts : tie.Need-slice-write-counts Inv-loop μ-loop
-slice-write-counts c = omega arith
 
 inner-requires : tie.Need-inner-requires Inv-loop μ-loop
 inner-requires c κs = let l = c .before .before .before .before in (l .loop .inv .0, (omega arith, begin l .pre .1 .0))
 
-step-requires : tie.Need-step-requires Inv-loop μ-loop
-step-requires c κs = tt
-
 add-i : tie.Need-add-i Inv-loop μ-loop
 add-i c =
     let e = bit-le (c .before .inner .result) in omega arith
-
-add-j : tie.Need-add-j Inv-loop μ-loop
-add-j c = omega arith
-
-loop-less : tie.Need-loop-less Inv-loop μ-loop
-loop-less c = omega arith
 
 loop-again : tie.Need-loop-again Inv-loop μ-loop
 loop-again c =
@@ -124,29 +64,29 @@ gather-spec =
     Inv-loop
     μ-loop
     loop-holds
-    mul-gathered
-    mul-gathered-2
-    shared-slice-read-gathered
-    mul-gathered-3
-    mul-gathered-4
-    slice-write-gathered
-    mul-gathered-5
-    add-gathered
-    mul-gathered-6
-    shared-slice-read-gathered-2
-    mul-gathered-7
-    add-gathered-2
-    mul-gathered-8
+    (λ c. omega arith)
+    (λ c. omega arith)
+    (λ c. omega arith)
+    (λ c. omega arith)
+    (λ c. omega arith)
+    (λ c. omega arith)
+    (λ c. omega arith)
+    (λ c. omega arith)
+    (λ c. omega arith)
+    (λ c. omega arith)
+    (λ c. omega arith)
+    (λ c. omega arith)
+    (λ c. omega arith)
     slice-write-gathered-2
-    mul-counts
-    shared-slice-read-counts
-    mul-counts-2
-    slice-write-counts
+    (λ c. omega arith)
+    (λ c. omega arith)
+    (λ c. omega arith)
+    (λ c. omega arith)
     inner-requires
-    step-requires
+    (λ c κs. tt)
     add-i
-    add-j
-    loop-less
+    (λ c. omega arith)
+    (λ c. omega arith)
     loop-again
     same-length
     same-length-2

@@ -23,66 +23,12 @@ loop-holds c = (c .before .before .before .before .pre .0, passed-start _ _ _, s
 inner-requires : tie.Need-inner-requires Inv-loop μ-loop
 inner-requires c κs = let l = c .before in (l .loop .inv .0, (omega arith, begin l .pre .1 .0))
 
-mul-pick : tie.Need-mul-pick Inv-loop μ-loop
-mul-pick c = omega arith
-
-mul-pick-2 : tie.Need-mul-pick-2 Inv-loop μ-loop
-mul-pick-2 c = omega arith
-
-shared-slice-read-pick : tie.Need-shared-slice-read-pick Inv-loop μ-loop
-shared-slice-read-pick c = omega arith
-
-pick-requires : tie.Need-pick-requires Inv-loop μ-loop
-pick-requires c κs = tt
-
-mul-hold : tie.Need-mul-hold Inv-loop μ-loop
-mul-hold c = omega arith
-
-mul-hold-2 : tie.Need-mul-hold-2 Inv-loop μ-loop
-mul-hold-2 c = omega arith
-
-slice-write-hold : tie.Need-slice-write-hold Inv-loop μ-loop
-slice-write-hold c = omega arith
-
-mul-pick-3 : tie.Need-mul-pick-3 Inv-loop μ-loop
-mul-pick-3 c = omega arith
-
-add-pick : tie.Need-add-pick Inv-loop μ-loop
-add-pick c = omega arith
-
-mul-pick-4 : tie.Need-mul-pick-4 Inv-loop μ-loop
-mul-pick-4 c = omega arith
-
-shared-slice-read-pick-2 : tie.Need-shared-slice-read-pick-2 Inv-loop μ-loop
-shared-slice-read-pick-2 c = omega arith
-
-pick-requires-2 : tie.Need-pick-requires-2 Inv-loop μ-loop
-pick-requires-2 c κs = tt
-
-mul-hold-3 : tie.Need-mul-hold-3 Inv-loop μ-loop
-mul-hold-3 c = omega arith
-
-add-hold : tie.Need-add-hold Inv-loop μ-loop
-add-hold c = omega arith
-
-mul-hold-4 : tie.Need-mul-hold-4 Inv-loop μ-loop
-mul-hold-4 c = omega arith
-
 slice-write-hold-2 : tie.Need-slice-write-hold-2 Inv-loop μ-loop
 slice-write-hold-2 c = simp length-set (omega arith)
-
-step-requires : tie.Need-step-requires Inv-loop μ-loop
-step-requires c κs = tt
 
 add-i : tie.Need-add-i Inv-loop μ-loop
 add-i c =
     let e = bit-le (c .before .before .before .before .before .inner .result) in omega arith
-
-add-j : tie.Need-add-j Inv-loop μ-loop
-add-j c = omega arith
-
-loop-less : tie.Need-loop-less Inv-loop μ-loop
-loop-less c = omega arith
 
 loop-again : tie.Need-loop-again Inv-loop μ-loop
 loop-again c =
@@ -108,26 +54,26 @@ scatter-spec =
     μ-loop
     loop-holds
     inner-requires
-    mul-pick
-    mul-pick-2
-    shared-slice-read-pick
-    pick-requires
-    mul-hold
-    mul-hold-2
-    slice-write-hold
-    mul-pick-3
-    add-pick
-    mul-pick-4
-    shared-slice-read-pick-2
-    pick-requires-2
-    mul-hold-3
-    add-hold
-    mul-hold-4
+    (λ c. omega arith)
+    (λ c. omega arith)
+    (λ c. omega arith)
+    (λ c κs. tt)
+    (λ c. omega arith)
+    (λ c. omega arith)
+    (λ c. omega arith)
+    (λ c. omega arith)
+    (λ c. omega arith)
+    (λ c. omega arith)
+    (λ c. omega arith)
+    (λ c κs. tt)
+    (λ c. omega arith)
+    (λ c. omega arith)
+    (λ c. omega arith)
     slice-write-hold-2
-    step-requires
+    (λ c κs. tt)
     add-i
-    add-j
-    loop-less
+    (λ c. omega arith)
+    (λ c. omega arith)
     loop-again
     same-length
     returns)

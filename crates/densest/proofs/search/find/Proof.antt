@@ -26,33 +26,15 @@ links-long c = record {
   next-long = omega (arith, short (begin c), c .links .kept .1 .1 .1 .1 .0);
 }
 
-slice-aggregate-links : tie.Need-slice-aggregate-links
-slice-aggregate-links c = search needs
-
-slice-aggregate-links-2 : tie.Need-slice-aggregate-links-2
-slice-aggregate-links-2 c = search needs
-
 links-requires : tie.Need-links-requires
 links-requires c κs =
     let s = c .before .before .before .before .before .before .before .before in
     (list-ends _ _ _ _ (s .pre .held .listed) (s .pre .held .ends-long), (few-modules _ _ _ _ (s .pre .held .listed), short s))
 
-slice-aggregate-search : tie.Need-slice-aggregate-search
-slice-aggregate-search c = search needs
-
-slice-aggregate-search-2 : tie.Need-slice-aggregate-search-2
-slice-aggregate-search-2 c = search needs
-
 search-requires : tie.Need-search-requires
 search-requires c κs =
     let l = c .before .before .before .before .before .before .before in
     (begin l .pre, links-long l)
-
-slice-aggregate-last-round : tie.Need-slice-aggregate-last-round
-slice-aggregate-last-round c = search needs
-
-slice-aggregate-last-round-2 : tie.Need-slice-aggregate-last-round-2
-slice-aggregate-last-round-2 c = search needs
 
 last-round-requires : tie.Need-last-round-requires
 last-round-requires c κs =
@@ -73,15 +55,6 @@ last-round-requires c κs =
       (links-long l, e .ensures .last),
     )
 
-same-length : tie.Need-same-length
-same-length c = search needs
-
-same-length-2 : tie.Need-same-length-2
-same-length-2 c = search needs
-
-same-length-3 : tie.Need-same-length-3
-same-length-3 c = search needs
-
 returns : tie.Need-returns
 returns c =
     let l = c .before .before .before .before .before .before in
@@ -94,16 +67,16 @@ pub find-spec : {M : Type 1} → statement M
 find-spec =
     tie.close
     (tie.spec
-    slice-aggregate-links
-    slice-aggregate-links-2
+    (λ c. search needs)
+    (λ c. search needs)
     links-requires
-    slice-aggregate-search
-    slice-aggregate-search-2
+    (λ c. search needs)
+    (λ c. search needs)
     search-requires
-    slice-aggregate-last-round
-    slice-aggregate-last-round-2
+    (λ c. search needs)
+    (λ c. search needs)
     last-round-requires
-    same-length
-    same-length-2
-    same-length-3
+    (λ c. search needs)
+    (λ c. search needs)
+    (λ c. search needs)
     returns)

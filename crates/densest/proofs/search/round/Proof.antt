@@ -52,9 +52,6 @@ spread-requires c κs =
     let s = begin k in
     (ends-of s, (weights-of s, (scope-long k, (bounded s .small, s .pre .0 .room))))
 
-slice-aggregate-flow : tie.Need-slice-aggregate-flow
-slice-aggregate-flow c = search needs
-
 flow-requires : tie.Need-flow-requires
 flow-requires c κs =
     let k = c .before .before .before .before .before .before in
@@ -72,15 +69,6 @@ flow-requires c κs =
         ),
       ),
     )
-
-same-length : tie.Need-same-length
-same-length c = search needs
-
-same-length-2 : tie.Need-same-length-2
-same-length-2 c = search needs
-
-same-length-3 : tie.Need-same-length-3
-same-length-3 c = search needs
 
 returns : tie.Need-returns
 returns c =
@@ -102,9 +90,9 @@ round-spec =
     rounded-up-requires
     mark-at-least-requires
     spread-requires
-    slice-aggregate-flow
+    (λ c. search needs)
     flow-requires
-    same-length
-    same-length-2
-    same-length-3
+    (λ c. search needs)
+    (λ c. search needs)
+    (λ c. search needs)
     returns)

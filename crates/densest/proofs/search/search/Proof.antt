@@ -49,9 +49,6 @@ group-size-requires c κs =
     let r = c .before .before .before .before .before .before .before .before .before in
     (few-modules _ _ _ _ (turn r .loop .inv .0 .asks .held .listed), group-long r)
 
-same-requires : tie.Need-same-requires Inv-loop μ-loop
-same-requires c κs = tt
-
 loop-less : tie.Need-loop-less Inv-loop μ-loop
 loop-less c =
     let r = c .before .before .before .before .before .before .before .before .before .before .before in
@@ -96,7 +93,7 @@ search-spec =
     round-requires
     inside-count-requires
     group-size-requires
-    same-requires
+    (λ c κs. tt)
     loop-less
     loop-again
     same-length

@@ -35,12 +35,6 @@ loop-holds c =
 first-left-requires : tie.Need-first-left-requires Inv-loop μ-loop
 first-left-requires c κs = let s = begin (c .before) in (ends-of s, (omega arith, s .pre .1 .1 .0 .1))
 
-mul-pick : tie.Need-mul-pick Inv-loop μ-loop
-mul-pick c = omega arith
-
-shared-slice-read-pick : tie.Need-shared-slice-read-pick Inv-loop μ-loop
-shared-slice-read-pick c = omega arith
-
 mul-pick-2 : tie.Need-mul-pick-2 Inv-loop μ-loop
 mul-pick-2 c =
     let l = c .before .before .before in
@@ -48,35 +42,8 @@ mul-pick-2 c =
     let w = good-pair (s .args .n) (s .args .m) (s .args .ends .now) (s .args .weights .now) (s .pre .0 .listed) (l .loop .j) (omega arith) .light in
     omega (arith, mul-le-mul-right (s .args .q) w, mul-le-mul-left 1000 (s .pre .1 .0))
 
-pick-requires : tie.Need-pick-requires Inv-loop μ-loop
-pick-requires c κs = tt
-
 inner-requires : tie.Need-inner-requires Inv-loop μ-loop
 inner-requires c κs = let s = begin (c .before .before .before .before) in (ends-of s, (omega arith, s .pre .1 .1 .0 .0))
-
-mul-share : tie.Need-mul-share Inv-loop μ-loop
-mul-share c = omega arith
-
-mul-share-2 : tie.Need-mul-share-2 Inv-loop μ-loop
-mul-share-2 c = omega arith
-
-shared-slice-read-share : tie.Need-shared-slice-read-share Inv-loop μ-loop
-shared-slice-read-share c = omega arith
-
-share-requires : tie.Need-share-requires Inv-loop μ-loop
-share-requires c κs = tt
-
-mul-shares : tie.Need-mul-shares Inv-loop μ-loop
-mul-shares c = omega arith
-
-slice-write-shares : tie.Need-slice-write-shares Inv-loop μ-loop
-slice-write-shares c = omega arith
-
-add-j : tie.Need-add-j Inv-loop μ-loop
-add-j c = omega arith
-
-loop-less : tie.Need-loop-less Inv-loop μ-loop
-loop-less c = omega arith
 
 loop-again : tie.Need-loop-again Inv-loop μ-loop
 loop-again c =
@@ -111,19 +78,19 @@ write-shares-spec =
     μ-loop
     loop-holds
     first-left-requires
-    mul-pick
-    shared-slice-read-pick
+    (λ c. omega arith)
+    (λ c. omega arith)
     mul-pick-2
-    pick-requires
+    (λ c κs. tt)
     inner-requires
-    mul-share
-    mul-share-2
-    shared-slice-read-share
-    share-requires
-    mul-shares
-    slice-write-shares
-    add-j
-    loop-less
+    (λ c. omega arith)
+    (λ c. omega arith)
+    (λ c. omega arith)
+    (λ c κs. tt)
+    (λ c. omega arith)
+    (λ c. omega arith)
+    (λ c. omega arith)
+    (λ c. omega arith)
     loop-again
     same-length
     returns)

@@ -12,37 +12,16 @@ Inv-loop table n words₀ j₀ a₀ words j a = length words ≡ length words₀
 abbrev μ-loop : tie.MeasureT-loop
 μ-loop table n words₀ j₀ a₀ words j a = n - a
 
-loop-holds : tie.Need-loop-holds Inv-loop μ-loop
-loop-holds c = search needs
-
-put-row-requires : tie.Need-put-row-requires Inv-loop μ-loop
-put-row-requires c κs = search needs
-
-add-a : tie.Need-add-a Inv-loop μ-loop
-add-a c = search needs
-
-loop-less : tie.Need-loop-less Inv-loop μ-loop
-loop-less c = search needs
-
-loop-again : tie.Need-loop-again Inv-loop μ-loop
-loop-again c = search needs
-
-same-length : tie.Need-same-length Inv-loop μ-loop
-same-length c = search needs
-
-returns : tie.Need-returns Inv-loop μ-loop
-returns c = search needs
-
 pub put-list-spec : {M : Type 1} → statement M
 put-list-spec =
     tie.close
     (tie.spec
     Inv-loop
     μ-loop
-    loop-holds
-    put-row-requires
-    add-a
-    loop-less
-    loop-again
-    same-length
-    returns)
+    (λ c. search needs)
+    (λ c κs. search needs)
+    (λ c. search needs)
+    (λ c. search needs)
+    (λ c. search needs)
+    (λ c. search needs)
+    (λ c. search needs))

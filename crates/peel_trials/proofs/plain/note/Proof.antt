@@ -12,37 +12,16 @@ Inv-loop n k present cores₀ v₀ cores v = length cores ≡ length cores₀
 abbrev μ-loop : tie.MeasureT-loop
 μ-loop n k present cores₀ v₀ cores v = n - v
 
-loop-holds : tie.Need-loop-holds Inv-loop μ-loop
-loop-holds c = search needs
-
-note-one-requires : tie.Need-note-one-requires Inv-loop μ-loop
-note-one-requires c κs = search needs
-
-add-v : tie.Need-add-v Inv-loop μ-loop
-add-v c = search needs
-
-loop-less : tie.Need-loop-less Inv-loop μ-loop
-loop-less c = search needs
-
-loop-again : tie.Need-loop-again Inv-loop μ-loop
-loop-again c = search needs
-
-same-length : tie.Need-same-length Inv-loop μ-loop
-same-length c = search needs
-
-returns : tie.Need-returns Inv-loop μ-loop
-returns c = search needs
-
 pub note-spec : {M : Type 1} → statement M
 note-spec =
     tie.close
     (tie.spec
     Inv-loop
     μ-loop
-    loop-holds
-    note-one-requires
-    add-v
-    loop-less
-    loop-again
-    same-length
-    returns)
+    (λ c. search needs)
+    (λ c κs. search needs)
+    (λ c. search needs)
+    (λ c. search needs)
+    (λ c. search needs)
+    (λ c. search needs)
+    (λ c. search needs))

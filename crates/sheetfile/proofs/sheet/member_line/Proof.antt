@@ -11,27 +11,9 @@ use borrow.Author.Tests.{leb-true, leb-false}
 use Rattle.sheetfile.proofs.sheet.member_line.Statement.{statement}
 use Rattle.sheetfile.proofs.sheet.member_line.Tie as tie
 
-slice-aggregate-count-at : tie.Need-slice-aggregate-count-at
-slice-aggregate-count-at c = search needs
-
 count-at-requires : tie.Need-count-at-requires
 unfolding places is-place between mark
 count-at-requires c κs = (c .before .before .pre, refl)
-
-enum-told : tie.Need-enum-told
-enum-told c = search needs
-
-refused-line-requires : tie.Need-refused-line-requires
-refused-line-requires c κs = search needs
-
-enum-known-value : tie.Need-enum-known-value
-enum-known-value c = search needs
-
-cast-if2 : tie.Need-cast-if2
-cast-if2 c = search needs
-
-refused-line-requires-2 : tie.Need-refused-line-requires-2
-refused-line-requires-2 c κs = search needs
 
 returns : tie.Need-returns
 unfolding member-form text
@@ -56,13 +38,13 @@ pub member-line-spec : {M : Type 1} → statement M
 member-line-spec =
     tie.close
     (tie.spec
-    slice-aggregate-count-at
+    (λ c. search needs)
     count-at-requires
-    enum-told
-    refused-line-requires
-    enum-known-value
-    cast-if2
-    refused-line-requires-2
+    (λ c. search needs)
+    (λ c κs. search needs)
+    (λ c. search needs)
+    (λ c. search needs)
+    (λ c κs. search needs)
     returns
     returns-2
     returns-3)

@@ -9,24 +9,9 @@ use borrow.Author.Needs.{needs}
 use Rattle.sheetfile.proofs.sheet.number_line.Statement.{statement}
 use Rattle.sheetfile.proofs.sheet.number_line.Tie as tie
 
-slice-aggregate-count-at : tie.Need-slice-aggregate-count-at
-slice-aggregate-count-at c = search needs
-
 count-at-requires : tie.Need-count-at-requires
 unfolding places is-place between mark
 count-at-requires c κs = (c .before .before .pre, refl)
-
-enum-told : tie.Need-enum-told
-enum-told c = search needs
-
-refused-line-requires : tie.Need-refused-line-requires
-refused-line-requires c κs = search needs
-
-enum-known-value : tie.Need-enum-known-value
-enum-known-value c = search needs
-
-refused-line-requires-2 : tie.Need-refused-line-requires-2
-refused-line-requires-2 c κs = search needs
 
 returns : tie.Need-returns
 unfolding number-form text
@@ -49,12 +34,12 @@ pub number-line-spec : {M : Type 1} → statement M
 number-line-spec =
     tie.close
     (tie.spec
-    slice-aggregate-count-at
+    (λ c. search needs)
     count-at-requires
-    enum-told
-    refused-line-requires
-    enum-known-value
-    refused-line-requires-2
+    (λ c. search needs)
+    (λ c κs. search needs)
+    (λ c. search needs)
+    (λ c κs. search needs)
     returns
     returns-2
     returns-3)

@@ -12,24 +12,9 @@ use borrow.Author.Needs.{needs}
 use Rattle.sheetfile.proofs.sheet.read_sheet.Statement.{statement}
 use Rattle.sheetfile.proofs.sheet.read_sheet.Tie as tie
 
-slice-aggregate-line-at : tie.Need-slice-aggregate-line-at
-slice-aggregate-line-at c = search needs
-
-slice-aggregate-line-at-2 : tie.Need-slice-aggregate-line-at-2
-slice-aggregate-line-at-2 c = search needs
-
 line-at-requires : tie.Need-line-at-requires
 unfolding places is-place between mark
 line-at-requires c κs = (omega arith, omega arith)
-
-enum-told : tie.Need-enum-told
-enum-told c = search needs
-
-refused-head-requires : tie.Need-refused-head-requires
-refused-head-requires c κs = search needs
-
-enum-known-next : tie.Need-enum-known-next
-enum-known-next c = search needs
 
 -- the head's numbers are in the buffer
 numbers : (c : tie.After-known-told) →
@@ -39,14 +24,8 @@ numbers : (c : tie.After-known-told) →
 unfolding head-form text places is-place between mark
 numbers c = line-has (c .before .before .before .before .line-at .ensures) (c .before .next .given .1)
 
-array-read-q : tie.Need-array-read-q
-array-read-q c = search needs
-
 cast-q : tie.Need-cast-q
 cast-q c = record { fits = omega (arith, head-small (numbers c)) }
-
-refused-head-requires-2 : tie.Need-refused-head-requires-2
-refused-head-requires-2 c κs = search needs
 
 returns : tie.Need-returns
 unfolding laid-list
@@ -60,28 +39,10 @@ read-body-requires c κs =
     let start = k .before .before .before .before .before .before .before .before .before .before .before .before in
     (numbers k .within, start .pre)
 
-array-read-t28 : tie.Need-array-read-t28
-array-read-t28 c = search needs
-
-array-read-t31 : tie.Need-array-read-t31
-array-read-t31 c = search needs
-
-array-read-t34 : tie.Need-array-read-t34
-array-read-t34 c = search needs
-
-array-read-t37 : tie.Need-array-read-t37
-array-read-t37 c = search needs
-
 returns-2 : tie.Need-returns-2
 unfolding head-form text
 returns-2 c =
     rw (c .refused-head .ensures) (head-none (c .before .before .before .before .line-at .ensures) _ _ _ (c .before .enum-told .given .1))
-
-same-length : tie.Need-same-length
-same-length c = search needs
-
-same-length-2 : tie.Need-same-length-2
-same-length-2 c = search needs
 
 returns-3 : tie.Need-returns-3
 unfolding laid-list
@@ -94,22 +55,22 @@ pub read-sheet-spec : {M : Type 1} → statement M
 read-sheet-spec =
     tie.close
     (tie.spec
-    slice-aggregate-line-at
-    slice-aggregate-line-at-2
+    (λ c. search needs)
+    (λ c. search needs)
     line-at-requires
-    enum-told
-    refused-head-requires
-    enum-known-next
-    array-read-q
+    (λ c. search needs)
+    (λ c κs. search needs)
+    (λ c. search needs)
+    (λ c. search needs)
     cast-q
-    refused-head-requires-2
+    (λ c κs. search needs)
     returns
     read-body-requires
-    array-read-t28
-    array-read-t31
-    array-read-t34
-    array-read-t37
+    (λ c. search needs)
+    (λ c. search needs)
+    (λ c. search needs)
+    (λ c. search needs)
     returns-2
-    same-length
-    same-length-2
+    (λ c. search needs)
+    (λ c. search needs)
     returns-3)

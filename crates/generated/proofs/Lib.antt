@@ -1,0 +1,3 @@
+-- The facts that the proofs here cite.
+pub mod Generated
+pub mod Held

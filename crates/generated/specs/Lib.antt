@@ -1,0 +1,4 @@
+-- What the contracts cite.
+pub mod Generated
+pub mod Held
+pub mod Words
