@@ -23,8 +23,8 @@ use Rattle.pairfile.specs.File.{read-file}
 use Rattle.pairfile.specs.Answers.{reading-of, pairs-of, Same-past}
 use Rattle.records.specs.declared.Pair.{Pair}
 use Rattle.records.specs.declared.Head.{Head}
-use Rattle.records.specs.Records.{as-pair, held-list, agrees, ends-of, weights-of, laid-out, Room-out}
-use Rattle.records.proofs.Copies.{length-ends-of, length-laid-out, laid-out-none, laid-out-pairs, agrees-room}
+use Rattle.records.specs.Records.{as-pair, held-list, agrees, ends-of, weights-of, copied-out, Room-out}
+use Rattle.records.proofs.Copies.{length-ends-of, length-copied-out, copied-out-none, copied-out-pairs, agrees-room}
 use Rattle.kandurzo.specs.declared.Changed.{Changed}
 use Rattle.kandurzo.specs.declared.Solved.{Solved}
 use Rattle.kandurzo.specs.Buffers.{buffer, any-short, work-words}
@@ -50,8 +50,8 @@ answer-of file found = record {
 }
 
 -- the words past the first m pairs are as they were
-out-past : (ps : List Pair) (ws : List ℕ) (m : ℕ) → Room-out ps ws m → 12288 ≤ length ws → Same-past m ws (laid-out ps ws m)
-unfolding laid-out weights-of
+out-past : (ps : List Pair) (ws : List ℕ) (m : ℕ) → Room-out ps ws m → 12288 ≤ length ws → Same-past m ws (copied-out ps ws m)
+unfolding copied-out weights-of
 out-past ps ws m room long =
     let es : List ℕ = ends-of (take m ps) in
     let cs : List ℕ = weights-of (take m ps) in
@@ -115,9 +115,9 @@ module _ (bytes : List ℕ) (ps : List Pair) (work : List ℕ) (list-long : leng
     m-as = ap (λ (u : Head). u .m) (head-as (taken g) e)
 
     -- the words hold the file's pairs once as many records as were read have gone out
-    pairs-as : (words : List ℕ) → Room-out ps′ words (h .m) → laid-pairs (h .m) (laid-out ps′ words (h .m)) ≡ g .pairs
+    pairs-as : (words : List ℕ) → Room-out ps′ words (h .m) → laid-pairs (h .m) (copied-out ps′ words (h .m)) ≡ g .pairs
     unfolding held-list
-    pairs-as words room = laid-out-pairs ps′ words (h .m) room ∙ ap (λ (u : Pairs). u .pairs) held-as
+    pairs-as words room = copied-out-pairs ps′ words (h .m) room ∙ ap (λ (u : Pairs). u .pairs) held-as
 
     few-taken : h .m ≤ 4096
     few-taken = omega (arith, m-as, listed g good .short)
@@ -140,8 +140,8 @@ module _ (bytes : List ℕ) (ps : List Pair) (work : List ℕ) (list-long : leng
     pub room-out : Room-out ps′ words (h .m)
     room-out = record { enough = omega (arith, few-records, kept); few = few-records; long = λ _. long }
 
-    pub length-out : length (laid-out ps′ words (h .m)) ≡ length words
-    length-out = length-laid-out ps′ words (h .m) room-out
+    pub length-out : length (copied-out ps′ words (h .m)) ≡ length words
+    length-out = length-copied-out ps′ words (h .m) room-out
 
   module _ (members cores shares words : List ℕ) (room : Room-enough (length members) (length cores) (length shares) (length words))
       (found : Solved) (members′ cores′ shares′ work″ : List ℕ)
@@ -188,7 +188,7 @@ module _ (bytes : List ℕ) (ps : List Pair) (work : List ℕ) (list-long : leng
       out : Room-out ps′ words (h .m)
       out = agrees-room h ps′ words (agreed g e) (room .words-long)
 
-      over : Handed-over g members cores shares words (answer-of file found) members′ cores′ shares′ (laid-out ps′ words (h .m))
+      over : Handed-over g members cores shares words (answer-of file found) members′ cores′ shares′ (copied-out ps′ words (h .m))
       over = record {
         number = number-none;
         modules = n-as g e;
@@ -219,11 +219,11 @@ module _ (bytes : List ℕ) (ps : List Pair) (work : List ℕ) (list-long : leng
           let h-is : h ≡ head-of 0 0 = none-read k e in
           record { number = number-is i; n = h-is i .n; m = h-is i .m; p = d i .p; q = d i .q; k = d i .k; coresize = d i .coresize }
 
-      words-stay : laid-out ps′ words (h .m) ≡ words
+      words-stay : copied-out ps′ words (h .m) ≡ words
       unfolding head-of
-      words-stay = ap (λ (u : Head). laid-out ps′ words (u .m)) (none-read k e) ∙ laid-out-none ps′ words
+      words-stay = ap (λ (u : Head). copied-out ps′ words (u .m)) (none-read k e) ∙ copied-out-none ps′ words
 
-    pub sheeted : Sheeted bytes members cores shares words (answer-of file found) members′ cores′ shares′ (laid-out ps′ words (h .m))
+    pub sheeted : Sheeted bytes members cores shares words (answer-of file found) members′ cores′ shares′ (copied-out ps′ words (h .m))
     sheeted = record {
       taken = over;
       refused = λ k e. let d = declines k e in (answer-none k e, d .1, d .2, d .3, words-stay k e);

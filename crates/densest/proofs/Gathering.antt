@@ -168,7 +168,8 @@ gathering-next {m} {j} {i} {ends} {weights} {scope} {inner-ends₀} {inner-weigh
     }
 
 pub gathering-end : {m j i : ℕ} {ends weights scope inner-ends₀ inner-weights₀ inner-ends inner-weights : List ℕ} (n : ℕ) →
-    Inner-passed m j i ends scope → m ≤ j → Gathering j ends weights scope inner-ends₀ inner-weights₀ inner-ends inner-weights → Gathered n m ends weights scope inner-ends inner-weights i
+    Inner-passed m j i ends scope → m ≤ j → Gathering j ends weights scope inner-ends₀ inner-weights₀ inner-ends inner-weights →
+    Gathered n m ends weights scope inner-ends inner-weights i
 unfolding list-in pairs-in inner-list inner-before holds-pair word-pair
 gathering-end {m} {j} {i} {ends} {weights} {scope} {inner-ends₀} {inner-weights₀} {inner-ends} {inner-weights} n c h g =
     let e : j ≡ m = omega (arith, c .low) in

@@ -1,7 +1,8 @@
 // Groups in words: member bytes, one for each module, beside a held list (document 01, "Words used": group, inside count).
 //
-// A pair's ends, the size of a group and its inside count, whether a pair lies inside it, and the group of the modules whose number is k or more. What asks for a
-// group asks for exactly n bytes: a caller lends `&members[..n]`. Each costs one pass over the modules or the pairs. Nothing is refused.
+// A pair's ends, the size of a group and its inside count, whether a pair lies inside it, and the group of the modules whose entry in a buffer (a core
+// number, say) is k or more. What asks for a group asks for exactly n bytes: a caller lends `&members[..n]`. Each costs one pass over the modules or the
+// pairs. Nothing is refused.
 ghost use mathlib.Core.Path.{_≡_};
 ghost use mathlib.Core.Bool.{_&&_};
 ghost use Prim.Native.Nat.{ℕ, _≤_, _<_};
@@ -31,7 +32,7 @@ pub fn two_ends(n: usize, m: usize, j: usize, ends: &[u32]) -> TwoEnds
     }
 }
 
-// Whether two bytes are member bytes.
+// Whether both bytes are 1.
 pub fn both(a: u8, b: u8) -> bool
     ensures { λ r. ⌜ r ≡ (eqb a 1 && eqb b 1) ⌝ }
 {
@@ -79,10 +80,10 @@ pub fn group_size(n: usize, group: &[u8]) -> u32
     count
 }
 
-// The group of the modules whose number is k or more: of core numbers the core of order k, of layer numbers all from layer k on.
+// The group of the modules whose entry among `numbers` is k or more: of core numbers the core of order k, of layer numbers all from layer k on.
 pub fn mark_at_least(n: usize, k: u32, numbers: &[u32], group: &mut [u8])
     requires { ⌜ n ≤ length (now numbers) ⌝ }
-    requires { ⌜ n ≤ length (now group) ⌝ }
+    requires { ⌜ length (now group) ≡ n ⌝ }
     ensures { λ r. ⌜ ((v : ℕ) → v < n → getD (now (group .exit)) v 0 ≡ mark (leb k (getD (now (numbers .entry)) v 0))) ⌝ }
 {
     for v in 0..n {

@@ -24,8 +24,8 @@ use Rattle.pairs.specs.Causes.{add-causes, remove-causes}
 use Rattle.pairs.proofs.General.{by-test}
 use Rattle.records.specs.declared.Pair.{Pair}
 use Rattle.records.specs.declared.Head.{Head}
-use Rattle.records.specs.Records.{held-list, agrees, blank, laid-out, word-record, records-in, put-back, Room-out, Room-back}
-use Rattle.records.proofs.Copies.{length-laid-out, laid-out-pairs}
+use Rattle.records.specs.Records.{held-list, agrees, blank, copied-out, word-record, records-in, put-back, Room-out, Room-back}
+use Rattle.records.proofs.Copies.{length-copied-out, copied-out-pairs}
 use Rattle.kandurzo.specs.declared.Edit.{Edit}
 use Rattle.kandurzo.specs.Listing.{head-of, as-record, as-records, is-full, add-number, added, Add-says, remove-number, removed, Remove-says}
 use Rattle.kandurzo.specs.Edits.{records-out, Ready, edit-of, add-on-number, add-edit, add-words, remove-on-number, remove-edit, remove-words}
@@ -40,7 +40,7 @@ Making X = Head → Bool → ℕ → List ℕ → ℕ → ℕ → X
 
 -- the words zs after the records went out to them
 abbrev pub out : List ℕ → Head → List Pair → List ℕ
-out zs h ps = laid-out ps zs (records-out h (agrees h ps))
+out zs h ps = copied-out ps zs (records-out h (agrees h ps))
 
 -- the records that lie in words are those of the pairs
 table-map : (m : ℕ) (f : ℕ → Lists.Pair) (g : ℕ → Pair) → ((j : ℕ) → as-record (f j) ≡ g j) → table m g ≡ map as-record (table m f)
@@ -63,7 +63,7 @@ module _ (zs : List ℕ) (long : length zs ≡ 12288) (h : Head) (ps : List Pair
   -- where head and list agree, the words hold the list
   out-list : agrees h ps ≡ true → laid-list (h .n) (h .m) (out zs h ps) ≡ held-list h ps
   unfolding laid-list held-list records-out
-  out-list e = rw e (ap (λ (qs : List Lists.Pair). record { n = h .n; pairs = qs }) (laid-out-pairs ps zs (h .m) (agreed-room e)))
+  out-list e = rw e (ap (λ (qs : List Lists.Pair). record { n = h .n; pairs = qs }) (copied-out-pairs ps zs (h .m) (agreed-room e)))
 
   -- there is room for the records that go out
   pub out-room : Room-out ps zs (records-out h (agrees h ps))
@@ -73,7 +73,7 @@ module _ (zs : List ℕ) (long : length zs ≡ 12288) (h : Head) (ps : List Pair
       (λ e. rw e (record { enough = omega arith; few = omega arith; long = λ l. absurd (omega (arith, l)) }))
 
   pub out-long : length (out zs h ps) ≡ 12288
-  out-long = length-laid-out ps zs (records-out h (agrees h ps)) out-room ∙ long
+  out-long = length-copied-out ps zs (records-out h (agrees h ps)) out-room ∙ long
 
   pub out-ready : Ready h (agrees h ps) (length ps) (out zs h ps)
   out-ready = record {

@@ -24,9 +24,9 @@ use Rattle.theory.proofs.Lists.{listed}
 use Rattle.pairs.proofs.General.{by-test}
 use Rattle.records.specs.declared.Pair.{Pair}
 use Rattle.records.specs.declared.Head.{Head}
-use Rattle.records.specs.Records.{held-list, agrees, laid-out, Room-out}
+use Rattle.records.specs.Records.{held-list, agrees, copied-out, Room-out}
 use Rattle.records.proofs.Records.{room-as}
-use Rattle.records.proofs.Copies.{length-laid-out, laid-out-none, laid-out-pairs, laid-out-past}
+use Rattle.records.proofs.Copies.{length-copied-out, copied-out-none, copied-out-pairs, copied-out-past}
 use Rattle.kandurzo.specs.Buffers.{Buffer, any-short, work-left}
 use Rattle.kandurzo.specs.declared.Gate.{Gate}
 use Rattle.kandurzo.specs.Gate.{gate-number, gate-of, Behind}
@@ -69,7 +69,7 @@ the-gate h ps short = gate-of h (agrees h ps) short
 
 -- the words once the records are out
 abbrev pub the-words : Head → List Pair → (short : Bool) → List ℕ → List ℕ
-the-words h ps short work = laid-out ps work (the-gate h ps short .out)
+the-words h ps short work = copied-out ps work (the-gate h ps short .out)
 
 module _ (h : Head) (ps : List Pair) (short : Bool) where
   abbrev gate : ℕ
@@ -97,24 +97,24 @@ module _ (h : Head) (ps : List Pair) (short : Bool) where
         (λ e. rw e (record { enough = omega arith; few = omega arith; long = λ l. absurd (omega (arith, l)) }))
 
     pub length-words : length (the-words h ps short work) ≡ length work
-    length-words = length-laid-out ps work (the-gate h ps short .out) enough
+    length-words = length-copied-out ps work (the-gate h ps short .out) enough
 
     -- an open gate: they hold the list
     pub words-list : gate ≡ 0 → laid-list (h .n) (h .m) (the-words h ps short work) ≡ held-list h ps
     unfolding gate-of if-taken laid-list held-list
-    words-list z = rw z (ap (λ (qs : List Lists.Pair). record { n = h .n; pairs = qs }) (laid-out-pairs ps work (h .m) (open-room z)))
+    words-list z = rw z (ap (λ (qs : List Lists.Pair). record { n = h .n; pairs = qs }) (copied-out-pairs ps work (h .m) (open-room z)))
 
     -- a shut one: they are untouched
     words-shut : (gate ≡ 0 → ⊥) → the-words h ps short work ≡ work
     unfolding gate-of if-taken
-    words-shut n = rw (ne-eqb gate 0 n) (laid-out-none ps work)
+    words-shut n = rw (ne-eqb gate 0 n) (copied-out-none ps work)
 
     pub words-left : work-left gate (the-words h ps short work) ≡ work-left gate work
     words-left =
         by-test (eqb gate 0)
         (λ e.
         let z = eqb-true gate 0 e in
-        let past = cleared-past 12288 (the-words h ps short work) work (omega arith) (laid-out-past ps work _ enough) in
+        let past = cleared-past 12288 (the-words h ps short work) work (omega arith) (copied-out-past ps work _ enough) in
         left-open (the-words h ps short work) z ∙ past ∙ sym (left-open work z))
         (λ e. ap (work-left gate) (words-shut (eqb-false gate 0 e)))
 

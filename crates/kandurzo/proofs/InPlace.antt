@@ -111,24 +111,32 @@ module _ (called : Name) {Says : Call} (decides : (h : Head) (ps : List Pair) (a
     args is-head = by-value N.the-row (plain-head W) h is-head ∷ loan (lend-mut (pair-row W fullShare b′ o′) ps room)
         ∷ by-value u32 (plain-word W) m (refl, m-fits) ∷ by-value u32 (plain-word W) n (refl, n-fits) ∷ []
 
-    walk : ent 𝓤 (onEntry 𝓤 H A f.signature (κ, (κ′, tt)) (q, (q′, tt)) (entry pars .3) (entry pars .4)) (WpFn 𝓤 H (𝓣 .C) (𝓣 .Λ) (made called) (passed pars) Post)
+    walk : ent 𝓤 (onEntry 𝓤 H A f.signature (κ, (κ′, tt)) (q, (q′, tt)) (entry pars .3) (entry pars .4)) (WpFn 𝓤 H (𝓣 .C) (𝓣 .Λ)
+        (made called) (passed pars) Post)
     walk = begins (𝓣 .C) (𝓣 .Λ) (made called) Post pars (λ bs. ((tt, tt), (fit-slice (room .0), (num m-fits, (num n-fits, tt))))) (λ bs os.
         -- let answer = add(*head, list, a, b), or remove
         sets ! (3 + 6) empty (of-opd ! (load ! (from ! (hop ! (look ! (3 + 1) refl) (stop !))) (look-raw ! 0 refl))) (typed-as (plain-head W) h (os .0)) $
-        sets ! (3 + 7) empty (ptr-of ! (3 + 2) refl refl) (tt, tt) $ sets ! (3 + 8) empty (slice-again ! (3 + 7) (3 + 2) refl refl refl) (fit-slice (room .0)) $ move ! (1 ∷ []) $
-        calls-outright ! fm (args (os .0)) D.the-row (plain-changed W) (emp 𝓤) (λ r ws. Says h ps m n r (ws .1 .0)) refl (id⊢ 𝓤 _) (λ ks. known (bound (args (os .0)) ks, tt)) r₀ (tt, (ys, (tt, (tt, tt))))
+        sets ! (3 + 7) empty (ptr-of ! (3 + 2) refl refl) (tt, tt) $ sets ! (3 + 8) empty (slice-again ! (3 + 7) (3 + 2) refl refl refl)
+        (fit-slice (room .0)) $ move ! (1 ∷ []) $
+        calls-outright ! fm (args (os .0)) D.the-row (plain-changed W) (emp 𝓤) (λ r ws. Says h ps m n r (ws .1 .0)) refl (id⊢ 𝓤 _)
+        (λ ks. known (bound (args (os .0)) ks, tt)) r₀ (tt, (ys, (tt, (tt, tt))))
         (λ r ws e. (outcome .only r (ws .1 .0) e .0, λ i. (tt, (outcome .only r (ws .1 .0) e .1 i, (tt, (tt, tt))))))
-        (and-then ! (var ! (3 + 6) refl) (and-then ! (var ! (3 + 8) refl) (and-then ! (var ! (3 + 3) refl) (and-then ! (var ! (3 + 4) refl) (no-more !))))) (λ r-fits sized.
+        (and-then ! (var ! (3 + 6) refl) (and-then ! (var ! (3 + 8) refl) (and-then ! (var ! (3 + 3) refl) (and-then ! (var ! (3 + 4) refl)
+        (no-more !))))) (λ r-fits sized.
         lands-in ! (3 + 5) empty (typed-as (plain-changed W) r₀ r-fits) $ move ! (1 ∷ []) $
         -- *head = answer.head
-        assigns ! (of-opd ! (part-of ! (3 + 5) 1 refl refl refl)) (from ! (hop ! (look ! (3 + 1) refl) (stop !))) (store-raw ! 0 refl (typed-as (plain-head W) (r₀ .head) (changed-parts W r₀ r-fits .1))) $
+        assigns ! (of-opd ! (part-of ! (3 + 5) 1 refl refl refl)) (from ! (hop ! (look ! (3 + 1) refl) (stop !)))
+        (store-raw ! 0 refl (typed-as (plain-head W) (r₀ .head) (changed-parts W r₀ r-fits .1))) $
         sets ! (3 + 0) empty (of-opd ! (part-of ! (3 + 5) 0 refl refl refl)) (num (changed-parts W r₀ r-fits .0)) $
         leaves ! 3 (λ j. true) _ refl (look ! (3 + 0) refl) $
-        by ! (ends pars os (r₀ .head, (ys, (tt, (tt, tt)))) (changed-parts W r₀ r-fits .1, (sized .0, (tt, (tt, tt)))) u32 (plain-word W) (r₀ .number) (refl, changed-parts W r₀ r-fits .0)
+        by ! (ends pars os (r₀ .head, (ys, (tt, (tt, tt)))) (changed-parts W r₀ r-fits .1, (sized .0, (tt, (tt, tt)))) u32 (plain-word W)
+        (r₀ .number) (refl, changed-parts W r₀ r-fits .0)
         (fact 𝓤 (Says h ps m n (changed-to (r₀ .number) (r₀ .head)) ys)) (factI 𝓤 _ _ says)
-        (ends-at 𝓤 H A f.ended (stays f.ended kinds) (clauses Says 𝓤) W (entry pars, tt) _ (r₀ .number) (r₀ .head, (ys, (tt, (tt, tt)))) (tt, (sized .0, (tt, (tt, tt))))))))
+        (ends-at 𝓤 H A f.ended (stays f.ended kinds) (clauses Says 𝓤) W (entry pars, tt) _ (r₀ .number) (r₀ .head, (ys, (tt, (tt, tt))))
+        (tt, (sized .0, (tt, (tt, tt))))))))
 
   pub meets : Meets 𝓤 H A f.signature (WpFn 𝓤 H (𝓣 .C) (𝓣 .Λ) (made called)) (closing 𝓤 H A f.ended (clauses Says 𝓤))
   meets = meets-by f.ended kinds 𝓤 H A W (clauses Says 𝓤) 𝓣 (made called) (λ κs qs bounds a g are. via 𝓤 _ (fst∗ 𝓤 _ (emp 𝓤))
-      (walk (κs .0) (κs .1 .0) (qs .0) (qs .1 .0) (a .0 .ptr .0) (a .0 .ptr .1) (a .0 .name) (a .0 .now) (a .1 .0 .ptr .0) (a .1 .0 .ptr .1) (a .1 .0 .name) (a .1 .0 .now)
+      (walk (κs .0) (κs .1 .0) (qs .0) (qs .1 .0) (a .0 .ptr .0) (a .0 .ptr .1) (a .0 .name) (a .0 .now) (a .1 .0 .ptr .0) (a .1 .0 .ptr .1)
+      (a .1 .0 .name) (a .1 .0 .now)
       (a .1 .1 .0) (a .1 .1 .1 .0) (are .1 .0 .0 .1) (are .1 .1 .0 .1) (are .1 .1 .1 .0 .1)))

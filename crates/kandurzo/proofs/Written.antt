@@ -6,7 +6,8 @@
 -- Assumes nothing: these are definitions.
 use Prim.Native.Nat.{ℕ, _+_}
 use mathlib.Core.List.{[], _∷_}
-use mir.Syntax.{Ty, tyInt, tyRef, Lifetime, Mutability, erased, w32, Local, local, valueLocal, Place, place, field, deref, Opd as Operand, copy, addrOf, aggregate, Body, seq, assign}
+use mir.Syntax.{Ty, tyInt, tyRef, Lifetime, Mutability, erased, w32, Local, local, valueLocal, Place, place, field, deref, Opd as Operand, copy}
+use mir.Syntax.{addrOf, aggregate, Body, seq, assign}
 use denote.Memory.{lone, pointee}
 use denote.Slice.{sliceTy}
 use Rattle.records.proofs.Pair as P

@@ -23,7 +23,7 @@ use Rattle.kandurzo.specs.Listing.{head-of, is-full}
 unfoldable pub records-out : Head → (agreed : Bool) → ℕ
 records-out h t = cond t (h .m) 0
 
--- where head and list agree, the words hold the list, which has as many records
+-- where head and list agree, the words hold the list, and the lent list has M records or more
 pub record Ready (h : Head) (agreed : Bool) (len : ℕ) (words : List ℕ) : Type 0 where
   pub holds : agreed ≡ true → Holds-list (h .n) (h .m) words
   pub fits : agreed ≡ true → h .m ≤ len

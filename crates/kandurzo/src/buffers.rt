@@ -7,7 +7,7 @@ ghost use Rattle.kandurzo.specs.Gate.{gate-of};
 use crate::Gate;
 use records::Head;
 
-// 13, 12, or 0; and how many records go out to the work buffer.
+// 13, 12, or 0; and how many records go out to words.
 pub(crate) fn gate(head: Head, agreed: bool, short: bool) -> Gate
     ensures { λ r. ⌜ r ≡ gate-of head agreed short ⌝ }
 {

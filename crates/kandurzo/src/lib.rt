@@ -60,7 +60,7 @@ pub(crate) struct Edit {
     pub count: usize,
 }
 
-// What the first two refusals say: 13, 12 or 0, and how many records go out to the work buffer.
+// What the first two refusals say: 13, 12 or 0, and how many records go out to words.
 pub(crate) struct Gate {
     pub number: u32,
     pub out: usize,

@@ -23,9 +23,9 @@ use denote.Slice.{Room}
 use Rattle.theory.proofs.Tests.{no}
 use Rattle.records.specs.declared.Pair.{Pair}
 use Rattle.records.specs.declared.Head.{Head}
-use Rattle.records.specs.Records.{blank, laid-out, records-in, put-back, Room-out, Room-back}
+use Rattle.records.specs.Records.{blank, copied-out, records-in, put-back, Room-out, Room-back}
 use Rattle.records.proofs.Arrays.{copies, length-copies}
-use Rattle.records.proofs.Copies.{length-put-back, length-laid-out}
+use Rattle.records.proofs.Copies.{length-put-back, length-copied-out}
 use Rattle.records.proofs.Records.{room-as}
 use Rattle.records.proofs.Pair as P
 use Rattle.kandurzo.specs.declared.Changed.{Changed}
@@ -61,11 +61,11 @@ module _ (len : ℕ) (ws : List ℕ) where
     pub room-in : Room-back (copies len blank) ws len
     room-in = record { room = room-out len few ws (holds .long) (copies len blank) (length-copies len blank); fits = holds .fits }
 
-    pub length-after : (l : List Pair) → length l ≡ len → length (laid-out l ws len) ≡ length ws
-    length-after l e = length-laid-out l ws len (room-out len few ws (holds .long) l e)
+    pub length-after : (l : List Pair) → length l ≡ len → length (copied-out l ws len) ≡ length ws
+    length-after l e = length-copied-out l ws len (room-out len few ws (holds .long) l e)
 
   pub through : (Says : Call) (h : Head) (a b : ℕ) (r : Changed) (left : List Pair) → Says h lent-list a b r left
-      → Through Says len h ws a b r (laid-out left ws len)
+      → Through Says len h ws a b r (copied-out left ws len)
   through Says h a b r left says =
       record { left = left; says = subst (λ (l : List Pair). Says h l a b r left) lent-as says; laid = refl }
 

@@ -27,7 +27,7 @@ use denote.Builtin.{u32}
 use denote.RattleType.{RattleType}
 use denote.Memory.{lone}
 use denote.Slice.{Room}
-use Rattle.records.specs.Records.{blank, laid-out}
+use Rattle.records.specs.Records.{blank, copied-out}
 use Rattle.records.specs.declared.Head.{Head}
 use Rattle.records.proofs.Plain.{Plain, typed-as, plain-word}
 use Rattle.records.proofs.Rows.{holds}
@@ -130,7 +130,7 @@ module _ (len : ℕ) (few : len ≤ 4096) {Says : Call} (decides : (h : Head) (p
   outcome = decides h ps (a .1 .1 .0) (a .1 .1 .1 .0)
 
   abbrev end : Entry.Lasts pars
-  end = (tt, (laid-out (outcome .left) us len, (tt, (tt, tt))))
+  end = (tt, (copied-out (outcome .left) us len, (tt, (tt, tt))))
 
   abbrev pub through-args : ℕ × ℕ → List (Arg W)
   through-args l = by-value N.the-row (plain-head W) h (are .0) ∷ loan (lend-mut (pair-row W fullShare (l .0) (l .1)) ps (room-of len few ps ps-long))

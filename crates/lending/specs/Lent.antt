@@ -16,7 +16,7 @@ use lib.IntN.{pos}
 use lib.ListN.{length, replicate}
 use Rattle.records.specs.declared.Pair.{Pair}
 use Rattle.records.specs.declared.Head.{Head}
-use Rattle.records.specs.Records.{Fits-records, records-in, laid-out}
+use Rattle.records.specs.Records.{Fits-records, records-in, copied-out}
 use Rattle.pairfile.specs.File.{read-file}
 use Rattle.verify.specs.declared.Difference.{Difference}
 use Rattle.verify.specs.declared.Verdict.{Verdict}
@@ -36,7 +36,7 @@ pub record Through (Says : Head → List Pair → ℕ → ℕ → Changed → Li
     (after : List ℕ) : Type 0 where
   pub left : List Pair
   pub says : Says h (records-in len words) a b r left
-  pub laid : after ≡ laid-out left words len
+  pub laid : after ≡ copied-out left words len
 
 -- the answers where no list is lent, 99, a number that no call gives: with the head as it was
 abbrev pub no-list : Head → Changed
@@ -93,4 +93,4 @@ seven-nine = record { a = 7; b = 9 }
 pub record Read-through (len : ℕ) (before : Pair) (bytes words work : List ℕ) (r : Changed) (after work′ : List ℕ) : Type 0 where
   pub left : List Pair
   pub says : Read-call read-file bytes (replicate len before) work r left work′
-  pub laid : after ≡ laid-out left words len
+  pub laid : after ≡ copied-out left words len

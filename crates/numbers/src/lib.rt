@@ -31,7 +31,7 @@ pub fn rounded_up(p: u32, q: u32) -> u32
     (p - 1) / q + 1
 }
 
-// Whether two numbers are two others.
+// Whether a,b and c,d are the same two numbers.
 pub fn same(a: u32, b: u32, c: u32, d: u32) -> bool
     ensures { λ r. ⌜ r ≡ (eqb a c && eqb b d) ⌝ }
 {

@@ -39,7 +39,7 @@ raised m place p ws =
 unfoldable pub pairs-raised : (m : ℕ) → Place → ℕ
 pairs-raised m place = cond (place .held) m (m + 1)
 
--- LOWER: w stops less of the pair at a place, which goes where its count comes to 0
+-- LOWER: w stops less of the pair at a place, which goes where w is its count or more
 unfoldable pub lowered : (m at w : ℕ) → (words : List ℕ) → List ℕ
 lowered m at w ws = cond (leb (count-at at ws) w) (delete-at m at ws) (set-count at (count-at at ws - w) ws)
 

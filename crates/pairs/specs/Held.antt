@@ -64,7 +64,7 @@ unfoldable pub raise-pair : Pair → List Pair → List Pair
 raise-pair p [] = p ∷ []
 raise-pair p (r ∷ rs) = cond (same-ends p r) (heavier (p .w) r ∷ rs) (cond (stands-before r p) (r ∷ raise-pair p rs) (p ∷ r ∷ rs))
 
--- the list with p's stops less: a pair whose count comes to 0 is taken out
+-- the list with p's stops less: a pair whose count is p's or less is taken out
 unfoldable pub lower-pair : Pair → List Pair → List Pair
 lower-pair p [] = []
 lower-pair p (r ∷ rs) = cond (same-ends p r) (cond (leb (r .w) (p .w)) rs (lighter (p .w) r ∷ rs)) (r ∷ lower-pair p rs)

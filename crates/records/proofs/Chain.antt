@@ -33,7 +33,7 @@ use denote.Memory.{lone}
 use denote.ArrayMemory.{Single}
 use denote.Index.{row}
 use denote.Slice.{sliceVal}
-use Rattle.records.specs.Records.{laid-out, put-back, Room-out, Room-back, agrees}
+use Rattle.records.specs.Records.{copied-out, put-back, Room-out, Room-back, agrees}
 use Rattle.records.specs.declared.Pair.{Pair}
 use Rattle.records.specs.declared.Head.{Head}
 use Rattle.records.proofs.Plain.{Plain, Fits, typed-as}
@@ -237,14 +237,14 @@ module _ {M : Type 1} {𝓤 : URA M} {H : Heap 𝓤} (here : Spot 𝓤 H) where
           → Room-for (word-row W fullShare (at′ .0) (at′ .1)) ws → Room-out ps ws m
           → picked 𝓤 H A (i ∷ j ∷ []) Δ ≡ holds (pair-row W s (at .0) (at .1)) ps ∷ holds (word-row W fullShare (at′ .0) (at′ .1)) ws ∷ []
           → On (with-back (i ∷ j ∷ [])
-          (holds (pair-row W s (at .0) (at .1)) ps ∷ holds (word-row W fullShare (at′ .0) (at′ .1)) (laid-out ps ws m) ∷ []) Δ) next
+          (holds (pair-row W s (at .0) (at .1)) ps ∷ holds (word-row W fullShare (at′ .0) (at′ .1)) (copied-out ps ws m) ∷ []) Δ) next
           → On Δ (calls copy-out.name (sliceVal at n ∷ sliceVal at′ k ∷ vint w64 m ∷ []) (Unit {0}) (λ _. vunit) (λ _. next))
       out-at s named room-ps room-ws enough at-ij next-on = fronts (i ∷ j ∷ []) Δ _ at-ij (meets-call W C Λ E (atRet E Kf) free (λ ys d b cs opds land.
           copies-out (𝓜 .mem) (𝓡 .run) ! fm (cites-out 𝓤 H 𝓜 𝓖 𝓡 γ named) s (at .0) (at .1) ps (at′ .0) (at′ .1) ws m room-ps room-ws fits enough
           (subst (λ (vs : List Val). Opds (Go {0}) W (‵ ftrue ∷ ‵ ftrue ∷ (left (i ∷ j ∷ []) Δ ++ (laid E cs ++ free))) E ys vs)
           (λ i. sliceVal at (sym long i) ∷ sliceVal at′ (sym sized i) ∷ vint w64 m ∷ [])
           (opds (‵ ftrue ∷ ‵ ftrue ∷ left (i ∷ j ∷ []) Δ))) $
-          land (holds (pair-row W s (at .0) (at .1)) ps ∷ holds (word-row W fullShare (at′ .0) (at′ .1)) (laid-out ps ws m) ∷ left (i ∷ j ∷ []) Δ) tt tt
+          land (holds (pair-row W s (at .0) (at .1)) ps ∷ holds (word-row W fullShare (at′ .0) (at′ .1)) (copied-out ps ws m) ∷ left (i ∷ j ∷ []) Δ) tt tt
           (backs (i ∷ j ∷ []) Δ (_ ∷ _ ∷ []) next-on)))
 
       pub in-at : (s : Share) → γ copy-in.name ≡ copy-in.routine → Room-for (pair-row W fullShare (at .0) (at .1)) ps

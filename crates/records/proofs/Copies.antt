@@ -1,12 +1,12 @@
--- Records and words: laws of `laid-out` and `put-back`.
+-- Records and words: laws of `copied-out` and `put-back`.
 --   length-ends-of                   two words a record
---   length-laid-out, laid-out-none, laid-out-more    a buffer's length stays; no record, and one record more
---   laid-out-pairs                   what lies in the words are the pairs that the records stand for
---   laid-out-drop, laid-out-past     the words past the places of records stay
---   laid-out-list, agrees-room, laid-out-holds       where head and list agree, words that are long enough then hold the list
+--   length-copied-out, copied-out-none, copied-out-more    a buffer's length stays; no record, and one record more
+--   copied-out-pairs                   what lies in the words are the pairs that the records stand for
+--   copied-out-drop, copied-out-past     the words past the places of records stay
+--   copied-out-list, agrees-room, copied-out-holds       where head and list agree, words that are long enough then hold the list
 --   length-put-back, put-back-none, put-back-more    a list's length stays; no record, and one record more
---   records-laid-out                 words read back are the records
---   put-back-laid-out                records copied out and back are as they were
+--   records-copied-out                 words read back are the records
+--   put-back-copied-out                records copied out and back are as they were
 -- Assumes nothing.
 use mathlib.Core.Path.{_≡_, refl, sym, ap, _∙_, subst}
 use Prim.Native.Nat.{ℕ, zero, suc, _+_, _*_, _≤_, _<_}
@@ -22,7 +22,7 @@ use Rattle.theory.specs.Words.{word-pair, pairs-in, counts-of, laid-pairs, laid
 use Rattle.theory.proofs.Tests.{tests}
 use Rattle.theory.proofs.Tables.{length-table, table-ext}
 use Rattle.theory.proofs.Words.{length-put, put-below, put-in, put-drop}
-use Rattle.records.specs.Records.{as-pair, as-pairs, held-list, agrees, blank, ends-of, weights-of, laid-record, laid-out, word-record, records-in}
+use Rattle.records.specs.Records.{as-pair, as-pairs, held-list, agrees, blank, ends-of, weights-of, copied-record, copied-out, word-record, records-in}
 use Rattle.records.specs.Records.{put-back, Room-out}
 use Rattle.records.specs.declared.Pair.{Pair}
 use Rattle.records.specs.declared.Head.{Head}
@@ -86,9 +86,9 @@ weights-at (p ∷ ps) zero l = refl
 weights-at (p ∷ ps) (suc j) l = weights-at ps j (omega (arith, l))
 
 -- no record: nothing is written
-pub laid-out-none : (ps : List Pair) (ws : List ℕ) → laid-out ps ws 0 ≡ ws
-unfolding laid-out ends-of weights-of put-at
-laid-out-none ps ws = take-append-drop 8192 ws
+pub copied-out-none : (ps : List Pair) (ws : List ℕ) → copied-out ps ws 0 ≡ ws
+unfolding copied-out ends-of weights-of put-at
+copied-out-none ps ws = take-append-drop 8192 ws
 
 -- m records, and places for them
 module _ (ps : List Pair) (ws : List ℕ) (m : ℕ) (enough : m ≤ length ps) (few : m ≤ 4096) (long : 12288 ≤ length ws) where
@@ -111,18 +111,18 @@ module _ (ps : List Pair) (ws : List ℕ) (m : ℕ) (enough : m ≤ length ps) (
   room-cs : 8192 + length cs ≤ length (put-at 0 es ws)
   room-cs = omega (arith, length-cs, few, long, length-put 0 es ws room-es)
 
-  length-laid : length (laid-out ps ws m) ≡ length ws
-  unfolding laid-out
+  length-laid : length (copied-out ps ws m) ≡ length ws
+  unfolding copied-out
   length-laid = length-put 8192 cs (put-at 0 es ws) room-cs ∙ length-put 0 es ws room-es
 
-  past-laid : (k : ℕ) → 12288 ≤ k → drop k (laid-out ps ws m) ≡ drop k ws
-  unfolding laid-out
+  past-laid : (k : ℕ) → 12288 ≤ k → drop k (copied-out ps ws m) ≡ drop k ws
+  unfolding copied-out
   past-laid k l =
       put-drop 8192 cs (put-at 0 es ws) room-cs k (omega (arith, length-cs, few, l)) ∙ put-drop 0 es ws room-es k (omega (arith, length-es, few, l))
 
   -- a word of the ends
-  end-laid : (k : ℕ) → k < 2 * m → getD (laid-out ps ws m) k 0 ≡ getD es k 0
-  unfolding laid-out
+  end-laid : (k : ℕ) → k < 2 * m → getD (copied-out ps ws m) k 0 ≡ getD es k 0
+  unfolding copied-out
   end-laid k l =
       let e : k ≡ 0 + k = omega arith in
       cc (e, put-below 8192 cs (put-at 0 es ws) room-cs k (omega (arith, l, few)), put-in 0 es ws room-es k (omega (arith, l, length-es)))
@@ -131,25 +131,25 @@ module _ (ps : List Pair) (ws : List ℕ) (m : ℕ) (enough : m ≤ length ps) (
     in-take : j < length (take m ps)
     in-take = omega (arith, l, length-take-le m ps enough)
 
-    first-laid : getD (laid-out ps ws m) (2 * j) 0 ≡ getD ps j blank .a
+    first-laid : getD (copied-out ps ws m) (2 * j) 0 ≡ getD ps j blank .a
     first-laid = cc (end-laid (2 * j) (omega (arith, l)), ends-at (take m ps) j in-take .0, getD-take m ps j blank l)
 
-    second-laid : getD (laid-out ps ws m) (2 * j + 1) 0 ≡ getD ps j blank .b
+    second-laid : getD (copied-out ps ws m) (2 * j + 1) 0 ≡ getD ps j blank .b
     second-laid =
         let e : 2 * j + 1 ≡ suc (2 * j) = omega arith in
         cc (e, end-laid (2 * j + 1) (omega (arith, l)), ends-at (take m ps) j in-take .1, getD-take m ps j blank l)
 
-    weight-laid : getD (counts-of (laid-out ps ws m)) j 0 ≡ as-pair (getD ps j blank) .w
-    unfolding laid-out counts-of
+    weight-laid : getD (counts-of (copied-out ps ws m)) j 0 ≡ as-pair (getD ps j blank) .w
+    unfolding copied-out counts-of
     weight-laid =
         let there = put-in 8192 cs (put-at 0 es ws) room-cs j (omega (arith, l, length-cs)) in
-        cc (getD-drop 8192 (laid-out ps ws m) j 0, there, weights-at (take m ps) j in-take, getD-take m ps j blank l)
+        cc (getD-drop 8192 (copied-out ps ws m) j 0, there, weights-at (take m ps) j in-take, getD-take m ps j blank l)
 
 -- one record more
 module _ (ps : List Pair) (ws : List ℕ) (i : ℕ) (l : i < length ps) (few : i < 4096) (long : 12288 ≤ length ws) where
-  pub laid-out-more : laid-record (laid-out ps ws i) i (getD ps i blank) ≡ laid-out ps ws (suc i)
-  unfolding laid-record laid-out
-  laid-out-more =
+  pub copied-out-more : copied-record (copied-out ps ws i) i (getD ps i blank) ≡ copied-out ps ws (suc i)
+  unfolding copied-record copied-out
+  copied-out-more =
       let p : Pair = getD ps i blank in
       let es : List ℕ = ends-of (take i ps) in
       let fs : List ℕ = es ++ (p .a ∷ []) in
@@ -173,17 +173,17 @@ module _ (ps : List Pair) (ws : List ℕ) (i : ℕ) (l : i < length ps) (few : i
       )
 
 -- a buffer keeps its length
-pub length-laid-out : (ps : List Pair) (ws : List ℕ) (m : ℕ) → Room-out ps ws m → length (laid-out ps ws m) ≡ length ws
-length-laid-out ps ws zero r = ap {B = ℕ} (λ (xs : List ℕ). length xs) (laid-out-none ps ws)
-length-laid-out ps ws (suc m) r = length-laid ps ws (suc m) (r .enough) (r .few) (r .long (omega arith))
+pub length-copied-out : (ps : List Pair) (ws : List ℕ) (m : ℕ) → Room-out ps ws m → length (copied-out ps ws m) ≡ length ws
+length-copied-out ps ws zero r = ap {B = ℕ} (λ (xs : List ℕ). length xs) (copied-out-none ps ws)
+length-copied-out ps ws (suc m) r = length-laid ps ws (suc m) (r .enough) (r .few) (r .long (omega arith))
 
 -- and what lies past the places
-pub laid-out-drop : (ps : List Pair) (ws : List ℕ) (m : ℕ) → Room-out ps ws m → (k : ℕ) → 12288 ≤ k → drop k (laid-out ps ws m) ≡ drop k ws
-laid-out-drop ps ws zero r k l = ap {B = List ℕ} (λ (xs : List ℕ). drop k xs) (laid-out-none ps ws)
-laid-out-drop ps ws (suc m) r k l = past-laid ps ws (suc m) (r .enough) (r .few) (r .long (omega arith)) k l
+pub copied-out-drop : (ps : List Pair) (ws : List ℕ) (m : ℕ) → Room-out ps ws m → (k : ℕ) → 12288 ≤ k → drop k (copied-out ps ws m) ≡ drop k ws
+copied-out-drop ps ws zero r k l = ap {B = List ℕ} (λ (xs : List ℕ). drop k xs) (copied-out-none ps ws)
+copied-out-drop ps ws (suc m) r k l = past-laid ps ws (suc m) (r .enough) (r .few) (r .long (omega arith)) k l
 
-pub laid-out-past : (ps : List Pair) (ws : List ℕ) (m : ℕ) → Room-out ps ws m → drop 12288 (laid-out ps ws m) ≡ drop 12288 ws
-laid-out-past ps ws m r = laid-out-drop ps ws m r 12288 (omega arith)
+pub copied-out-past : (ps : List Pair) (ws : List ℕ) (m : ℕ) → Room-out ps ws m → drop 12288 (copied-out ps ws m) ≡ drop 12288 ws
+copied-out-past ps ws m r = copied-out-drop ps ws m r 12288 (omega arith)
 
 -- ---- words to records
 set-table : {A : Type 0} (f : ℕ → A) (xs : List A) (i : ℕ) → i < length xs → set (table i f ++ drop i xs) i (f i) ≡ table (suc i) f ++ drop (suc i) xs
@@ -225,45 +225,45 @@ module _ (ps : List Pair) (ws : List ℕ) (m : ℕ) (r : Room-out ps ws m) where
     there = r .long (omega (arith, l))
 
     -- the record at place j
-    record-laid : word-record (laid-out ps ws m) j ≡ getD ps j blank
+    record-laid : word-record (copied-out ps ws m) j ≡ getD ps j blank
     record-laid = λ i. record {
       a = first-laid ps ws m (r .enough) (r .few) there j l i;
       b = second-laid ps ws m (r .enough) (r .few) there j l i;
     }
 
-    pair-laid : word-pair (laid-out ps ws m) (counts-of (laid-out ps ws m)) j ≡ as-pair (getD ps j blank)
+    pair-laid : word-pair (copied-out ps ws m) (counts-of (copied-out ps ws m)) j ≡ as-pair (getD ps j blank)
     unfolding word-pair as-pair pair
     pair-laid = λ i. record { a = record-laid i .a; b = record-laid i .b; w = weight-laid ps ws m (r .enough) (r .few) there j l i }
 
   -- words stand for the pairs that the records stand for
-  pub laid-out-pairs : laid-pairs m (laid-out ps ws m) ≡ as-pairs (take m ps)
+  pub copied-out-pairs : laid-pairs m (copied-out ps ws m) ≡ as-pairs (take m ps)
   unfolding laid-pairs pairs-in as-pairs
-  laid-out-pairs =
+  copied-out-pairs =
       table-ext m _ (λ j. as-pair (getD ps j blank)) pair-laid ∙ table-map (λ j. getD ps j blank) as-pair m
       ∙ ap (map as-pair) (table-take blank ps m (r .enough))
 
   -- words read back are the records
-  pub records-laid-out : records-in m (laid-out ps ws m) ≡ take m ps
+  pub records-copied-out : records-in m (copied-out ps ws m) ≡ take m ps
   unfolding records-in
-  records-laid-out = table-ext m _ (λ j. getD ps j blank) record-laid ∙ table-take blank ps m (r .enough)
+  records-copied-out = table-ext m _ (λ j. getD ps j blank) record-laid ∙ table-take blank ps m (r .enough)
 
   -- records copied out and back are as they were
-  pub put-back-laid-out : put-back ps (laid-out ps ws m) m ≡ ps
+  pub put-back-copied-out : put-back ps (copied-out ps ws m) m ≡ ps
   unfolding put-back
-  put-back-laid-out = ap {B = List Pair} (λ (qs : List Pair). qs ++ drop m ps) records-laid-out ∙ take-append-drop m ps
+  put-back-copied-out = ap {B = List Pair} (λ (qs : List Pair). qs ++ drop m ps) records-copied-out ∙ take-append-drop m ps
 
 -- ---- where head and list agree, words that are long enough then hold the list
 module _ (h : Head) (ps : List Pair) (ws : List ℕ) where
-  pub laid-out-list : Room-out ps ws (h .m) → laid-list (h .n) (h .m) (laid-out ps ws (h .m)) ≡ held-list h ps
+  pub copied-out-list : Room-out ps ws (h .m) → laid-list (h .n) (h .m) (copied-out ps ws (h .m)) ≡ held-list h ps
   unfolding laid-list held-list
-  laid-out-list r = ap (λ (qs : List Lists.Pair). record { n = h .n; pairs = qs }) (laid-out-pairs ps ws (h .m) r)
+  copied-out-list r = ap (λ (qs : List Lists.Pair). record { n = h .n; pairs = qs }) (copied-out-pairs ps ws (h .m) r)
 
   module _ (e : agrees h ps ≡ true) (long : 12288 ≤ length ws) where
     pub agrees-room : Room-out ps ws (h .m)
     agrees-room = record { enough = agrees-count h ps e .0; few = agrees-count h ps e .1; long = λ _. long }
 
-    pub laid-out-holds : Holds-list (h .n) (h .m) (laid-out ps ws (h .m))
+    pub copied-out-holds : Holds-list (h .n) (h .m) (copied-out ps ws (h .m))
     unfolding agrees
-    laid-out-holds =
+    copied-out-holds =
         let e′ = simp tests at e in
-        record { listed = rw (laid-out-list agrees-room) (e′ .1); long = omega (arith, long, length-laid-out ps ws (h .m) agrees-room) }
+        record { listed = rw (copied-out-list agrees-room) (e′ .1); long = omega (arith, long, length-copied-out ps ws (h .m) agrees-room) }

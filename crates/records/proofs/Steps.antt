@@ -1,6 +1,6 @@
 -- The calls of this crate's functions, each as one step of a walk that holds rows.
 --   CopiesOut, CopiesIn, Agrees  that they meet their contracts, which a walk assumes of its table of calls
---   copies-out       the words are then `laid-out`
+--   copies-out       the words are then `copied-out`
 --   copies-in        the list is then `put-back`
 --   asks-agree       the answer is `agrees`
 -- Assumes `Given`, and that the table of calls has the function at its contract.
@@ -26,7 +26,7 @@ use denote.Builtin.{bool, usize, unit}
 use denote.Slice.{sliceVal}
 use denote.Triple.Spec.{tripleOf}
 use denote.Triple.Statement.{Triple}
-use Rattle.records.specs.Records.{laid-out, put-back, Room-out, Room-back, agrees}
+use Rattle.records.specs.Records.{copied-out, put-back, Room-out, Room-back, agrees}
 use Rattle.records.specs.declared.Pair.{Pair}
 use Rattle.records.specs.declared.Head.{Head}
 use Rattle.records.proofs.Plain.{Fits, plain-count, plain-truth, plain-none}
@@ -59,14 +59,14 @@ module _ {M : Type 1} {𝓤 : URA M} {H : Heap 𝓤} {A : Atoms 𝓤} {K : Type 
       (s : Share) (b o : ℕ) (ps : List Pair) (b′ o′ : ℕ) (ws : List ℕ) (m : ℕ) → Room-for (pair-row W s b o) ps → Room-for (word-row W fullShare b′ o′) ws
       → m < 2 ^ 64 → Room-out ps ws m
       → Opds K W (‵ ftrue ∷ ‵ ftrue ∷ Γ) E xs (sliceVal (b, o) (length ps) ∷ sliceVal (b′, o′) (length ws) ∷ vint w64 m ∷ [])
-      → Step K W (holds (pair-row W s b o) ps ∷ holds (word-row W fullShare b′ o′) (laid-out ps ws m) ∷ Γ) (lands C Λ E d vunit rest Q)
+      → Step K W (holds (pair-row W s b o) ps ∷ holds (word-row W fullShare b′ o′) (copied-out ps ws m) ∷ Γ) (lands C Λ E d vunit rest Q)
       (holds (pair-row W s b o) ps ∷ holds (word-row W fullShare b′ o′) ws ∷ Γ) (runs C Λ E (seq (call #records·copy-out xs d) rest) Q)
   copies-out t fm known s b o ps b′ o′ ws m room room′ m-fits asked opds = step (λ k.
       let args : List (Arg W) = loan (lend-shr (pair-row W s b o) ps room) ∷ loan (lend-mut (word-row W fullShare b′ o′) ws room′)
       ∷ plain usize (plain-count W) m (refl, m-fits) ∷ [] in
-      calls-outright t fm args unit (plain-none W) (fact 𝓤 (Room-out ps ws m)) (λ r zs. zs .1 .0 ≡ laid-out ps ws m) refl
+      calls-outright t fm args unit (plain-none W) (fact 𝓤 (Room-out ps ws m)) (λ r zs. zs .1 .0 ≡ copied-out ps ws m) refl
       (factI 𝓤 (Room-out ps ws m) (emp 𝓤) asked) (λ ks. known (bound args ks, tt))
-      tt (tt, (laid-out ps ws m, (tt, tt))) (λ r zs e. (refl, λ i. (tt, (e i, (tt, tt))))) opds (λ _ _. k))
+      tt (tt, (copied-out ps ws m, (tt, tt))) (λ r zs e. (refl, λ i. (tt, (e i, (tt, tt))))) opds (λ _ _. k))
 
   pub copies-in : K → FmC 𝓤 H (W .laws) C → CopiesIn 𝓤 H A mem run C → {xs : List Operand} {d : Place} {rest : Body}
       (b o : ℕ) (ps : List Pair) (s : Share) (b′ o′ : ℕ) (ws : List ℕ) (m : ℕ) → Room-for (pair-row W fullShare b o) ps → Room-for (word-row W s b′ o′) ws

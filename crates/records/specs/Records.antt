@@ -4,7 +4,7 @@
 --   agrees                  head and list agree: number 13 is given where they do not
 --   blank                   the record 0,0
 --   ends-of, weights-of     the numbers of records as words, and how often they count
---   laid-record, laid-out   a buffer of words after one record, and after the first records, were copied to it
+--   copied-record, copied-out   a buffer of words after one record, and after the first records, were copied to it
 --   word-record, records-in records read from words
 --   put-back                a list after the first records were copied back to it
 --   Room-at, Fits-at        words have a place for a record, and what lies there fits one; Fits-records: so at the first places
@@ -52,12 +52,12 @@ unfoldable pub weights-of : List Pair → List ℕ
 weights-of ps = map (λ p. as-pair p .w) ps
 
 -- the words after record p was copied to place i
-unfoldable pub laid-record : List ℕ → ℕ → Pair → List ℕ
-laid-record ws i p = set (set (set ws (2 * i) (p .a)) (2 * i + 1) (p .b)) (8192 + i) (as-pair p .w)
+unfoldable pub copied-record : List ℕ → ℕ → Pair → List ℕ
+copied-record ws i p = set (set (set ws (2 * i) (p .a)) (2 * i + 1) (p .b)) (8192 + i) (as-pair p .w)
 
 -- the words after the first m records were copied to them
-unfoldable pub laid-out : List Pair → List ℕ → ℕ → List ℕ
-laid-out ps ws m = put-at 8192 (weights-of (take m ps)) (put-at 0 (ends-of (take m ps)) ws)
+unfoldable pub copied-out : List Pair → List ℕ → ℕ → List ℕ
+copied-out ps ws m = put-at 8192 (weights-of (take m ps)) (put-at 0 (ends-of (take m ps)) ws)
 
 -- the record that lies in words at place j
 abbrev pub word-record : List ℕ → ℕ → Pair

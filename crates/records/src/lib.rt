@@ -1,10 +1,10 @@
 // The lent records: the only functions that read or write &[Pair]. Everything above works on words.
-//   copy_out   records to words: the numbers of record j to words 2j and 2j + 1, how often it counts to word 8,192 + j
+//   copy_out   records to words: the numbers of record j to words 2j and 2j + 1, and its count, which is 1, to word 8,192 + j
 //   copy_in    words to records
 //   agree      whether head and list agree (document 01, number 13)
 // Each is one pass over the records that it names, and blind to what is in a record: lay, record_at and step know that.
 ghost use mathlib.Core.Path.{_≡_};
-ghost use Rattle.records.specs.Records.{laid-record, word-record, laid-out, put-back, Room-at, Fits-at, Room-out, Room-back, agrees};
+ghost use Rattle.records.specs.Records.{copied-record, word-record, copied-out, put-back, Room-at, Fits-at, Room-out, Room-back, agrees};
 ghost use Rattle.records.specs.Scan.{begin-of, tested-of, step-of};
 
 // A record: two module numbers, the smaller first.
@@ -21,10 +21,10 @@ pub struct Head {
     pub m: u32,
 }
 
-// One record to words: its numbers to words 2i and 2i + 1, how often it counts to word 8,192 + i.
+// One record to words: its numbers to words 2i and 2i + 1, its count, which is 1, to word 8,192 + i.
 fn lay(words: &mut [u32], i: usize, p: Pair)
     requires { ⌜ Room-at i (now words) ⌝ }
-    ensures { λ _. ⌜ now (words .exit) ≡ laid-record (now (words .entry)) i p ⌝ }
+    ensures { λ _. ⌜ now (words .exit) ≡ copied-record (now (words .entry)) i p ⌝ }
 {
     words[2 * i] = p.a as u32;
     words[2 * i + 1] = p.b as u32;
@@ -45,7 +45,7 @@ fn record_at(words: &[u32], i: usize) -> Pair
 // The first m records to words. The other words stay.
 pub fn copy_out(list: &[Pair], words: &mut [u32], m: usize)
     requires { ⌜ Room-out (now list) (now words) m ⌝ }
-    ensures { λ _. ⌜ now (words .exit) ≡ laid-out (now (list .entry)) (now (words .entry)) m ⌝ }
+    ensures { λ _. ⌜ now (words .exit) ≡ copied-out (now (list .entry)) (now (words .entry)) m ⌝ }
 {
     let mut i = 0;
     while i < m {

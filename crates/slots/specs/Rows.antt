@@ -56,7 +56,7 @@ pub record Adjacency-blank (n m : ℕ) (rows first next degrees : List ℕ) : Ty
   pub first-none : (v : ℕ) → v < n → getD first v 0 ≡ 0
   pub degrees-none : (v : ℕ) → v < n → getD degrees v 0 ≡ 0
 
--- the first k pairs are in them
+-- the first k pairs are in them; further entries of all four are free
 pub record Adjacency (n k : ℕ) (ends weights rows first next degrees : List ℕ) : Type 0 where
   pub rows-are : Rows n k ends rows
   pub chains-are : Chains n k ends first next

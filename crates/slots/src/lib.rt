@@ -106,7 +106,7 @@ pub fn link(k: usize, v: usize, first: &mut [u32], next: &mut [u32])
 // Where the links of v lead first, a slot and 1 more: at most `top`, else free.
 pub fn first_link(v: usize, top: usize, first: &[u32]) -> usize
     requires { ⌜ v < length (now first) ⌝ }
-    ensures { λ r. ⌜ r ≤ top ⌝ }
+    ensures { λ r. ⌜ (r ≤ top) × (getD (now (first .entry)) v 0 ≤ top → r ≡ getD (now (first .entry)) v 0) ⌝ }
 {
     capped(first[v], top)
 }
@@ -114,7 +114,7 @@ pub fn first_link(v: usize, top: usize, first: &[u32]) -> usize
 // Where they lead from slot k: back, else free.
 pub fn next_link(k: usize, next: &[u32]) -> usize
     requires { ⌜ k < length (now next) ⌝ }
-    ensures { λ r. ⌜ r ≤ k ⌝ }
+    ensures { λ r. ⌜ (r ≤ k) × (getD (now (next .entry)) k 0 ≤ k → r ≡ getD (now (next .entry)) k 0) ⌝ }
 {
     capped(next[k], k)
 }

@@ -1,6 +1,7 @@
 // Solve against a plain second computation (module `plain`) that tries every subset: group, P, Q, K, core size and core numbers of every list on up
 // to 5 modules and of thousands of lists of up to 12 modules; and the sheet of each put to check. Then lists of 512 modules and up to 4,096 pairs of
-// several kinds: K, the core of order K and the next one, and the sheet put to check. Prints a line for each kind: lists tried and their pairs, how many of them words
+// several kinds: K, the core of order K and the next one, and the sheet put to check. Prints a line for each kind: lists tried and their pairs, how
+// many of them words
 // did not hold, and how many answers differ. Then answers with one thing altered, each of which must differ; a sheet with no pairs has no share
 // to alter.
 mod plain;

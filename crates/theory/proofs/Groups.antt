@@ -23,7 +23,8 @@ use lib.Dec.{leb, eqb, eqb·zero-suc, eqb·suc-zero, eqb·suc-suc}
 use lib.ListN.{length, getD, set, replicate, length-replicate}
 use borrow.Author.Tests.{leb-true, leb-false, eqb-true, eq-eqb, ne-eqb}
 use Rattle.theory.specs.Lists.{Pairs, Pair, is-list}
-use Rattle.theory.specs.Groups.{is-in, size, bytes-good, is-group, everyone, holds-pair, inside-of, inside, at-most, within, union, shared, Densest, Found}
+use Rattle.theory.specs.Groups.{is-in, size, bytes-good, is-group, everyone, holds-pair, inside-of, inside, at-most, within, union, shared}
+use Rattle.theory.specs.Groups.{Densest, Found}
 use Rattle.theory.specs.Promise.{Found-alone, Found-largest, Found-no-pairs, Union-densest, Shared-densest}
 use Rattle.theory.proofs.Tests.{tests, no}
 use Rattle.theory.proofs.Sums.{byte-le}

@@ -1,7 +1,8 @@
 -- The statements of specs/Promise.antt and of specs/Cases.antt, each proved. Assumes nothing.
 use Rattle.theory.specs.Promise.{Equal-best, Check-best, Accepted-exactly, Accepted-optimal, Found-there, Found-alone, Found-largest, Found-no-pairs}
 use Rattle.theory.specs.Promise.{Split-densest, Split-there, Found-in-core, Core-exact, Core-members, Union-densest, Shared-densest, Leaver-fewest}
-use Rattle.theory.specs.Promise.{Leaver-lowest, Leaver-there, Leaving-steps, Leaving-everyone, Leaver-core, Cores-never-fall, Outside-first, Floats-in-order}
+use Rattle.theory.specs.Promise.{Leaver-lowest, Leaver-there, Leaving-steps, Leaving-everyone, Leaver-core, Cores-never-fall, Outside-first}
+use Rattle.theory.specs.Promise.{Floats-in-order}
 use Rattle.theory.specs.Promise.{Ratios-in-order, Rounded-once, Surplus-signed}
 use Rattle.theory.specs.Cases.{Starred-cases}
 use Rattle.theory.proofs.Groups as groups

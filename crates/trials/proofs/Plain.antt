@@ -22,7 +22,8 @@ use Rattle.trials.specs.Turns.{turns}
 use Rattle.trials.specs.Plain.{ends-at, pair-from, bumped, pair-counted, counted, dropping, drop-one, drop-below, rounds-of, core-of}
 
 -- the ends of pair j
-pub pair-here : (es : List ℕ) (j : ℕ) → j < length es / 2 → {a b : ℕ} → a ≡ getD es (2 * j) 0 → b ≡ getD es (2 * j + 1) 0 → record { a = a; b = b } ≡ ends-at es j
+pub pair-here : (es : List ℕ) (j : ℕ) → j < length es / 2 → {a b : ℕ} → a ≡ getD es (2 * j) 0 → b ≡ getD es (2 * j + 1) 0 →
+    record { a = a; b = b } ≡ ends-at es j
 unfolding ends-at
 pair-here es j l a-is b-is = simp (lt-ltb j (length es / 2) l, a-is, b-is)
 
@@ -97,7 +98,10 @@ module _ (size n k m : ℕ) (es : List ℕ) where
     module _ (less : round < n) {long : ℕ} (long-is : long ≡ size) {ds after : List ℕ} {b : Bool} (ds-are : ds ≡ counted long m es present)
         (after-is : dropping b after ≡ drop-below n k ds present) where
       answered : rounds-of size n k m es (suc (n - (round + 1))) present ≡ whole
-      answered = let fewer : n - round ≡ suc (n - (round + 1)) = omega (arith, less) in subst (λ (left : ℕ). rounds-of size n k m es left present ≡ whole) fewer rest
+      answered = let fewer : n - round ≡ suc (n - (round + 1)) = omega (
+        arith,
+        less,
+      ) in subst (λ (left : ℕ). rounds-of size n k m es left present ≡ whole) fewer rest
 
       degrees-are : ds ≡ counted size m es present
       degrees-are = ds-are ∙ ap (λ (x : ℕ). counted x m es present) long-is

@@ -28,7 +28,8 @@ of-mask n mask = record { kind = Mask mask; n = n }
 -- list i of all of 1 to 5 modules: 1, 2, 8, 64 and 1,024 masks
 unfoldable pub masked-at : (i : ℕ) → Listed
 masked-at i =
-    cond (ltb i 1) (of-mask 1 0) (cond (ltb i 3) (of-mask 2 (i - 1)) (cond (ltb i 11) (of-mask 3 (i - 3)) (cond (ltb i 75) (of-mask 4 (i - 11)) (of-mask 5 (i - 75)))))
+    cond (ltb i 1) (of-mask 1 0) (cond (ltb i 3) (of-mask 2 (i - 1)) (cond (ltb i 11) (of-mask 3 (i - 3)) (cond (ltb i 75)
+    (of-mask 4 (i - 11)) (of-mask 5 (i - 75)))))
 
 -- list i of a sweep
 unfoldable pub listed-at : Sweep → (i : ℕ) → Listed

@@ -1,7 +1,7 @@
 // Check and surplus, on a list that lies in words (document 01, "Check" and "Surplus").
 // Check counts P and Q of the group itself (crate `groups`), tests each share against its pair's units at share size Q, adds up the load of each
 // module, and accepts where no load is above P: then group and split are both best (demand 3, `Optimal`). Surplus is the
-// difference of two products, as i64. Both cost one pass over the modules and a few over the pairs, and write nothing.
+// difference of two products, as i64. Both cost a few passes over modules and pairs, and write nothing.
 // Pair j has its ends at slots 2j and 2j + 1 of `ends` and its weight at place j of `weights`. The list has been found good and every
 // buffer long enough (13 and 12 are the caller's); the refusals here are 7, 8 and 9, in document 01's order.
 ghost use mathlib.Core.Path.{_≡_};

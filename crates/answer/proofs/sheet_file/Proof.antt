@@ -20,7 +20,7 @@ use denote.Memory.{lone}
 use denote.Slice.{Room, sliceVal}
 use denote.Struct.Laws as Struct
 use denote.Triple.Walked.{needs}
-use Rattle.records.specs.Records.{blank, laid-out}
+use Rattle.records.specs.Records.{blank, copied-out}
 use Rattle.records.specs.declared.Head.{Head}
 use Rattle.records.specs.declared.Pair.{Pair}
 use Rattle.records.proofs.Plain.{Plain, Fits, plain-record, plain-word, plain-count}
@@ -186,7 +186,7 @@ module _ {M : Type 1} (𝓤 : URA M) (H : Heap 𝓤) (𝓜 : Model 𝓤 H) (𝓖
           (λ i. solve-vals list work h (sym list-kept i) (sym work-kept i)) (id⊢ 𝓤 _) code.calls-kandurzo·kandurzo-solve
           (λ ks. solve-thm.met 𝓤 H 𝓜 𝓖 𝓡 (bound (solve-args list work h h-fits ps list-kept ws work-kept) ks, tt)) (λ found us found-fits kept finds.
           -- the arrays are room again; Answer { .. }
-          let end : Entry.Lasts pars = (tt, (us .1 .1 .0, (us .1 .1 .1 .0, (us .1 .1 .1 .1 .0, (laid-out ps vs (h .m), tt))))) in
+          let end : Entry.Lasts pars = (tt, (us .1 .1 .0, (us .1 .1 .1 .0, (us .1 .1 .1 .1 .0, (copied-out ps vs (h .m), tt))))) in
           let words-kept = length-out bytes list₀ work₀ list-long work-long file ps ws work-kept says list-kept vs (enough .words-long) in
           let fit : Entry.Fit pars end = (tt, (kept .1 .0, (kept .1 .1 .0, (kept .1 .1 .1 .0, (words-kept, tt))))) in
           drop-at here 7 16384 u32 (plain-word W) tt (us .1 .1 .1 .1 .1 .0) (kept .1 .1 .1 .1 .0 ∙ work-kept)

@@ -7,7 +7,8 @@ use Rattle.edit_trials.proofs.every_way.Statement.{statement}
 use Rattle.edit_trials.proofs.every_way.Tie as tie
 
 abbrev Inv-loop : tie.InvT-loop
-Inv-loop head len expected before₀ list₀ tally₀ ways way₀ before list tally way = (length before ≡ length before₀) × (length list ≡ length list₀) × (length tally ≡ length tally₀)
+Inv-loop head len expected before₀ list₀ tally₀ ways way₀ before list tally way =
+    (length before ≡ length before₀) × (length list ≡ length list₀) × (length tally ≡ length tally₀)
 
 abbrev μ-loop : tie.MeasureT-loop
 μ-loop head len expected before₀ list₀ tally₀ ways way₀ before list tally way = ways - way

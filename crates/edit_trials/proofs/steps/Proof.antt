@@ -7,7 +7,8 @@ use Rattle.edit_trials.proofs.steps.Statement.{statement}
 use Rattle.edit_trials.proofs.steps.Tie as tie
 
 abbrev Inv-loop : tie.InvT-loop
-Inv-loop plan many mixed table₀ expected₀ list₀ tally₀ now₀ i₀ table expected list tally now i = (length table ≡ length table₀) × (length expected ≡ length expected₀) × (length list ≡ length list₀) × (length tally ≡ length tally₀)
+Inv-loop plan many mixed table₀ expected₀ list₀ tally₀ now₀ i₀ table expected list tally now i =
+    (length table ≡ length table₀) × (length expected ≡ length expected₀) × (length list ≡ length list₀) × (length tally ≡ length tally₀)
 
 abbrev μ-loop : tie.MeasureT-loop
 μ-loop plan many mixed table₀ expected₀ list₀ tally₀ now₀ i₀ table expected list tally now i = many - i

@@ -15,12 +15,12 @@ use types.Kit.{Given}
 use denote.Memory.{lone}
 use denote.Struct.Laws as Struct
 use Rattle.pairfile.specs.File.{read-file}
-use Rattle.records.specs.Records.{laid-out}
+use Rattle.records.specs.Records.{copied-out}
 use Rattle.records.proofs.Plain.{Fits}
 use Rattle.records.proofs.Calls.{Arg}
 use Rattle.records.proofs.Frame.{Places}
 use Rattle.records.proofs.Arrays.{copies, copies-are, length-copies}
-use Rattle.records.proofs.Copies.{length-laid-out}
+use Rattle.records.proofs.Copies.{length-copied-out}
 use Rattle.records.proofs.Records.{plain-pair, byte-row, word-row}
 use Rattle.records.proofs.Cells.{Plan, makes}
 use Rattle.records.proofs.Chain.{Finishes, Takes, Does, Walked, table, loops, array-at}
@@ -114,8 +114,8 @@ module _ {M : Type 1} (𝓤 : URA M) (H : Heap 𝓤) (𝓜 : Model 𝓤 H) (𝓖
         out-at here 0 2 l ps (a .1 .0 .ptr) us 100 kept refl (lit< tt) fullShare code.calls-records·copy-out
         (room-of 100 few ps kept) (are .1 .0 .0 .1) room refl
         (drop-at here 4 100 P.the-row (plain-pair W) tt ps kept
-        (let end : Entry.Lasts pars = (tt, (laid-out ps us 100, (zs .1 .1 .0, tt))) in
-        let fit : Entry.Fit pars end = (tt, (length-laid-out ps us 100 room, (sized .1 .1 .0, tt))) in
+        (let end : Entry.Lasts pars = (tt, (copied-out ps us 100, (zs .1 .1 .0, tt))) in
+        let fit : Entry.Fit pars end = (tt, (length-copied-out ps us 100 room, (sized .1 .1 .0, tt))) in
         returns-at here os end fit D.the-row (plain-changed W) r r-fits
         (record {
           left = ps;

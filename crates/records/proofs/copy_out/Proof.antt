@@ -1,4 +1,4 @@
--- `records::copy_out` meets its contract: a walk of its MIR with a loop that calls `lay`. At i the words are `laid-out ps ws i`.
+-- `records::copy_out` meets its contract: a walk of its MIR with a loop that calls `lay`. At i the words are `copied-out ps ws i`.
 -- Positions: the list's row at 0, the words' row at 1, what closes them at 2, local j at 3 + j. Assumes nothing.
 use mathlib.Core.Path.{_≡_, refl, sym}
 use Prim.Native.Nat.{ℕ, _+_, _≤_, _<_, _^_}
@@ -31,7 +31,7 @@ use denote.Triple.Spec.{tripleOf}
 use denote.Triple.Statement.{Triple}
 use denote.Triple.Table.{cited}
 use denote.Triple.Walked.{needs, walkOf, ends-at}
-use Rattle.records.specs.Records.{blank, laid-record, laid-out, Room-at, Room-out}
+use Rattle.records.specs.Records.{blank, copied-record, copied-out, Room-at, Room-out}
 use Rattle.records.specs.declared.Pair.{Pair}
 use Rattle.records.proofs.Plain.{Fits, typed-as, plain-word, plain-count, plain-none}
 use Rattle.records.proofs.Rows.{Row, holds, lend-mut}
@@ -43,7 +43,7 @@ use Rattle.records.proofs.Entry.{Par, plain, held-mut, held-shr, entry,
 use Rattle.records.proofs.Signs.{Kinds, shr-kind, mut-kind, count-kind, stays, states-by}
 use Rattle.records.proofs.Loop.{Turn, counts, adds-one}
 use Rattle.records.proofs.Records.{plain-pair, pair-row, word-row, room-as, record-of}
-use Rattle.records.proofs.Copies.{length-laid-out, laid-out-none, laid-out-more}
+use Rattle.records.proofs.Copies.{length-copied-out, copied-out-none, copied-out-more}
 use Rattle.records.proofs.Pair as P
 use Rattle.records.proofs.lay as lay
 use Rattle.records.proofs.lay.Symbol as lay-def
@@ -74,10 +74,10 @@ module _ {M : Type 1} (𝓤 : URA M) (H : Heap 𝓤) (A : Atoms 𝓤) (W : Given
 
   -- the words after i records, and that they are as many
   abbrev last : ℕ → Lasts pars
-  last i = (tt, (laid-out ps ws i, (tt, tt)))
+  last i = (tt, (copied-out ps ws i, (tt, tt)))
 
   last-fits : Fit pars (last m)
-  last-fits = (tt, (length-laid-out ps ws m asked, (tt, tt)))
+  last-fits = (tt, (length-copied-out ps ws m asked, (tt, tt)))
 
   abbrev Post : Val → SProp 𝓤
   Post = walkOf 𝓤 H A f.ended (stays f.ended kinds) (f.clauses 𝓤 H A mem run) .post (entry pars, tt)
@@ -95,7 +95,7 @@ module _ {M : Type 1} (𝓤 : URA M) (H : Heap 𝓤) (A : Atoms 𝓤) (W : Given
 
     module _ (n : ℕ) (t : Turn m n) where
       abbrev zs : List ℕ
-      zs = laid-out ps ws n
+      zs = copied-out ps ws n
 
       abbrev p : Pair
       p = getD ps n blank
@@ -110,7 +110,7 @@ module _ {M : Type 1} (𝓤 : URA M) (H : Heap 𝓤) (A : Atoms 𝓤) (W : Given
       p-fits = fit-at P.the-row (plain-pair W) ps good n blank in-list
 
       length-zs : length zs ≡ length ws
-      length-zs = length-laid-out ps ws n (record { enough = omega (arith, in-list); few = omega (arith, t .few); long = λ _. long })
+      length-zs = length-copied-out ps ws n (record { enough = omega (arith, in-list); few = omega (arith, t .few); long = λ _. long })
 
       has-place : Room-at n zs
       has-place = record { few = t .few; long = omega (arith, long, length-zs) }
@@ -122,7 +122,7 @@ module _ {M : Type 1} (𝓤 : URA M) (H : Heap 𝓤) (A : Atoms 𝓤) (W : Given
     ended : Sq W (At m) (runs (𝓣 .C) (𝓣 .Λ) E body.t-3 (atRet E Post))
     ended =
         sets ! (3 + 0) empty (of-opd ! (unit-lit !)) (tt, tt) $ leaves ! 3 (λ j. ltb j 5) _ refl (look ! (3 + 0) refl) $
-        by ! (ends pars (s, (tt, tt)) (last m) last-fits unit (plain-none W) tt refl (fact 𝓤 (laid-out ps ws m ≡ laid-out ps ws m)) (factI 𝓤 _ _ refl)
+        by ! (ends pars (s, (tt, tt)) (last m) last-fits unit (plain-none W) tt refl (fact 𝓤 (copied-out ps ws m ≡ copied-out ps ws m)) (factI 𝓤 _ _ refl)
         (ends-at 𝓤 H A f.ended (stays f.ended kinds) (f.clauses 𝓤 H A mem run) W (entry pars, tt) vunit tt (last m) last-fits))
 
     -- from the loop on
@@ -138,17 +138,17 @@ module _ {M : Type 1} (𝓤 : URA M) (H : Heap 𝓤) (A : Atoms 𝓤) (W : Given
         (typed-as (plain-pair W) (p n t) (p-fits n t)) $
         move ! (1 ∷ []) $
         calls-outright ! (fmOf 𝓤 H (W .laws) 𝓣) (args n t) unit (plain-none W) (fact 𝓤 (Room-at n (zs n t)))
-        (λ r us. us .0 ≡ laid-record (zs n t) n (p n t)) refl (factI 𝓤 _ (emp 𝓤) (has-place n t)) (λ ks. known (bound (args n t) ks, tt))
-        tt (laid-record (zs n t) n (p n t), (tt, (tt, tt))) (λ r us e. (refl, λ i. (e i, (tt, (tt, tt)))))
+        (λ r us. us .0 ≡ copied-record (zs n t) n (p n t)) refl (factI 𝓤 _ (emp 𝓤) (has-place n t)) (λ ks. known (bound (args n t) ks, tt))
+        tt (copied-record (zs n t) n (p n t), (tt, (tt, tt))) (λ r us e. (refl, λ i. (e i, (tt, (tt, tt)))))
         (and-then ! (var ! (3 + 8) refl) (and-then ! (var ! (3 + 4) refl) (and-then ! (var ! (3 + 11) refl) (no-more !)))) (λ _ _.
         lands-in ! (3 + 6) empty (tt, tt) $ move ! (1 ∷ []) $
         adds-one ! (3 + 4) refl (t .next-fits) (num (t .next-fits)) $ clears ! E 3 5 _ refl $
-        rewrite ! 1 (holds buffer) (laid-out-more ps ws n (in-list n t) (t .few) (long n t)) refl $ on tt)) tt ended
+        rewrite ! 1 (holds buffer) (copied-out-more ps ws n (in-list n t) (t .few) (long n t)) refl $ on tt)) tt ended
 
   walk : ent 𝓤 (onEntry 𝓤 H A f.signature κs qs (entry pars .3) (entry pars .4)) (WpFn 𝓤 H (𝓣 .C) (𝓣 .Λ) code.function (passed pars) Post)
   walk = begins (𝓣 .C) (𝓣 .Λ) code.function Post pars (λ bs. (fit-slice (room .0), (fit-slice (room′ .0), (num m-fits, tt)))) (λ bs os.
       knows-row ! 0 (pair-row W (os .0) (list .ptr .0) (list .ptr .1)) ps refl (λ good.
-      sets ! (3 + 4) empty (of-opd ! (lit ! tt)) (num (lit< tt)) $ rewrite ! 1 (holds buffer) (sym (laid-out-none ps ws)) refl $
+      sets ! (3 + 4) empty (of-opd ! (lit ! tt)) (num (lit< tt)) $ rewrite ! 1 (holds buffer) (sym (copied-out-none ps ws)) refl $
       loop-on (os .0) bs good))
 
 pub copy-out-spec : {M : Type 1} → stated.statement M

@@ -4,7 +4,7 @@ use mathlib.Core.Path.{refl}
 use native.Mathlib.Omega.{arith}
 use lib.ListN.{length-set}
 use Rattle.theory.specs.Lists.{pair}
-use Rattle.records.specs.Records.{as-pair, laid-record}
+use Rattle.records.specs.Records.{as-pair, copied-record}
 use Rattle.records.proofs.lay.Statement.{statement}
 use Rattle.records.proofs.lay.Tie as tie
 
@@ -15,7 +15,7 @@ slice-write-words-3 : tie.Need-slice-write-words-3
 slice-write-words-3 c = simp length-set (omega arith)
 
 returns : tie.Need-returns
-unfolding laid-record as-pair pair
+unfolding copied-record as-pair pair
 returns c = refl
 
 pub lay-spec : {M : Type 1} → statement M

@@ -14,7 +14,8 @@ returns-3 : tie.Need-returns-3
 returns-3 c =
     let put = c .before .before in
     let i = put .before .before in
-    drop-this _ _ _ _ _ (i .before .before .before .word-at .ensures) (i .before .before .if1 .left) (i .before .word-at2 .ensures) (i .if2 .left) (put .put-word .ensures)
+    drop-this _ _ _ _ _ (i .before .before .before .word-at .ensures) (i .before .before .if1 .left) (i .before .word-at2 .ensures)
+    (i .if2 .left) (put .put-word .ensures)
 
 pub drop-module-spec : {M : Type 1} → statement M
 drop-module-spec =

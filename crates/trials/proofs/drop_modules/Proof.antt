@@ -11,7 +11,8 @@ use Rattle.trials.proofs.drop_modules.Statement.{statement}
 use Rattle.trials.proofs.drop_modules.Tie as tie
 
 abbrev Inv-loop : tie.InvT-loop
-Inv-loop n k present₀ degrees dropped₀ v₀ present dropped v = (v ≤ n) × (length present ≡ length present₀) × (turns (drop-one k degrees) (n - v) v (dropping dropped present) ≡ drop-below n k degrees present₀)
+Inv-loop n k present₀ degrees dropped₀ v₀ present dropped v =
+    (v ≤ n) × (length present ≡ length present₀) × (turns (drop-one k degrees) (n - v) v (dropping dropped present) ≡ drop-below n k degrees present₀)
 
 abbrev μ-loop : tie.MeasureT-loop
 μ-loop n k present₀ degrees dropped₀ v₀ present dropped v = n - v

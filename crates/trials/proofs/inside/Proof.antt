@@ -10,7 +10,8 @@ use Rattle.trials.proofs.inside.Statement.{statement}
 use Rattle.trials.proofs.inside.Tie as tie
 
 abbrev Inv-loop : tie.InvT-loop
-Inv-loop k m ends levels count₀ j₀ count j = (j ≤ m) × (turns (λ (i c : ℕ). (c + pair-from k (ends-at ends i) levels) % 2 ^ 32) (m - j) j count ≡ inside-from k m ends levels)
+Inv-loop k m ends levels count₀ j₀ count j =
+    (j ≤ m) × (turns (λ (i c : ℕ). (c + pair-from k (ends-at ends i) levels) % 2 ^ 32) (m - j) j count ≡ inside-from k m ends levels)
 
 abbrev μ-loop : tie.MeasureT-loop
 μ-loop k m ends levels count₀ j₀ count j = m - j

@@ -18,11 +18,23 @@ returns-3 c = simp (le-ltb _ _ (c .before .before .if1 .left), le-ltb _ _ (c .be
 
 returns-4 : tie.Need-returns-4
 unfolding masked-at
-returns-4 c = simp (le-ltb _ _ (c .before .before .before .if1 .left), le-ltb _ _ (c .before .before .if2 .left), le-ltb _ _ (c .before .if3 .left), lt-ltb _ _ (c .if4 .taken))
+returns-4 c =
+    simp (
+      le-ltb _ _ (c .before .before .before .if1 .left),
+      le-ltb _ _ (c .before .before .if2 .left),
+      le-ltb _ _ (c .before .if3 .left),
+      lt-ltb _ _ (c .if4 .taken),
+    )
 
 returns-5 : tie.Need-returns-5
 unfolding masked-at
-returns-5 c = simp (le-ltb _ _ (c .before .before .before .if1 .left), le-ltb _ _ (c .before .before .if2 .left), le-ltb _ _ (c .before .if3 .left), le-ltb _ _ (c .if4 .left))
+returns-5 c =
+    simp (
+      le-ltb _ _ (c .before .before .before .if1 .left),
+      le-ltb _ _ (c .before .before .if2 .left),
+      le-ltb _ _ (c .before .if3 .left),
+      le-ltb _ _ (c .if4 .left),
+    )
 
 pub masked-spec : {M : Type 1} → statement M
 masked-spec = tie.close (tie.spec returns returns-2 returns-3 returns-4 returns-5)

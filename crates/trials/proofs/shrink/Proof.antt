@@ -36,7 +36,8 @@ loop-again c =
       omega arith,
       search needs,
       search needs,
-      rounds-again _ _ _ _ _ _ _ _ (l .loop .inv .3) (t .loop-test .taken) (l .loop .inv .2) (g .count-degrees .ensures) (d .drop-modules .ensures) (c .if1 .left),
+      rounds-again _ _ _ _ _ _ _ _ (l .loop .inv .3) (t .loop-test .taken) (l .loop .inv .2) (g .count-degrees .ensures)
+          (d .drop-modules .ensures) (c .if1 .left),
     )
 
 returns-2 : tie.Need-returns-2 Inv-loop μ-loop

@@ -44,7 +44,7 @@ mark-at-least-requires : tie.Need-mark-at-least-requires
 unfolding list-in
 mark-at-least-requires c κs =
     let q = c .before .before .before .before .before .before .before .before .before .before .pre .0 in
-    (q .cored .long, omega (arith, q .scope-long))
+    (q .cored .long, q .scope-long)
 
 spread-requires : tie.Need-spread-requires
 spread-requires c κs =

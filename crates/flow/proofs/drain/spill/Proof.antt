@@ -46,7 +46,7 @@ mul-first-link c = omega (arith, c .before .before .before .before .before .befo
 loop-holds : tie.Need-loop-holds Inv-loop μ-loop
 loop-holds c =
     let q = c .before .before .before .before .before .before .before .pre in
-    (drains-none, q .1 .0, c .first-link .ensures, q .1 .1 .1 .0, refl, q .1 .1 .1 .1, q .1 .1 .1 .2)
+    (drains-none, q .1 .0, c .first-link .ensures .0, q .1 .1 .1 .0, refl, q .1 .1 .1 .1, q .1 .1 .1 .2)
 
 leading-requires : tie.Need-leading-requires Inv-loop μ-loop
 leading-requires c κs =

@@ -44,4 +44,5 @@ returns-2 c =
 
 pub peel-on-words-spec : {M : Type 1} → statement M
 peel-on-words-spec =
-    tie.close (tie.spec returns (λ c. search needs) (λ c. search needs) peel-in-requires clear-requires (λ c. search needs) (λ c. search needs) (λ c. search needs) returns-2)
+    tie.close (tie.spec returns (λ c. search needs) (λ c. search needs) peel-in-requires clear-requires (λ c. search needs)
+    (λ c. search needs) (λ c. search needs) returns-2)

@@ -7,7 +7,8 @@ use Rattle.peel_trials.proofs.plain.take_turns.Statement.{statement}
 use Rattle.peel_trials.proofs.plain.take_turns.Tie as tie
 
 abbrev Inv-loop : tie.InvT-loop
-Inv-loop n m ends present₀ degrees₀ order₀ i₀ present degrees order i = (length present ≡ length present₀) × (length degrees ≡ length degrees₀) × (length order ≡ length order₀)
+Inv-loop n m ends present₀ degrees₀ order₀ i₀ present degrees order i =
+    (length present ≡ length present₀) × (length degrees ≡ length degrees₀) × (length order ≡ length order₀)
 
 abbrev μ-loop : tie.MeasureT-loop
 μ-loop n m ends present₀ degrees₀ order₀ i₀ present degrees order i = n - i

@@ -21,7 +21,7 @@ begin c = c .before .before .before .before .before .before .before .before .bef
 
 loop-holds : tie.Need-loop-holds Inv-loop μ-loop
 loop-holds c =
-    (kept-none _ _ _ _ _, c .first-link .ensures, c .before .before .before .before .before .before .before .before .before .pre .1 .1 .1 .1 .1, refl, refl)
+    (kept-none _ _ _ _ _, c .first-link .ensures .0, c .before .before .before .before .before .before .before .before .before .pre .1 .1 .1 .1 .1, refl, refl)
 
 slice-read-if1 : tie.Need-slice-read-if1 Inv-loop μ-loop
 slice-read-if1 c =
