@@ -31,7 +31,7 @@ use Rattle.slots.proofs.Totals.{total-ext, total-next, total-first, total-const
 use Rattle.flow.specs.Flow.{Sub}
 use Rattle.densest.specs.Inner.{inner-pairs, inner-list}
 use Rattle.groups.specs.Pairs.{inner-at}
-use Rattle.densest.specs.Gather.{inner-before, Gathered, Put-back, Scattered}
+use Rattle.densest.specs.Gather.{inner-before, Gathered, Scattered-at, Scattered}
 
 -- ---- ranks
 
@@ -202,7 +202,7 @@ gathered-held g l lf lh =
 -- the slots of the pairs below j are pair-stored
 pub record Scattering (j : ℕ) (ends scope units hold₀ hold : List ℕ) : Type 0 where
   pub long : length hold ≡ length hold₀
-  pub slots : (k : ℕ) → k < j → Put-back ends scope units hold k
+  pub slots : (k : ℕ) → k < j → Scattered-at ends scope units hold k
 
 pub scattering-start : (ends scope units hold : List ℕ) → Scattering 0 ends scope units hold hold
 scattering-start ends scope units hold = record { long = refl; slots = λ k h. absurd (omega arith) }

@@ -29,7 +29,7 @@ use Rattle.slots.specs.Slots.{held-by}
 use Rattle.slots.specs.Split.{scope-units, Split}
 use Rattle.slots.proofs.Words.{good-pair}
 use Rattle.groups.specs.Pairs.{inner-at}
-use Rattle.densest.specs.Search.{left-first, sheet-share}
+use Rattle.densest.specs.Search.{first-left, sheet-share}
 use Rattle.densest.proofs.Loads.{load-held, shares-table}
 
 -- ---- shares as tables
@@ -57,7 +57,7 @@ cond-times false w q = omega arith
 
 -- a pair's share, by its parts
 pub sheet-share-is : (q : ℕ) (ends weights scope place hold : List ℕ) (j x y : ℕ) (b d : Bool) →
-    b ≡ left-first ends place j → x ≡ cond b (getD weights j 0 * q) 0 →
+    b ≡ first-left ends place j → x ≡ cond b (getD weights j 0 * q) 0 →
     d ≡ inner-at ends scope j → y ≡ cond d (getD hold (2 * j) 0) x → y ≡ sheet-share q ends weights scope place hold j
 unfolding sheet-share holds-pair word-pair units
 sheet-share-is q ends weights scope place hold j x y b d e f h k = rw (← h, ← e, ← f) k
@@ -122,7 +122,7 @@ module _ (n m : ℕ) (ends weights scope place hold t shares : List ℕ) (d : Sh
   unfolding sheet-share outer wholly-first list at word-pair
   share-is j h =
       let w = good-pair n m ends weights (d .held .listed) j h in
-      ap (λ (c : Bool). cond c (getD hold (2 * j) 0) (cond (left-first ends place j) (units (size t) (at j)) 0)) (scope-inner j h)
+      ap (λ (c : Bool). cond c (getD hold (2 * j) 0) (cond (first-left ends place j) (units (size t) (at j)) 0)) (scope-inner j h)
       ∙ ap (λ (c : Bool). cond (inner (at j)) (getD hold (2 * j) 0) (cond c (units (size t) (at j)) 0))
       (sym (d .by-place (getD ends (2 * j) 0) (getD ends (2 * j + 1) 0) (omega arith) (w .below)))
 

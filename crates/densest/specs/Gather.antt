@@ -1,7 +1,7 @@
 -- The pairs inside a scope, gathered in words of their own, and their units put back.
 --   inner-before           how many pairs before pair j are inside the scope (its number among the pairs gathered)
 --   Gathered               words that have the pairs inside the scope
---   Put-back, Scattered    slots of all pairs that have the units of the pairs gathered
+--   Scattered-at, Scattered    slots of all pairs that have the units of the pairs gathered
 -- Assumes nothing: these are definitions.
 use mathlib.Core.Path.{_≡_}
 use mathlib.Core.Bool.{true, cond}
@@ -25,12 +25,12 @@ pub record Gathered (n m : ℕ) (ends weights scope inner-ends inner-weights : L
   pub pairs : (j : ℕ) → j < m → inner-at ends scope j ≡ true → word-pair inner-ends inner-weights (inner-before ends scope j) ≡ word-pair ends weights j
 
 -- pair j has the units of the pair gathered from it, slot by slot, and none where it is not inside the scope
-abbrev pub Put-back : (ends scope units hold : List ℕ) → (j : ℕ) → Type 0
-Put-back ends scope units hold j =
+abbrev pub Scattered-at : (ends scope units hold : List ℕ) → (j : ℕ) → Type 0
+Scattered-at ends scope units hold j =
     (getD hold (2 * j) 0 ≡ cond (inner-at ends scope j) (getD units (2 * inner-before ends scope j) 0) 0)
     × (getD hold (2 * j + 1) 0 ≡ cond (inner-at ends scope j) (getD units (2 * inner-before ends scope j + 1) 0) 0)
 
 -- all pairs do; further slots are free
 pub record Scattered (m : ℕ) (ends scope units hold : List ℕ) : Type 0 where
   pub long : 2 * m ≤ length hold
-  pub slots : (j : ℕ) → j < m → Put-back ends scope units hold j
+  pub slots : (j : ℕ) → j < m → Scattered-at ends scope units hold j

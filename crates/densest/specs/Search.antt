@@ -4,7 +4,7 @@
 --   Searchable                 what rounds start from
 --   Round                      what one round learns
 --   Group-found                what all rounds learn
---   left-first, sheet-share    who of a pair left first; a pair's share, from its slots and the leaving places
+--   first-left, sheet-share    who of a pair left first; a pair's share, from its slots and the leaving places
 -- Assumes nothing: these are definitions.
 use mathlib.Core.Path.{_≡_}
 use mathlib.Core.Bool.{Bool, true, false, cond}
@@ -68,10 +68,10 @@ pub record Group-found (n m : ℕ) (ends weights scope hold group : List ℕ) (p
   pub last : settled ≡ true → Round n m p q ends weights scope hold group true
 
 -- whether the first end of pair j left before the second
-abbrev pub left-first : (ends place : List ℕ) → (j : ℕ) → Bool
-left-first ends place j = ltb (getD place (getD ends (2 * j) 0) 0) (getD place (getD ends (2 * j + 1) 0) 0)
+abbrev pub first-left : (ends place : List ℕ) → (j : ℕ) → Bool
+first-left ends place j = ltb (getD place (getD ends (2 * j) 0) 0) (getD place (getD ends (2 * j + 1) 0) 0)
 
 -- the share of pair j: what its first slot holds where both its ends are in the scope, else all of it or nothing, by who left first
 unfoldable pub sheet-share : (q : ℕ) → (ends weights scope place hold : List ℕ) → (j : ℕ) → ℕ
 sheet-share q ends weights scope place hold j =
-    cond (holds-pair scope (word-pair ends weights j)) (getD hold (2 * j) 0) (cond (left-first ends place j) (units q (word-pair ends weights j)) 0)
+    cond (holds-pair scope (word-pair ends weights j)) (getD hold (2 * j) 0) (cond (first-left ends place j) (units q (word-pair ends weights j)) 0)

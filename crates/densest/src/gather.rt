@@ -33,7 +33,7 @@ fn gather(
         gathered[2 * i] = ends[2 * j];
         gathered[2 * i + 1] = ends[2 * j + 1];
         counts[i] = weights[j];
-        i = i + numbers::step(groups::inner(n, m, j, ends, scope));
+        i = i + numbers::one_if(groups::inner(n, m, j, ends, scope));
     }
     i
 }
@@ -62,7 +62,7 @@ fn scatter(n: usize, m: usize, ends: &[u32], scope: &[u8], units: &[u32], hold: 
         let kept = groups::inner(n, m, j, ends, scope);
         hold[2 * j] = numbers::pick(kept, units[2 * i]);
         hold[2 * j + 1] = numbers::pick(kept, units[2 * i + 1]);
-        i = i + numbers::step(kept);
+        i = i + numbers::one_if(kept);
     }
 }
 

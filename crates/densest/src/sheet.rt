@@ -5,7 +5,7 @@ ghost use Prim.Native.Nat.{ℕ, _*_, _≤_, _<_};
 ghost use lib.ListN.{length, getD};
 ghost use Rattle.slots.specs.Slots.{Ends};
 ghost use Rattle.theory.specs.Words.{Held-words};
-ghost use Rattle.densest.specs.Search.{left-first, sheet-share};
+ghost use Rattle.densest.specs.Search.{first-left, sheet-share};
 
 // An entry of the load sheet.
 pub(crate) type Share = u32;
@@ -14,7 +14,7 @@ pub(crate) type Share = u32;
 fn first_left(n: usize, m: usize, j: usize, ends: &[u32], place: &[u32]) -> bool
     requires { ⌜ Ends n m (now ends) ⌝ }
     requires { ⌜ (j < m) × (n ≤ length (now place)) ⌝ }
-    ensures { λ r. ⌜ r ≡ left-first (now (ends .entry)) (now (place .entry)) j ⌝ }
+    ensures { λ r. ⌜ r ≡ first-left (now (ends .entry)) (now (place .entry)) j ⌝ }
 {
     let pair = groups::two_ends(n, m, j, ends);
     let a = pair.a;

@@ -3,7 +3,7 @@
 use crate::exits::exit;
 use crate::exits::leading;
 use slots::first_link;
-use slots::has_room;
+use slots::is_sink;
 use slots::next_link;
 use slots::other;
 use slots::wide;
@@ -47,7 +47,7 @@ fn start_drain(
         let x = load[v];
         rank[v] = stays(p, s, x);
         queue[tail] = v as u32;
-        tail = tail + has_room(p, s, x);
+        tail = tail + is_sink(p, s, x);
     }
     tail
 }

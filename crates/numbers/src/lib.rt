@@ -1,4 +1,4 @@
-// Small functions on numbers, each once for the whole house: the lesser and the greater of two, a quotient rounded up, tests of numbers and of bytes,
+// Small functions on numbers that several crates need: the lesser and the greater of two, a quotient rounded up, tests of numbers and of bytes,
 // and tests as numbers. Nothing here branches by more than one test, and nothing is refused.
 ghost use mathlib.Core.Path.{_≡_};
 ghost use mathlib.Core.Bool.{_&&_, cond};
@@ -53,7 +53,7 @@ pub fn pick(test: bool, x: u32) -> u32
 }
 
 // 1 where a test holds, else 0: how far a place moves on.
-pub fn step(test: bool) -> usize
+pub fn one_if(test: bool) -> usize
     ensures { λ r. ⌜ r ≡ cond test 1 0 ⌝ }
 {
     if test { 1 } else { 0 }

@@ -2,7 +2,7 @@
 use crate::queue::enqueue;
 use numbers::lesser;
 use slots::first_link;
-use slots::has_room;
+use slots::is_sink;
 use slots::next_link;
 use slots::other;
 use slots::wide;
@@ -32,7 +32,7 @@ fn label_sinks(
     while v > 0 {
         v = v - 1;
         label[v] = FAR;
-        if has_room(p, scope[v], load[v]) == 1 {
+        if is_sink(p, scope[v], load[v]) == 1 {
             label[v] = 0;
             tail = enqueue(v as u32, tail, queue);
         }

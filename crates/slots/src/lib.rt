@@ -33,7 +33,7 @@ pub fn capped(x: u32, top: usize) -> usize
 }
 
 // 1 where a module of scope byte s and load x is in the scope and loaded below p, else 0.
-pub fn has_room(p: u32, s: u8, x: u32) -> usize
+pub fn is_sink(p: u32, s: u8, x: u32) -> usize
     ensures { λ r. ⌜ r ≡ cond (eqb s 1 && ltb x p) 1 0 ⌝ }
 {
     if s == 1 {

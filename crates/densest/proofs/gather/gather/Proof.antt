@@ -44,7 +44,7 @@ loop-again c =
     let p = begin (c .before .before .before .before .before .before) .pre in (
       i .0,
       i .1,
-      passed-next _ _ (i .2) (omega arith) (c .before .inner .ensures) (c .step .ensures),
+      passed-next _ _ (i .2) (omega arith) (c .before .inner .ensures) (c .one-if .ensures),
       gathering-next (i .2) (omega arith) (p .1 .1 .0) (p .1 .1 .1) (i .3),
     )
 

@@ -36,7 +36,7 @@ loop-again c =
     let p = begin (c .before .before .before .before .before .before .before) .pre in
     let e = c .before .before .before .before .before .inner .ensures in (
       i .0,
-      passed-next _ _ (i .1) (omega arith) e (c .step .ensures),
+      passed-next _ _ (i .1) (omega arith) e (c .one-if .ensures),
       scattering-next _ _ _ (i .1) (omega arith) (p .1 .1 .1) e (c .before .before .before .pick .ensures) (c .before .pick2 .ensures) (i .2),
     )
 

@@ -18,13 +18,13 @@ abbrev μ-loop : tie.MeasureT-loop
 abbrev begin : tie.At-loop Inv-loop μ-loop → tie.Start Inv-loop μ-loop
 begin c = c .before .before .before .before .before
 
-next-start : (c : tie.After-has-room Inv-loop μ-loop) →
+next-start : (c : tie.After-is-sink Inv-loop μ-loop) →
     let a = begin (c .before .before .before .before .before) .args in let l = c .before .before .before .before .before .loop in
     Drain-starting (a .n) (a .p) (l .v + 1) (a .scope .now) (a .load .now) (set (l .rank) (l .v) (c .before .stays .result))
-    (set (l .queue) (l .tail) (l .v)) (l .tail + c .has-room .result)
+    (set (l .queue) (l .tail) (l .v)) (l .tail + c .is-sink .result)
 next-start c =
     drain-start-next (c .before .before .before .before .before .loop .inv .0) (omega arith) (omega arith) (omega arith) _ _ (c .before .stays .ensures)
-    (c .has-room .ensures)
+    (c .is-sink .ensures)
 
 loop-holds : tie.Need-loop-holds Inv-loop μ-loop
 loop-holds c = (drain-start-none, c .before .before .before .before .pre .1 .1 .0, refl, c .before .before .before .before .pre .1 .1 .1)

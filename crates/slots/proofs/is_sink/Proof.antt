@@ -1,7 +1,7 @@
--- `slots::has_room` meets its contract. Assumes nothing.
+-- `slots::is_sink` meets its contract. Assumes nothing.
 use borrow.Author.Tests.{eq-eqb, ne-eqb, lt-ltb, le-ltb}
-use Rattle.slots.proofs.has_room.Statement.{statement}
-use Rattle.slots.proofs.has_room.Tie as tie
+use Rattle.slots.proofs.is_sink.Statement.{statement}
+use Rattle.slots.proofs.is_sink.Tie as tie
 
 returns : tie.Need-returns
 returns c =
@@ -20,5 +20,5 @@ returns-2 c =
 returns-3 : tie.Need-returns-3
 returns-3 c = rw (ne-eqb (c .before .args .s) 1 (c .if1 .left))
 
-pub has-room-spec : {M : Type 1} → statement M
-has-room-spec = tie.close (tie.spec returns returns-2 returns-3)
+pub is-sink-spec : {M : Type 1} → statement M
+is-sink-spec = tie.close (tie.spec returns returns-2 returns-3)
