@@ -21,7 +21,7 @@ use Rattle.theory.specs.Splits.{units, shares-good, is-split, load-of, greatest
 use Rattle.theory.specs.Words.{word-pair, pairs-in, list-in, Held-words}
 use Rattle.theory.specs.Promise.{Optimal, Core-members}
 use Rattle.theory.proofs.Tables.{length-table, table-at, table-ext}
-use Rattle.theory.proofs.Groups.{found-densest}
+use Rattle.theory.proofs.Densest.{found-densest}
 use Rattle.theory.proofs.Duality.{optimal}
 use Rattle.theory.proofs.Cores.{core-members}
 use Rattle.theory.proofs.Splits.{only, merge, split-with}

@@ -24,7 +24,7 @@ use Rattle.theory.specs.Promise.{Found-alone}
 use Rattle.theory.proofs.Tests.{tests}
 use Rattle.theory.proofs.Tables.{length-table, table-at}
 use Rattle.theory.proofs.Lists.{listed}
-use Rattle.theory.proofs.Groups.{found-alone}
+use Rattle.theory.proofs.Densest.{found-alone}
 use Rattle.slots.specs.Slots.{mate, Room}
 use Rattle.slots.proofs.Held.{zero-at}
 use Rattle.peel.specs.Peel.{Peelable, Peels}

@@ -24,7 +24,8 @@ use Rattle.theory.specs.Leaving.{degree, leaving, remainder, leaving-degree}
 use Rattle.theory.specs.Words.{word-pair, list-in}
 use Rattle.theory.proofs.Lists.{proper}
 use Rattle.theory.proofs.Tests.{no}
-use Rattle.theory.proofs.Groups.{inside-none, at-most-trans, at-most-or}
+use Rattle.theory.proofs.Groups.{inside-none}
+use Rattle.theory.proofs.Densest.{at-most-trans, at-most-or}
 use Rattle.theory.proofs.Cores.{inside-leave}
 use Rattle.slots.specs.Slots.{total}
 use Rattle.slots.proofs.Totals.{total-next, total-ext, total-const, total-upto}

@@ -13,7 +13,8 @@ use Rattle.theory.specs.Lists.{Pairs, is-list}
 use Rattle.theory.specs.Groups.{size, bytes-good, is-group, everyone, at-most, union, Densest, Found}
 use Rattle.theory.specs.Promise.{Found-there}
 use Rattle.theory.proofs.Tests.{tests, no}
-use Rattle.theory.proofs.Groups.{Bits, group-bits, everyone-group, le-or, at-most-or, at-most-trans, union-group, union-dense, within-union}
+use Rattle.theory.proofs.Groups.{Bits, group-bits, everyone-group, union-group, within-union}
+use Rattle.theory.proofs.Densest.{le-or, at-most-or, at-most-trans, union-dense}
 
 -- of the byte lists that pass P none is there, or one is best by R
 data Best (n : ℕ) (P : List ℕ → Bool) (R : List ℕ → List ℕ → Type 0) : Type 0 where

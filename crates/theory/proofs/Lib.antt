@@ -6,6 +6,7 @@ pub mod Lists
 pub mod Words
 pub mod Refusals
 pub mod Groups
+pub mod Densest
 pub mod Duality
 pub mod Best
 pub mod Cores

@@ -5,7 +5,7 @@ use Rattle.theory.specs.Promise.{Leaver-lowest, Leaver-there, Leaving-st
 use Rattle.theory.specs.Promise.{Floats-in-order}
 use Rattle.theory.specs.Promise.{Ratios-in-order, Rounded-once, Surplus-signed}
 use Rattle.theory.specs.Cases.{Starred-cases}
-use Rattle.theory.proofs.Groups as groups
+use Rattle.theory.proofs.Densest as densest
 use Rattle.theory.proofs.Duality as duality
 use Rattle.theory.proofs.Best as best
 use Rattle.theory.proofs.Cores as cores
@@ -37,19 +37,19 @@ pub found-there : Found-there
 found-there = best.found-there
 
 pub found-alone : Found-alone
-found-alone = groups.found-alone
+found-alone = densest.found-alone
 
 pub found-largest : Found-largest
-found-largest = groups.found-largest
+found-largest = densest.found-largest
 
 pub found-no-pairs : Found-no-pairs
-found-no-pairs = groups.found-no-pairs
+found-no-pairs = densest.found-no-pairs
 
 pub union-densest : Union-densest
-union-densest = groups.union-densest
+union-densest = densest.union-densest
 
 pub shared-densest : Shared-densest
-shared-densest = groups.shared-densest
+shared-densest = densest.shared-densest
 
 -- ---- its split
 
