@@ -1,6 +1,8 @@
 -- Records and words: laws of `copied-out` and `put-back`.
 --   length-ends-of                   two words a record
---   length-copied-out, copied-out-none, copied-out-more    a buffer's length stays; no record, and one record more
+--   length-copied-ends, copied-ends-none, copied-ends-more    numbers to words: a buffer's length stays; no record, and one record more
+--   counts-out, count-none, count-more    the counts, once the numbers are there; no count, and one count more
+--   length-copied-out, copied-out-none    both: a buffer's length stays; no record
 --   copied-out-pairs                   what lies in the words are the pairs that the records stand for
 --   copied-out-drop, copied-out-past     the words past the places of records stay
 --   copied-out-list, agrees-room, copied-out-holds       where head and list agree, words that are long enough then hold the list
@@ -13,7 +15,7 @@ use Prim.Native.Nat.{ℕ, zero, suc, _+_, _*_, _≤_, _<_}
 use native.Mathlib.Omega.{arith}
 use mathlib.Core.Bool.{true}
 use mathlib.Core.List.{List, [], _∷_, _++_, map, map-append, append-assoc}
-use lib.ListN.{length, getD, set, take, drop, length-append, length-drop, length-map, length-set, take-append-drop}
+use lib.ListN.{length, getD, set, take, drop, replicate, length-replicate, length-append, length-drop, length-map, length-set, take-append-drop}
 use lib.Seq.{length-take-le, getD-take, getD-drop, take-suc, drop-cons, append-snoc, set-at, set-append-left, take-set-lt, drop-set-lt}
 use Rattle.theory.specs.Basics.{table}
 use Rattle.theory.specs.Lists as Lists
@@ -22,13 +24,13 @@ use Rattle.theory.specs.Words.{word-pair, pairs-in, counts-of, laid-pairs, laid
 use Rattle.theory.proofs.Tests.{tests}
 use Rattle.theory.proofs.Tables.{length-table, table-ext}
 use Rattle.theory.proofs.Words.{length-put, put-below, put-in, put-drop}
-use Rattle.records.specs.Records.{as-pair, as-pairs, held-list, agrees, blank, ends-of, weights-of, copied-record, copied-out, word-record, records-in}
-use Rattle.records.specs.Records.{put-back, Room-out}
+use Rattle.records.specs.Records.{as-pair, as-pairs, held-list, agrees, blank, ends-of, weights-of, copied-record, copied-ends, copied-out}
+use Rattle.records.specs.Records.{word-record, records-in, put-back, Room-out}
 use Rattle.records.specs.declared.Pair.{Pair}
 use Rattle.records.specs.declared.Head.{Head}
 use Rattle.records.proofs.Scans.{agrees-count}
 
--- ---- one entry more of new ones, and one before them
+-- ---- one entry more of new ones
 module _ (k : ℕ) (new old : List ℕ) (v j : ℕ) where
   put-more : j ≡ k + length new → j < length old → set (put-at k new old) j v ≡ put-at k (new ++ (v ∷ [])) old
   unfolding put-at
@@ -45,12 +47,6 @@ module _ (k : ℕ) (new old : List ℕ) (v j : ℕ) where
         append-snoc new v (drop (suc j) old),
       )
 
-  put-set : j < k → k ≤ length old → set (put-at k new old) j v ≡ put-at k new (set old j v)
-  unfolding put-at
-  put-set l room =
-      let left = set-append-left (take k old) (new ++ drop (k + length new) old) j v (omega (arith, l, length-take-le k old room)) in
-      cc (left, take-set-lt k old j v l, drop-set-lt (k + length new) old j v (omega (arith, l)))
-
 -- ---- records to words
 pub length-ends-of : (ps : List Pair) → length (ends-of ps) ≡ 2 * length ps
 unfolding ends-of
@@ -61,10 +57,6 @@ ends-of-more : (ps : List Pair) (p : Pair) → ends-of (ps ++ (p ∷ [])) ≡ (e
 unfolding ends-of
 ends-of-more [] p = refl
 ends-of-more (q ∷ ps) p = ap {B = List ℕ} (λ (xs : List ℕ). q .a ∷ q .b ∷ xs) (ends-of-more ps p)
-
-weights-of-more : (ps : List Pair) (p : Pair) → weights-of (ps ++ (p ∷ [])) ≡ weights-of ps ++ (as-pair p .w ∷ [])
-unfolding weights-of
-weights-of-more ps p = map-append (λ q. as-pair q .w) ps (p ∷ [])
 
 -- the words of record j
 double-suc : (j : ℕ) → 2 * suc j ≡ suc (suc (2 * j))
@@ -85,9 +77,13 @@ weights-at [] j l = absurd (omega (arith, l))
 weights-at (p ∷ ps) zero l = refl
 weights-at (p ∷ ps) (suc j) l = weights-at ps j (omega (arith, l))
 
+pub copied-ends-none : (ps : List Pair) (ws : List ℕ) → copied-ends ps ws 0 ≡ ws
+unfolding copied-ends ends-of put-at
+copied-ends-none ps ws = refl
+
 -- no record: nothing is written
 pub copied-out-none : (ps : List Pair) (ws : List ℕ) → copied-out ps ws 0 ≡ ws
-unfolding copied-out ends-of weights-of put-at
+unfolding copied-out copied-ends ends-of weights-of put-at
 copied-out-none ps ws = take-append-drop 8192 ws
 
 -- m records, and places for them
@@ -112,17 +108,17 @@ module _ (ps : List Pair) (ws : List ℕ) (m : ℕ) (enough : m ≤ length ps) (
   room-cs = omega (arith, length-cs, few, long, length-put 0 es ws room-es)
 
   length-laid : length (copied-out ps ws m) ≡ length ws
-  unfolding copied-out
+  unfolding copied-out copied-ends
   length-laid = length-put 8192 cs (put-at 0 es ws) room-cs ∙ length-put 0 es ws room-es
 
   past-laid : (k : ℕ) → 12288 ≤ k → drop k (copied-out ps ws m) ≡ drop k ws
-  unfolding copied-out
+  unfolding copied-out copied-ends
   past-laid k l =
       put-drop 8192 cs (put-at 0 es ws) room-cs k (omega (arith, length-cs, few, l)) ∙ put-drop 0 es ws room-es k (omega (arith, length-es, few, l))
 
   -- a word of the ends
   end-laid : (k : ℕ) → k < 2 * m → getD (copied-out ps ws m) k 0 ≡ getD es k 0
-  unfolding copied-out
+  unfolding copied-out copied-ends
   end-laid k l =
       let e : k ≡ 0 + k = omega arith in
       cc (e, put-below 8192 cs (put-at 0 es ws) room-cs k (omega (arith, l, few)), put-in 0 es ws room-es k (omega (arith, l, length-es)))
@@ -140,37 +136,58 @@ module _ (ps : List Pair) (ws : List ℕ) (m : ℕ) (enough : m ≤ length ps) (
         cc (e, end-laid (2 * j + 1) (omega (arith, l)), ends-at (take m ps) j in-take .1, getD-take m ps j blank l)
 
     weight-laid : getD (counts-of (copied-out ps ws m)) j 0 ≡ as-pair (getD ps j blank) .w
-    unfolding copied-out counts-of
+    unfolding copied-out copied-ends counts-of
     weight-laid =
         let there = put-in 8192 cs (put-at 0 es ws) room-cs j (omega (arith, l, length-cs)) in
         cc (getD-drop 8192 (copied-out ps ws m) j 0, there, weights-at (take m ps) j in-take, getD-take m ps j blank l)
 
--- one record more
+-- one record's numbers more
 module _ (ps : List Pair) (ws : List ℕ) (i : ℕ) (l : i < length ps) (few : i < 4096) (long : 12288 ≤ length ws) where
-  pub copied-out-more : copied-record (copied-out ps ws i) i (getD ps i blank) ≡ copied-out ps ws (suc i)
-  unfolding copied-record copied-out
-  copied-out-more =
+  pub copied-ends-more : copied-record (copied-ends ps ws i) i (getD ps i blank) ≡ copied-ends ps ws (suc i)
+  unfolding copied-record copied-ends
+  copied-ends-more =
       let p : Pair = getD ps i blank in
       let es : List ℕ = ends-of (take i ps) in
       let fs : List ℕ = es ++ (p .a ∷ []) in
-      let gs : List ℕ = fs ++ (p .b ∷ []) in
-      let cs : List ℕ = weights-of (take i ps) in
-      let xs : List ℕ = put-at 0 es ws in
       let es-long : length es ≡ 2 * i = length-es ps ws i (omega (arith, l)) (omega (arith, few)) long in
       let fs-long : length fs ≡ 2 * i + 1 = omega (arith, es-long, length-append es (p .a ∷ [])) in
-      let cs-long : length cs ≡ i = length-cs ps ws i (omega (arith, l)) (omega (arith, few)) long in
-      let xs-long : length xs ≡ length ws = length-put 0 es ws (omega (arith, es-long, few, long)) in
-      let ys-long : length (put-at 0 gs ws) ≡ length ws = length-put 0 gs ws (omega (arith, fs-long, length-append fs (p .b ∷ []), few, long)) in
       cc (
-        put-set 8192 cs xs (p .a) (2 * i) (omega (arith, few)) (omega (arith, xs-long, long)),
-        put-set 8192 cs (set xs (2 * i) (p .a)) (p .b) (2 * i + 1) (omega (arith, few)) (omega (arith, xs-long, long, length-set xs (2 * i) (p .a))),
         put-more 0 es ws (p .a) (2 * i) (omega (arith, es-long)) (omega (arith, few, long)),
         put-more 0 fs ws (p .b) (2 * i + 1) (omega (arith, fs-long)) (omega (arith, few, long)),
-        put-more 8192 cs (put-at 0 gs ws) (as-pair p .w) (8192 + i) (omega (arith, cs-long)) (omega (arith, few, ys-long, long)),
         ends-of-more (take i ps) p,
-        weights-of-more (take i ps) p,
         take-suc ps i blank l,
       )
+
+-- every record counts once
+weights-once : (ps : List Pair) (m : ℕ) → m ≤ length ps → replicate m 1 ≡ weights-of (take m ps)
+unfolding weights-of as-pair pair
+weights-once ps zero l = refl
+weights-once [] (suc m) l = absurd (omega (arith, l))
+weights-once (p ∷ ps) (suc m) l = ap (λ (cs : List ℕ). 1 ∷ cs) (weights-once ps m (omega (arith, l)))
+
+-- the counts, once the numbers are there
+pub counts-out : (ps : List Pair) (ws : List ℕ) (m : ℕ) → m ≤ length ps → put-at 8192 (replicate m 1) (copied-ends ps ws m) ≡ copied-out ps ws m
+unfolding copied-out
+counts-out ps ws m l = ap (λ (cs : List ℕ). put-at 8192 cs (copied-ends ps ws m)) (weights-once ps m l)
+
+ones-more : (i : ℕ) → _≡_ {A = List ℕ} (replicate i 1 ++ (1 ∷ [])) (1 ∷ replicate i 1)
+ones-more zero = refl
+ones-more (suc i) = ap (λ (cs : List ℕ). 1 ∷ cs) (ones-more i)
+
+-- no count, and a count more
+pub count-none : (ws : List ℕ) → put-at 8192 (replicate 0 1) ws ≡ ws
+unfolding put-at
+count-none ws = take-append-drop 8192 ws
+
+pub count-more : (i : ℕ) (ws : List ℕ) → i < 4096 → 12288 ≤ length ws → set (put-at 8192 (replicate i 1) ws) (8192 + i) 1 ≡ put-at 8192 (replicate (suc i) 1) ws
+count-more i ws few long =
+    put-more 8192 (replicate i 1) ws 1 (8192 + i) (omega (arith, length-replicate {A = ℕ} i 1)) (omega (arith, few, long))
+    ∙ ap (λ (cs : List ℕ). put-at 8192 cs ws) (ones-more i)
+
+pub length-copied-ends : (ps : List Pair) (ws : List ℕ) (m : ℕ) → Room-out ps ws m → length (copied-ends ps ws m) ≡ length ws
+length-copied-ends ps ws zero r = ap {B = ℕ} (λ (xs : List ℕ). length xs) (copied-ends-none ps ws)
+length-copied-ends ps ws (suc m) r =
+    unfold copied-ends in length-put 0 (ends-of (take (suc m) ps)) ws (room-es ps ws (suc m) (r .enough) (r .few) (r .long (omega arith)))
 
 -- a buffer keeps its length
 pub length-copied-out : (ps : List Pair) (ws : List ℕ) (m : ℕ) → Room-out ps ws m → length (copied-out ps ws m) ≡ length ws

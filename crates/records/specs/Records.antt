@@ -4,10 +4,12 @@
 --   agrees                  head and list agree: number 13 is given where they do not
 --   blank                   the record 0,0
 --   ends-of, weights-of     the numbers of records as words, and how often they count
---   copied-record, copied-out   a buffer of words after one record, and after the first records, were copied to it
+--   copied-record, copied-ends    a buffer of words after the numbers of one record, and of the first records, were copied to it
+--   copied-out              and after their counts were, too
 --   word-record, records-in records read from words
 --   put-back                a list after the first records were copied back to it
 --   Room-at, Fits-at        words have a place for a record, and what lies there fits one; Fits-records: so at the first places
+--   Room-counts             words have places for the counts of some records
 --   Room-out, Room-back     what the copies ask
 -- Assumes nothing: these are definitions.
 use mathlib.Core.Bool.{Bool, _&&_}
@@ -51,13 +53,17 @@ ends-of (p ∷ ps) = p .a ∷ p .b ∷ ends-of ps
 unfoldable pub weights-of : List Pair → List ℕ
 weights-of ps = map (λ p. as-pair p .w) ps
 
--- the words after record p was copied to place i
+-- the words after the numbers of record p were copied to place i
 unfoldable pub copied-record : List ℕ → ℕ → Pair → List ℕ
-copied-record ws i p = set (set (set ws (2 * i) (p .a)) (2 * i + 1) (p .b)) (8192 + i) (as-pair p .w)
+copied-record ws i p = set (set ws (2 * i) (p .a)) (2 * i + 1) (p .b)
 
--- the words after the first m records were copied to them
+-- the words after the numbers of the first m records were copied to them
+unfoldable pub copied-ends : List Pair → List ℕ → ℕ → List ℕ
+copied-ends ps ws m = put-at 0 (ends-of (take m ps)) ws
+
+-- the words after the first m records were copied to them, and their counts
 unfoldable pub copied-out : List Pair → List ℕ → ℕ → List ℕ
-copied-out ps ws m = put-at 8192 (weights-of (take m ps)) (put-at 0 (ends-of (take m ps)) ws)
+copied-out ps ws m = put-at 8192 (weights-of (take m ps)) (copied-ends ps ws m)
 
 -- the record that lies in words at place j
 abbrev pub word-record : List ℕ → ℕ → Pair
@@ -75,6 +81,11 @@ put-back ps ws m = records-in m ws ++ drop m ps
 pub record Room-at (i : ℕ) (words : List ℕ) : Type 0 where
   pub few : i < 4096
   pub long : 12288 ≤ length words
+
+-- the words have places for the counts of m records
+pub record Room-counts (m : ℕ) (words : List ℕ) : Type 0 where
+  pub few : m ≤ 4096
+  pub long : 0 < m → 12288 ≤ length words
 
 -- what lies at place i fits the 16 bits of a record's numbers
 abbrev pub Fits-at : ℕ → List ℕ → Type 0

@@ -2,9 +2,12 @@
 //   copy_out   records to words: the numbers of record j to words 2j and 2j + 1, and its count, which is 1, to word 8,192 + j
 //   copy_in    words to records
 //   agree      whether head and list agree (document 01, number 13)
-// Each is one pass over the records that it names, and blind to what is in a record: lay, record_at and step know that.
+// Each is one pass over the records that it names (copy_out one more over their counts), and blind to what is in a record: lay, lay_counts, record_at and
+// step know that.
 ghost use mathlib.Core.Path.{_≡_};
-ghost use Rattle.records.specs.Records.{copied-record, word-record, copied-out, put-back, Room-at, Fits-at, Room-out, Room-back, agrees};
+ghost use lib.ListN.{replicate};
+ghost use Rattle.theory.specs.Words.{put-at};
+ghost use Rattle.records.specs.Records.{copied-record, word-record, copied-out, put-back, Room-at, Fits-at, Room-counts, Room-out, Room-back, agrees};
 ghost use Rattle.records.specs.Scan.{begin-of, tested-of, step-of};
 
 // A record: two module numbers, the smaller first.
@@ -21,14 +24,25 @@ pub struct Head {
     pub m: u32,
 }
 
-// One record to words: its numbers to words 2i and 2i + 1, its count, which is 1, to word 8,192 + i.
+// One record's numbers to words 2i and 2i + 1.
 fn lay(words: &mut [u32], i: usize, p: Pair)
     requires { ⌜ Room-at i (now words) ⌝ }
     ensures { λ _. ⌜ now (words .exit) ≡ copied-record (now (words .entry)) i p ⌝ }
 {
     words[2 * i] = p.a as u32;
     words[2 * i + 1] = p.b as u32;
-    words[8192 + i] = 1;
+}
+
+// The counts of the first m records, each 1, to the words from 8,192 on: a pass of its own, so that both are quick (stores side by side).
+fn lay_counts(words: &mut [u32], m: usize)
+    requires { ⌜ Room-counts m (now words) ⌝ }
+    ensures { λ _. ⌜ now (words .exit) ≡ put-at 8192 (replicate m 1) (now (words .entry)) ⌝ }
+{
+    let mut i = 0;
+    while i < m {
+        words[8192 + i] = 1;
+        i += 1;
+    }
 }
 
 // One record from words.
@@ -52,6 +66,7 @@ pub fn copy_out(list: &[Pair], words: &mut [u32], m: usize)
         lay(words, i, list[i]);
         i += 1;
     }
+    lay_counts(words, m);
 }
 
 // The first m records from words. The records after them stay.

@@ -164,7 +164,7 @@ module _ {M : Type 1} (𝓤 : URA M) (H : Heap 𝓤) (A : Atoms 𝓤) (W : Given
         (λ ks. known .steps (bound (step-args n t now) ks, tt)) (seen (suc n)) (tt, (tt, (tt, tt))) (λ r us e. (e ∙ next-is n t, refl))
         (and-then ! (var ! (2 + 3) refl) (and-then ! (var ! (2 + 4) refl) (and-then ! (var ! (2 + 11) refl) (no-more !)))) (λ fits _.
         lands-in ! (2 + 4) full (typed-as (plain-seen W) (seen (suc n)) fits) $
-        adds-one ! (2 + 6) refl (t .next-fits) (num (t .next-fits)) $ clears ! E 2 8 _ refl $ on fits)) fits ended
+        adds-one ! (2 + 6) refl (t .next-fits) (num (t .next-fits)) $ clears ! E (λ j. ltb 0 j) 2 8 _ refl $ on fits)) fits ended
 
   walk : ent 𝓤 (onEntry 𝓤 H A f.signature κs qs (entry pars .3) (entry pars .4)) (WpFn 𝓤 H C Λ code.function (passed pars) Post)
   unfolding scan

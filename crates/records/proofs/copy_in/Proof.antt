@@ -129,7 +129,7 @@ module _ {M : Type 1} (𝓤 : URA M) (H : Heap 𝓤) (A : Atoms 𝓤) (W : Given
         sets ! (3 + 8) empty (bin ! (part-of ! (3 + 1) 0 refl refl refl) (var ! (3 + 7) refl) tt) (tt, tt) $
         assigns ! (of-opd ! (var ! (3 + 6) refl)) (from ! (hop ! (look ! (3 + 8) refl) (stop !)))
         (store-at ! 0 pairs (put-back ps ws n) n blank (p n t) (in-row n t) good refl (λ _. store-raw ! 0 refl (typed-as (plain-pair W) (p n t) good))) $
-        adds-one ! (3 + 4) refl (t .next-fits) (num (t .next-fits)) $ clears ! E 3 5 _ refl $
+        adds-one ! (3 + 4) refl (t .next-fits) (num (t .next-fits)) $ clears ! E (λ j. ltb 0 j) 3 5 _ refl $
         rewrite ! 0 (holds pairs) (put-back-more ps ws n (in-list n t)) refl $ on tt)) tt ended
 
   walk : ent 𝓤 (onEntry 𝓤 H A f.signature κs qs (entry pars .3) (entry pars .4)) (WpFn 𝓤 H (𝓣 .C) (𝓣 .Λ) code.function (passed pars) Post)

@@ -1,21 +1,17 @@
--- `records::lay` meets its contract: three words are written. Assumes nothing.
+-- `records::lay` meets its contract: two words are written. Assumes nothing.
 use borrow.Author.Needs.{needs}
 use mathlib.Core.Path.{refl}
 use native.Mathlib.Omega.{arith}
 use lib.ListN.{length-set}
-use Rattle.theory.specs.Lists.{pair}
-use Rattle.records.specs.Records.{as-pair, copied-record}
+use Rattle.records.specs.Records.{copied-record}
 use Rattle.records.proofs.lay.Statement.{statement}
 use Rattle.records.proofs.lay.Tie as tie
 
 slice-write-words-2 : tie.Need-slice-write-words-2
 slice-write-words-2 c = simp length-set (omega arith)
 
-slice-write-words-3 : tie.Need-slice-write-words-3
-slice-write-words-3 c = simp length-set (omega arith)
-
 returns : tie.Need-returns
-unfolding copied-record as-pair pair
+unfolding copied-record
 returns c = refl
 
 pub lay-spec : {M : Type 1} → statement M
@@ -31,8 +27,5 @@ lay-spec =
     (λ c. search needs)
     (λ c. search needs)
     slice-write-words-2
-    (λ c. search needs)
-    (λ c. search needs)
-    slice-write-words-3
     (λ c. search needs)
     returns)
