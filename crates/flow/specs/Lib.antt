@@ -2,3 +2,4 @@
 pub mod Flow
 pub mod Search
 pub mod Drain
+pub mod Searches

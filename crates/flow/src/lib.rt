@@ -24,6 +24,8 @@ ghost use lib.ListN.{length};
 ghost use Rattle.slots.specs.Slots.{Ends, Room, Own};
 ghost use Rattle.flow.specs.Flow.{Flowed};
 ghost use Rattle.flow.specs.Search.{Marked};
+ghost use Rattle.flow.specs.Searches.{no-searches};
+ghost use Rattle.flow.specs.Searches.{together as Searches·together};
 
 // What searches did: chains along which units moved, the most slots that units moved along in one of them, and searches that reached no module loaded
 // below p. No contract speaks of these counts.
@@ -40,7 +42,9 @@ pub struct Split {
 }
 
 // No search.
-pub fn no_searches() -> Searches {
+pub fn no_searches() -> Searches
+    ensures { λ r. ⌜ r ≡ no-searches ⌝ }
+{
     Searches {
         chains: 0,
         longest: 0,
@@ -49,7 +53,9 @@ pub fn no_searches() -> Searches {
 }
 
 // Searches and further searches, together.
-pub fn together(a: Searches, b: Searches) -> Searches {
+pub fn together(a: Searches, b: Searches) -> Searches
+    ensures { λ r. ⌜ r ≡ Searches·together a b ⌝ }
+{
     Searches {
         chains: wrapping_add_u32(a.chains, b.chains),
         longest: greater(a.longest, b.longest),
