@@ -14,8 +14,7 @@ use borrow.Author.Tests.{eqb-true, eq-eqb, not-true}
 use lib.Dec.{leb, eqb}
 use lib.ListN.{length}
 use Rattle.theory.specs.Basics.{all, mark}
-use Rattle.theory.proofs.Tests.{tests, implied}
-use Rattle.pairs.proofs.General.{by-test}
+use Rattle.theory.proofs.Tests.{tests, implied, by-test}
 use Rattle.pairfile.specs.Numbers.{is-digit, digits, Number, number-of, spelled}
 use Rattle.pairfile.specs.Lines.{is-place, places, Line, with-numbers, after-number, after-byte, line-of, filled}
 use Rattle.pairfile.proofs.Spelling.{number-spelled, number-of-spelled, some-same, none-not-some}

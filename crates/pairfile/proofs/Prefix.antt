@@ -14,11 +14,10 @@ use borrow.Author.Tests.{lt-ltb, leb-true, leb-false}
 use lib.Dec.{leb, eqb}
 use lib.ListN.{length, getD, take, drop}
 use lib.Seq.{take-all, take-nil, length-take-le}
-use Rattle.theory.proofs.Tests.{tests, fails, implied}
+use Rattle.theory.proofs.Tests.{tests, fails, implied, by-test}
 use Rattle.theory.specs.Lists.{Pair}
 use Rattle.theory.specs.Refusals.{Cause, refusal}
 use Rattle.pairs.specs.Held.{insert-pair, smaller-first-pair}
-use Rattle.pairs.proofs.General.{by-test}
 use Rattle.pairfile.specs.Text.{text, between}
 use Rattle.pairfile.specs.Numbers.{is-digit, digits, is-number, value, Number, number-of}
 use Rattle.pairfile.specs.Lines.{

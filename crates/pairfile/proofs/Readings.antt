@@ -20,9 +20,9 @@ use Rattle.theory.specs.Lists.{Pair, Pairs, pair, ends-in-range}
 use Rattle.theory.specs.Words.{laid-pairs, laid-list, Holds-list}
 use Rattle.theory.proofs.Lists.{listed}
 use Rattle.theory.proofs.Words.{length-laid, laid-at}
-use Rattle.theory.proofs.Tests.{tests}
+use Rattle.theory.proofs.Tests.{tests, by-test}
 use Rattle.pairs.specs.Held.{insert-pair}
-use Rattle.pairs.proofs.General.{by-test, all-at, drop-more}
+use Rattle.pairs.proofs.General.{all-at, drop-more}
 use Rattle.pairfile.specs.Outcomes.{Outcome, refused, taken}
 use Rattle.pairfile.specs.Lines.{modules-form, pairs-form, first}
 use Rattle.pairfile.specs.File.{modules-causes, modules-line, pairs-causes, pairs-line, pair-line, end-causes, read-pairs, read-file}

@@ -20,8 +20,7 @@ use lib.Dec.{ltb, eqb}
 use lib.ListN.{length, getD, drop, length-append, List·getD-append}
 use lib.Seq.{drop-append-seam}
 use Rattle.theory.specs.Basics.{all}
-use Rattle.theory.proofs.Tests.{tests, no, or-right}
-use Rattle.pairs.proofs.General.{by-test}
+use Rattle.theory.proofs.Tests.{tests, no, or-right, by-test}
 use Rattle.pairfile.specs.Text.{between}
 use Rattle.pairfile.specs.Numbers.{is-digit, digits, is-number, value-on, value, Number, number-of, spell, spelled}
 

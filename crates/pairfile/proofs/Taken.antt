@@ -18,10 +18,9 @@ use borrow.Author.Tests.{ltb-false}
 use lib.Dec.{ltb}
 use Rattle.theory.specs.Lists.{Pair}
 use Rattle.theory.specs.Refusals.{Cause, cause, refusal}
-use Rattle.theory.proofs.Tests.{tests}
+use Rattle.theory.proofs.Tests.{tests, by-test}
 use Rattle.pairs.specs.Held.{is-held, smaller-first-pair}
 use Rattle.pairs.specs.Causes.{pair-causes}
-use Rattle.pairs.proofs.General.{by-test}
 use Rattle.pairs.proofs.Causes.{refusal-first, pair-then}
 use Rattle.pairfile.specs.Text.{between}
 use Rattle.pairfile.specs.Lines.{pair-form, Line, first, second, line-of}

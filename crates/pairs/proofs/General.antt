@@ -1,5 +1,4 @@
--- General laws of tests and of lists.
---   by-test                    a test holds or fails
+-- General laws of lists.
 --   all-weaker, all-at         a test of every element of a list
 --   drop-more, drop-at-word    lists that agree from i on agree further on, and word by word
 --   drop-set                   a store leaves what lies behind it
@@ -13,11 +12,6 @@ use lib.ListN.{length, getD, set, drop}
 use lib.Seq.{getD-drop, drop-drop}
 use Rattle.theory.specs.Basics.{all}
 use Rattle.theory.proofs.Tests.{tests}
-
--- a test holds or fails
-pub by-test : {A : Type 0} (t : Bool) → (t ≡ true → A) → (t ≡ false → A) → A
-by-test true f g = f refl
-by-test false f g = g refl
 
 -- what every element passes, every element passes by a weaker test
 pub all-weaker : {A : Type 0} (f h : A → Bool) → ((x : A) → f x ≡ true → h x ≡ true) → (xs : List A) → all f xs ≡ true → all h xs ≡ true

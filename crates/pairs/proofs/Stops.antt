@@ -17,11 +17,12 @@ use borrow.Author.Tests.{eqb-true, eqb-false}
 use Rattle.theory.specs.Lists.{Pair, pair}
 use Rattle.theory.specs.Words.{laid-pairs}
 use Rattle.theory.proofs.Words.{length-laid, laid-at}
+use Rattle.theory.proofs.Tests.{by-test}
 use Rattle.pairs.specs.Held.{is-held, weight-of, place-of, heavier, lighter, raise-pair, lower-pair}
 use Rattle.pairs.specs.Located.{Rising-words, located}
 use Rattle.pairs.specs.Counts.{count-at, set-count, Raisable, raised, pairs-raised, lowered, pairs-lowered}
 use Rattle.pairs.specs.declared.Place.{Place}
-use Rattle.pairs.proofs.General.{by-test, drop-set}
+use Rattle.pairs.proofs.General.{drop-set}
 use Rattle.pairs.proofs.Words.{place-within, place-held, length-insert, insert-drop, laid-inserted, length-delete, delete-drop, laid-deleted}
 use Rattle.pairs.proofs.Places.{lower-cut, lower-set, raise-set, raise-new, weight-at}
 

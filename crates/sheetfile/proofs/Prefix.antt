@@ -18,8 +18,7 @@ use Rattle.theory.specs.Cores.{core-number, core-numbers}
 use Rattle.theory.specs.Refusals.{Cause, cause, refusal}
 use Rattle.theory.proofs.Lists.{Listed, listed}
 use Rattle.theory.proofs.Tables.{length-table}
-use Rattle.theory.proofs.Tests.{tests}
-use Rattle.pairs.proofs.General.{by-test}
+use Rattle.theory.proofs.Tests.{tests, by-test}
 use Rattle.pairfile.specs.Text.{text, between}
 use Rattle.pairfile.specs.Numbers.{is-digit, Number}
 use Rattle.pairfile.specs.Lines.{is-place, Line, first, second, line-of}
