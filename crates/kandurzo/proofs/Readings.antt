@@ -27,14 +27,21 @@ use Rattle.theory.proofs.Tests.{tests}
 use Rattle.pairs.specs.Held.{insert-pair}
 use Rattle.pairs.specs.Causes.{pair-causes}
 use Rattle.pairs.proofs.Keeps.{counts-once}
+<<<<<<< crates/kandurzo/proofs/Readings.antt
 use Rattle.pairfile.specs.Outcomes.{Outcome, refused, taken, _>>=_, _>>_, passed, judge}
 use Rattle.pairfile.specs.Lines.{modules-form, pairs-form, pair-form, Line, first, second, line-of}
 use Rattle.pairfile.specs.File.{line-or-1, line-due, count-line, modules-causes, modules-line, pairs-causes, pairs-line}
 use Rattle.pairfile.specs.File.{pair-line-causes, pair-line, end-causes, read-pairs, read-file}
+=======
+use Rattle.pairs.proofs.Weights.{length-ones}
+use Rattle.lines.specs.Outcomes.{Outcome, refused, taken, _>>=_, _>>_, passed, judge, line-or, line-due}
+use Rattle.lines.specs.Lines.{Line, first, second, line-of}
+use Rattle.pairfile.specs.File.{modules-form, pairs-form, pair-form, count-line, modules-causes, modules-line, pairs-causes, pairs-line, pair-line-causes, pair-line, end-causes, read-pairs, read-file}
+>>>>>>> /tmp/ln/study/crates/kandurzo/proofs/Readings.antt
 use Rattle.pairfile.specs.Promise.{ones}
 use Rattle.pairfile.specs.Answers.{reading-of, pairs-of, FileRead}
 use Rattle.pairfile.specs.declared.Reading.{Reading}
-use Rattle.pairfile.proofs.Taken.{refused-not-taken}
+use Rattle.lines.proofs.Taken.{refused-not-taken}
 use Rattle.pairfile.proofs.Accepts.{accepted}
 use Rattle.pairfile.proofs.Readings.{words-small, reading-past}
 use Rattle.records.specs.declared.Pair.{Pair}
@@ -84,23 +91,23 @@ judge-few cs o l n = go (refusal cs) (refusal-few cs l)
     go zero h k e = n k e
     go (suc j) h k e = let d : suc j ≡ k = cc in omega arith
 
-line-few : (form bs : List ℕ) → Few (line-due form bs)
-unfolding line-due line-or-1
-line-few form bs = go (line-of form bs)
+line-few : (form bs : List ℕ) → Few (line-due 1 4 form bs)
+unfolding line-due line-or
+line-few form bs = go (line-of 4 form bs)
   where
-    go : (o : Option Line) → Few (line-or-1 o)
+    go : (o : Option Line) → Few (line-or 1 o)
     go none k e = let d : 1 ≡ k = cc in omega arith
     go (some l) k e = absurd (refused-not-taken (sym e))
 
 count-few : (form bs : List ℕ) (causes : ℕ → List Cause) → ((n : ℕ) → all low (causes n) ≡ true) → Few (count-line form causes bs)
 unfolding count-line
 count-few form bs causes h =
-    bind-few (line-due form bs) _ (line-few form bs) (λ l. judge-few (causes (first l)) (taken l) (h (first l)) (taken-few l))
+    bind-few (line-due 1 4 form bs) _ (line-few form bs) (λ l. judge-few (causes (first l)) (taken l) (h (first l)) (taken-few l))
 
 pair-few : (n : ℕ) (held : List Lists.Pair) (bs : List ℕ) → Few (pair-line n held bs)
 unfolding pair-line
 pair-few n held bs =
-    bind-few (line-due pair-form bs) _ (line-few pair-form bs)
+    bind-few (line-due 1 4 pair-form bs) _ (line-few pair-form bs)
     (λ l. judge-few (pair-line-causes n held (first l) (second l)) _ (unfold pair-line-causes pair-causes cause all low in refl) (taken-few _))
 
 pairs-few : (n left : ℕ) (held : List Lists.Pair) (bs : List ℕ) → Few (read-pairs n left held bs)
@@ -162,7 +169,7 @@ module _ (room : ℕ) (bytes work after : List ℕ) (f : Reading) (long : 16384 
   fit-records : Fits-records (f .m) after
   unfolding Fits-records
   fit-records j l =
-      (omega (arith, words-small read (2 * j) (omega arith)), omega (arith, words-small read (2 * j + 1) (omega arith)))
+      (omega (arith, words-small room bytes read (2 * j) (omega arith)), omega (arith, words-small room bytes read (2 * j + 1) (omega arith)))
 
   -- of any other: the file's answer
   pub read-file-on : Read-on read-file room bytes work after (record { number = f .number; head = record { n = f .n; m = f .m }; count = f .m })

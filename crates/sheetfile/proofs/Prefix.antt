@@ -18,15 +18,24 @@ use Rattle.theory.specs.Cores.{core-number, core-numbers}
 use Rattle.theory.specs.Refusals.{Cause, cause, refusal}
 use Rattle.theory.proofs.Lists.{Listed, listed}
 use Rattle.theory.proofs.Tables.{length-table}
+<<<<<<< crates/sheetfile/proofs/Prefix.antt
 use Rattle.theory.proofs.Tests.{tests, by-test}
 use Rattle.pairfile.specs.Text.{text, between}
 use Rattle.pairfile.specs.Numbers.{is-digit, Number}
 use Rattle.pairfile.specs.Lines.{is-place, Line, first, second, line-of}
 use Rattle.pairfile.specs.Outcomes.{Outcome, refused, taken, _>>=_, _>>_, passed, judge}
+=======
+use Rattle.theory.proofs.Tests.{tests}
+use Rattle.pairs.proofs.General.{by-test}
+use Rattle.lines.specs.Text.{text, between}
+use Rattle.lines.specs.Numbers.{is-digit, Number}
+use Rattle.lines.specs.Lines.{is-place, Line, first, second, line-of}
+use Rattle.lines.specs.Outcomes.{Outcome, refused, taken, _>>=_, _>>_, passed, judge}
+>>>>>>> /tmp/ln/study/crates/sheetfile/proofs/Prefix.antt
 use Rattle.pairfile.specs.File.{read-file}
-use Rattle.pairfile.proofs.Fills.{starts-plain, parted}
+use Rattle.lines.proofs.Fills.{starts-plain, parted}
 use Rattle.pairfile.proofs.Accepts.{accepted}
-use Rattle.pairfile.proofs.Prefix.{span, LineCut, neither, both, line-cut}
+use Rattle.lines.proofs.Prefix.{span, LineCut, neither, both, line-cut}
 use Rattle.pairfile.proofs.Promises.{reads-first}
 use Rattle.pairfile.specs.Promise.{Read-first}
 use Rattle.sheetfile.specs.Sheet.{
@@ -93,19 +102,34 @@ trim-part v x = record { entries = x .entries; rest = take v (x .rest) }
 -- ---- lines
 
 -- the line that is due
+<<<<<<< crates/sheetfile/proofs/Prefix.antt
 due-alike : (form : List ℕ) (w : ℕ) (bs : List ℕ) → parted form ≡ true → span form ≤ w →
     Alike trim-line w (span form) (due (line-of form (take w bs))) (due (line-of form bs))
+=======
+due-alike : (form : List ℕ) (w : ℕ) (bs : List ℕ) → parted form ≡ true → span 4 form ≤ w →
+    Alike cut-line w (span 4 form) (due (line-of 4 form (take w bs))) (due (line-of 4 form bs))
+>>>>>>> /tmp/ln/study/crates/sheetfile/proofs/Prefix.antt
 unfolding due
-due-alike form w bs p h = go (line-cut form w bs p h)
+due-alike form w bs p h = go (line-cut 4 form w bs p h)
   where
+<<<<<<< crates/sheetfile/proofs/Prefix.antt
     go : LineCut form w bs → Alike trim-line w (span form) (due (line-of form (take w bs))) (due (line-of form bs))
+=======
+    go : LineCut 4 form w bs → Alike cut-line w (span 4 form) (due (line-of 4 form (take w bs))) (due (line-of 4 form bs))
+>>>>>>> /tmp/ln/study/crates/sheetfile/proofs/Prefix.antt
     go (neither d e) = refused-alike 101 (rw e) (rw d)
     go (both l v d e r) = taken-alike l v (rw e) (rw d) r
 
 -- and judged: its own cause and the number picked do not go by the bytes after it
+<<<<<<< crates/sheetfile/proofs/Prefix.antt
 line-alike : (form : List ℕ) (own : Line → Cause) (pick : Line → ℕ) (w : ℕ) (bs : List ℕ) → parted form ≡ true → span form ≤ w →
     ((l : Line) (v : ℕ) → own (trim-line v l) ≡ own l) → ((l : Line) (v : ℕ) → pick (trim-line v l) ≡ pick l) →
     Alike trim-number w (span form) (judged-line form own pick (take w bs)) (judged-line form own pick bs)
+=======
+line-alike : (form : List ℕ) (own : Line → Cause) (pick : Line → ℕ) (w : ℕ) (bs : List ℕ) → parted form ≡ true → span 4 form ≤ w →
+    ((l : Line) (v : ℕ) → own (cut-line v l) ≡ own l) → ((l : Line) (v : ℕ) → pick (cut-line v l) ≡ pick l) →
+    Alike cut-number w (span 4 form) (judged-line form own pick (take w bs)) (judged-line form own pick bs)
+>>>>>>> /tmp/ln/study/crates/sheetfile/proofs/Prefix.antt
 unfolding judged-line judge passed _>>_
 line-alike form own pick w bs p h same-own same-pick =
     alike-then 0 _ (omega arith) (due-alike form w bs p h)
@@ -171,7 +195,7 @@ read-trimmed g w bs h =
     alike-same _ (due-alike head-form w bs refl (omega arith))
     (λ l v m. go l v (refusal (ratio-causes (g .n) (second l))) refl m)
   where
-    go : (l : Line) (v k : ℕ) → refusal (ratio-causes (g .n) (second l)) ≡ k → w ≤ v + span head-form →
+    go : (l : Line) (v k : ℕ) → refusal (ratio-causes (g .n) (second l)) ≡ k → w ≤ v + span 4 head-form →
         (do
           passed k
           body ← read-body g (second l) (take v (l .rest))

@@ -26,14 +26,25 @@ use Rattle.theory.proofs.Words.{length-laid}
 use Rattle.theory.proofs.Duality.{optimal}
 use Rattle.theory.proofs.Promises.{split-there}
 use Rattle.pairs.proofs.General.{all-weaker}
+<<<<<<< crates/texts/proofs/Files.antt
 use Rattle.pairfile.specs.Outcomes.{Outcome, refused, taken}
+=======
+use Rattle.pairs.proofs.Weights.{length-ones}
+use Rattle.lines.specs.Outcomes.{Outcome, refused, taken}
+>>>>>>> /tmp/ln/study/crates/texts/proofs/Files.antt
 use Rattle.pairfile.specs.File.{read-file}
 use Rattle.pairfile.proofs.Accepts.{accepted}
 use Rattle.pairfile.proofs.Readings.{file-numbered}
 use Rattle.kandurzo.specs.Buffers.{in-front}
+<<<<<<< crates/texts/proofs/Files.antt
 use Rattle.writing.specs.Putting.{Puts}
 use Rattle.writing.proofs.Putting.{puts-length, puts-front}
 use Rattle.sheetfile.specs.Writer.{sheet-file, Writable, Accepts-back}
+=======
+use Rattle.lines.specs.Putting.{Puts}
+use Rattle.lines.proofs.Putting.{puts-length, puts-front}
+use Rattle.sheetfile.specs.Writer.{sheet-file, Written, Accepts-back}
+>>>>>>> /tmp/ln/study/crates/texts/proofs/Files.antt
 use Rattle.sheetfile.specs.Audit.{audit}
 use Rattle.sheetfile.proofs.BestSheets.{best-writable}
 use Rattle.sheetfile.proofs.ReadsBack.{accepts-back}
@@ -42,7 +53,7 @@ use Rattle.answer.specs.Answers.{refusal-of, solved-of, Sheeted, Answers}
 use Rattle.answer.proofs.Answering.{answers}
 use Rattle.texts.specs.Texts.{refusal-text, group-text, certificate, audit-text, Group-first}
 use Rattle.texts.specs.Contracts.{Prints, Of-file, Group-due, Sheet-due, Sheet-answered, answer-lines, sheet-lines, Spelled, Sheet-spelled}
-use Rattle.texts.proofs.Lengths.{head-length, members-length, numbers-length, shares-length}
+use Rattle.texts.proofs.Lengths.{no-more, and-small, head-length, members-length, numbers-length, shares-length}
 
 pub prints : {Right : List ℕ → Type 0} {text out out′ : List ℕ} {r : ℕ} → Right text → Puts text out 0 out′ r → length text ≤ length out →
     Prints Right out out′ r
@@ -137,8 +148,14 @@ module _ {file members : List ℕ} {r : Answer} {members′ : List ℕ} (a : Ans
     pub group-length : length (answer-lines r (take (r .n) members′)) ≤ 6184
     unfolding answer-lines
     group-length =
+        let s = group-spelled in
         simp length-append
-        (omega (arith, head-length (r .p ∷ r .q ∷ r .k ∷ r .coresize ∷ []), members-length 0 (take (r .n) members′), group-spelled .few))
+        (omega (
+          arith,
+          head-length (and-small (r .p) (s .p) (and-small (r .q) (s .q) (and-small (r .k) (s .k) (and-small (r .coresize) (s .coresize) no-more)))),
+          members-length 0 (take (r .n) members′) (omega (arith, s .few)),
+          s .few,
+        ))
 
     not-refused : (k : ℕ) → read-file 4096 file ≡ refused k → ⊥
     not-refused k e = file-numbered 4096 file k e (sym (refused-by k e) ∙ z)
@@ -237,10 +254,15 @@ module _ {file members cores shares words : List ℕ} {r : Answer} {members′ c
         (omega (
           arith,
           group-length (answers s) z,
-          numbers-length (take (r .n) cores′),
+          numbers-length (take (r .n) cores′) (sheet-spelled .numbers),
           cores-few,
+<<<<<<< crates/texts/proofs/Files.antt
           shares-length ps xs,
           length-laid (length xs) words′,
+=======
+          shares-length ps xs (sheet-spelled .pairs .ends-few) (sheet-spelled .pairs .shares-short),
+          length-ones (length xs) ends′,
+>>>>>>> /tmp/ln/study/crates/texts/proofs/Files.antt
           shares-count (g .0) (g .1),
           pairs-few,
         ))

@@ -17,12 +17,17 @@ use Rattle.theory.specs.Lists.{Pairs, ends-in-range}
 use Rattle.theory.specs.Groups.{inside, size, Found}
 use Rattle.theory.specs.Splits.{core-order, outside-good}
 use Rattle.theory.specs.Promise.{Optimal}
+<<<<<<< crates/texts/specs/Contracts.antt
 use Rattle.theory.specs.Words.{laid-pairs}
 use Rattle.pairfile.specs.Outcomes.{refused, taken}
+=======
+use Rattle.pairs.specs.Located.{ones-in}
+use Rattle.lines.specs.Outcomes.{refused, taken}
+>>>>>>> /tmp/ln/study/crates/texts/specs/Contracts.antt
 use Rattle.pairfile.specs.File.{read-file}
-use Rattle.writing.specs.Putting.{Puts}
+use Rattle.lines.specs.Putting.{Puts}
 use Rattle.sheetfile.specs.Audit.{audit}
-use Rattle.pairfile.specs.Lines.{filled}
+use Rattle.lines.specs.Lines.{filled}
 use Rattle.sheetfile.specs.Sheet.{head-form}
 use Rattle.sheetfile.specs.Writer.{member-lines, number-lines, share-lines, sheet-file, four-digits}
 use Rattle.answer.specs.declared.Answer.{Answer}

@@ -9,9 +9,15 @@ ghost use mathlib.Core.List.{[], _∷_};
 ghost use Prim.Native.Nat.{_+_, _≤_};
 ghost use lib.Dec.{eqb};
 ghost use lib.ListN.{length};
+<<<<<<< crates/texts/src/lib.rt
 ghost use Rattle.theory.specs.Words.{laid-pairs};
 ghost use Rattle.pairfile.specs.Lines.{filled};
 ghost use Rattle.writing.specs.Putting.{Puts};
+=======
+ghost use Rattle.pairs.specs.Located.{ones-in};
+ghost use Rattle.lines.specs.Lines.{filled};
+ghost use Rattle.lines.specs.Putting.{Puts};
+>>>>>>> /tmp/ln/study/crates/texts/src/lib.rt
 ghost use Rattle.sheetfile.specs.Sheet.{member-form};
 ghost use Rattle.sheetfile.specs.Writer.{member-lines, number-lines, share-lines, four-digits};
 ghost use Rattle.sheetfile.specs.Audit.{audit};
@@ -20,8 +26,8 @@ ghost use Rattle.texts.specs.Contracts.{Prints, Of-file, Group-due, Shee
 use answer::Answer;
 use answer::sheet_file;
 use answer::solve_file;
-use writing::write_line;
-use writing::write_number;
+use lines::write_line;
+use lines::write_number;
 
 // The status line of a refusal.
 fn write_refusal(number: u32, out: &mut [u8]) -> usize

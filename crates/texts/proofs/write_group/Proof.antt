@@ -1,6 +1,6 @@
 -- `write_group` meets its contract: the head, then the members. Assumes nothing.
 use native.Mathlib.Omega.{arith}
-use Rattle.pairfile.specs.Text.{text}
+use Rattle.lines.specs.Text.{text}
 use Rattle.sheetfile.specs.Sheet.{head-form}
 use Rattle.texts.specs.Contracts.{answer-lines}
 use lib.ListN.{length-append}
@@ -18,10 +18,7 @@ write-line-requires : tie.Need-write-line-requires
 unfolding answer-lines head-form text
 write-line-requires c κs =
     let start = c .before .before .before .before .before in
-    let s = start .pre .0 in (
-      and-small _ (s .p) (and-small _ (s .q) (and-small _ (s .k) (and-small _ (s .coresize) no-more))) .each,
-      omega (arith, simp length-append at (start .pre .1)),
-    )
+    omega (arith, simp length-append at (start .pre .1))
 
 write-members-requires : tie.Need-write-members-requires
 unfolding head-form text

@@ -2,11 +2,11 @@
 use Prim.Native.Nat.{_-_}
 use native.Mathlib.Omega.{arith}
 use lib.ListN.{length, drop, length-append}
-use Rattle.pairfile.specs.Text.{text}
+use Rattle.lines.specs.Text.{text}
 use Rattle.sheetfile.specs.Sheet.{number-form}
 use Rattle.sheetfile.specs.Writer.{number-lines}
 use Rattle.texts.proofs.Lengths.{no-more, and-small, small-at}
-use Rattle.writing.proofs.Parts.{Left, left-start, left-step, left-done}
+use Rattle.lines.proofs.Parts.{Left, left-start, left-step, left-done}
 use Rattle.texts.proofs.Lines.{next-number, no-number}
 use borrow.Author.Needs.{needs}
 use Rattle.texts.proofs.write_numbers.Statement.{statement}
@@ -29,10 +29,8 @@ unfolding number-form text
 write-line-requires c κs =
     let l = c .before .before .before .before in
     let start = l .before .before .before .before in
-    let next = next-number (start .args .cores .now) (l .before .loop .v) (l .loop-test .taken) in (
-      and-small _ (small-at _ (start .pre .0) (l .before .loop .v)) no-more .each,
-      omega (arith, simp length-append at (rw next at (l .before .loop .inv .room))),
-    )
+    let next = next-number (start .args .cores .now) (l .before .loop .v) (l .loop-test .taken) in
+    omega (arith, simp length-append at (rw next at (l .before .loop .inv .room)))
 
 loop-again : tie.Need-loop-again Inv-loop μ-loop
 unfolding number-form text

@@ -2,10 +2,11 @@
 use mathlib.Core.Path.{refl}
 use mathlib.Core.Logic.{⊎-elim, inl, inr}
 use Rattle.theory.specs.Basics.{mark}
-use Rattle.pairfile.specs.Text.{text, between}
-use Rattle.pairfile.specs.Lines.{is-place, places}
+use Rattle.lines.specs.Text.{text, between}
+use Rattle.lines.specs.Lines.{is-place, places}
 use Rattle.sheetfile.specs.Sheet.{member-form}
 use Rattle.sheetfile.proofs.Judging.{member-none, member-unfit, member-fit}
+use native.Mathlib.Omega.{arith}
 use borrow.Author.Needs.{needs}
 use borrow.Author.Tests.{leb-true, leb-false}
 use Rattle.sheetfile.proofs.sheet.member_line.Statement.{statement}
@@ -13,7 +14,7 @@ use Rattle.sheetfile.proofs.sheet.member_line.Tie as tie
 
 count-at-requires : tie.Need-count-at-requires
 unfolding places is-place between mark
-count-at-requires c κs = (c .before .before .pre, refl)
+count-at-requires c κs = (c .before .before .pre, (omega arith, refl))
 
 returns : tie.Need-returns
 unfolding member-form text

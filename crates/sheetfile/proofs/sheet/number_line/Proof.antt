@@ -1,17 +1,18 @@
 -- `number_line` meets its contract. Assumes nothing.
 use mathlib.Core.Path.{refl}
 use Rattle.theory.specs.Basics.{mark}
-use Rattle.pairfile.specs.Text.{text, between}
-use Rattle.pairfile.specs.Lines.{is-place, places}
+use Rattle.lines.specs.Text.{text, between}
+use Rattle.lines.specs.Lines.{is-place, places}
 use Rattle.sheetfile.specs.Sheet.{number-form}
 use Rattle.sheetfile.proofs.Judging.{number-none, number-unfit, number-fit}
+use native.Mathlib.Omega.{arith}
 use borrow.Author.Needs.{needs}
 use Rattle.sheetfile.proofs.sheet.number_line.Statement.{statement}
 use Rattle.sheetfile.proofs.sheet.number_line.Tie as tie
 
 count-at-requires : tie.Need-count-at-requires
 unfolding places is-place between mark
-count-at-requires c κs = (c .before .before .pre, refl)
+count-at-requires c κs = (c .before .before .pre, (omega arith, refl))
 
 returns : tie.Need-returns
 unfolding number-form text

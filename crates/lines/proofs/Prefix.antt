@@ -1,0 +1,157 @@
+-- A line is decided by the first bytes: what lies behind the longest line of its form changes nothing.
+--   span                    the most bytes that a line of a form can have
+--   LineCut, line-cut       a line in the first bytes
+--   judged, judged-cut      a line, its causes, and what is done with it
+-- Assumes nothing.
+use mathlib.Core.Path.{_≡_, refl, sym, ap, _∙_}
+use mathlib.Core.Bool.{true, false, cond}
+use mathlib.Core.List.{List, [], _∷_}
+use mathlib.Core.Option.{Option, none, some}
+use Prim.Native.Nat.{ℕ, zero, suc, _+_, _-_, _≤_}
+use native.Mathlib.Nat.{zero-add, suc-add}
+use native.Mathlib.Omega.{arith}
+use borrow.Author.Tests.{leb-true, leb-false, not-true}
+use lib.Dec.{leb, eqb}
+use lib.ListN.{length, take, drop}
+use lib.Seq.{take-all, take-nil, length-take-le}
+use Rattle.theory.proofs.Tests.{tests, fails, implied, by-test}
+use Rattle.theory.specs.Refusals.{Cause, refusal}
+use Rattle.lines.specs.Numbers.{is-digit, digits, is-number, value, Number, number-of}
+use Rattle.lines.specs.Lines.{is-place, Line, with-numbers, after-number, after-byte, line-of}
+use Rattle.lines.specs.Outcomes.{Outcome, taken, _>>=_, _>>_, passed, judge, line-or, line-due}
+use Rattle.lines.proofs.Spelling.{some-same, none-not-some}
+use Rattle.lines.proofs.Fills.{starts-plain, parted}
+
+digits-take : (w : ℕ) (bs : List ℕ) → digits (take w bs) ≡ take w (digits bs)
+unfolding digits
+digits-take zero bs = refl
+digits-take (suc w) [] = refl
+digits-take (suc w) (c ∷ cs) = by-test (is-digit c) (λ t. rw t (ap (λ (l : List ℕ). c ∷ l) (digits-take w cs))) (λ t. rw t)
+
+drop-take : (k v : ℕ) (bs : List ℕ) → drop k (take (k + v) bs) ≡ take v (drop k bs)
+drop-take zero v bs = rw zero-add
+drop-take (suc k) v [] = rw (take-nil (suc k + v), take-nil v)
+drop-take (suc k) v (b ∷ bs) = rw suc-add (drop-take k v bs)
+
+-- digits that end within the first bytes are all there
+digits-there : (w : ℕ) (bs : List ℕ) → length (digits bs) ≤ w → digits (take w bs) ≡ digits bs
+digits-there w bs h = digits-take w bs ∙ take-all w (digits bs) h
+
+-- what is no number is none in the first bytes, of which there are more than d
+number-take-none : (d w : ℕ) (bs : List ℕ) → suc d ≤ w → number-of d bs ≡ none → number-of d (take w bs) ≡ none
+unfolding number-of is-number
+number-take-none d w bs h e =
+    by-test (is-number d (digits bs)) (λ t. absurd (none-not-some (sym (rw t at e))))
+    (λ t. by-test (leb (length (digits bs)) w)
+    (λ l. rw (digits-there w bs (leb-true (length (digits bs)) w l), t))
+    (λ l.
+    let m : w ≤ length (digits bs) = omega (arith, leb-false (length (digits bs)) w l) in
+    let s : length (digits (take w bs)) ≡ w = ap length (digits-take w bs) ∙ length-take-le w (digits bs) m in
+    rw (fails (is-number d (digits (take w bs))) (λ k. omega (arith, (simp tests at k) .0, s)))))
+
+-- and what is one is the same there; it takes up to d of them
+number-take-some : (d w : ℕ) (bs : List ℕ) → suc d ≤ w → (x : Number) → number-of d bs ≡ some x →
+    (v : ℕ) × (w ≤ v + d) × (number-of d (take w bs) ≡ some (record { value = x .value; rest = take v (x .rest) }))
+unfolding number-of is-number
+number-take-some d w bs h x e =
+    by-test (is-number d (digits bs))
+    (λ t.
+    let s = some-same (rw t at e) in
+    let k = length (digits bs) in
+    let l : k ≤ d = (simp tests at t) .0 .1 in
+    let j : k + (w - k) ≡ w = omega arith in
+    let c : drop k (take w bs) ≡ take (w - k) (drop k bs) = ap (λ (u : ℕ). drop k (take u bs)) (sym j) ∙ drop-take k (w - k) bs in
+    rw (← s) (w - k, omega arith, rw (digits-there w bs (omega arith), t, c)))
+    (λ t. absurd (none-not-some (rw t at e)))
+
+-- the most bytes that a line of a form can have: d for a number
+unfoldable pub span : (d : ℕ) → List ℕ → ℕ
+span d [] = 0
+span d (c ∷ cs) = cond (is-place c) d 1 + span d cs
+
+span-plain : (d : ℕ) (cs : List ℕ) → starts-plain cs ≡ true → 1 ≤ span d cs
+unfolding span starts-plain
+span-plain d [] h = absurd (let z : _≡_ {A = ℕ} 0 1 = cc in omega arith)
+span-plain d (c ∷ cs) h = rw (not-true (is-place c) ((simp tests at h) .1)) (omega arith)
+
+-- in the first w bytes a line is missing as it is in all of them, or is the same and what follows is cut short
+pub data LineCut (d : ℕ) (form : List ℕ) (w : ℕ) (bs : List ℕ) : Type 0 where
+  neither : line-of d form bs ≡ none → line-of d form (take w bs) ≡ none → LineCut d form w bs
+  both : (l : Line) (v : ℕ) → line-of d form bs ≡ some l → line-of d form (take w bs) ≡ some (record { numbers = l .numbers; rest = take v (l .rest) }) →
+      w ≤ v + span d form → LineCut d form w bs
+
+module _ (d : ℕ) (c : ℕ) (cs : List ℕ) (ih : (w : ℕ) (bs : List ℕ) → span d cs ≤ w → LineCut d cs w bs) where
+  place-cut : (w : ℕ) (bs : List ℕ) → is-place c ≡ true → suc d ≤ w → d + span d cs ≤ w → LineCut d (c ∷ cs) w bs
+  unfolding line-of after-number with-numbers span
+  place-cut w bs t more h = of-number (number-of d bs) refl
+    where
+      of-line : (x : Number) (u : ℕ) → number-of d bs ≡ some x → w ≤ u + d →
+          number-of d (take w bs) ≡ some (record { value = x .value; rest = take u (x .rest) }) → LineCut d cs u (x .rest) → LineCut d (c ∷ cs) w bs
+      of-line x u g m n (neither p q) = neither (rw (t, g, p)) (rw (t, n, q))
+      of-line x u g m n (both l v p q r) =
+          both (record { numbers = x .value ∷ l .numbers; rest = l .rest }) v (rw (t, g, p)) (rw (t, n, q)) (rw t (omega arith))
+
+      of-number : (o : Option Number) → number-of d bs ≡ o → LineCut d (c ∷ cs) w bs
+      of-number none g = neither (rw (t, g)) (rw (t, number-take-none d w bs more g))
+      of-number (some x) g =
+          let n = number-take-some d w bs more x g in
+          of-line x (n .0) g (n .1) (n .2) (ih (n .0) (x .rest) (omega (arith, n .1)))
+
+  byte-cut : (w : ℕ) (bs : List ℕ) → is-place c ≡ false → 1 + span d cs ≤ w → LineCut d (c ∷ cs) w bs
+  unfolding line-of after-byte span
+  byte-cut zero bs t h = absurd (omega arith)
+  byte-cut (suc w) [] t h = neither (rw t) (rw t)
+  byte-cut (suc w) (b ∷ bs) t h =
+      by-test (eqb b c) (λ e. of-line e (ih w bs (omega arith))) (λ e. neither (rw (t, e)) (rw (t, e)))
+    where
+      of-line : eqb b c ≡ true → LineCut d cs w bs → LineCut d (c ∷ cs) (suc w) (b ∷ bs)
+      of-line e (neither p q) = neither (rw (t, e, p)) (rw (t, e, q))
+      of-line e (both l v p q r) = both l v (rw (t, e, p)) (rw (t, e, q)) (rw t (omega arith))
+
+pub line-cut : (d : ℕ) (form : List ℕ) (w : ℕ) (bs : List ℕ) → parted form ≡ true → span d form ≤ w → LineCut d form w bs
+unfolding parted span line-of
+line-cut d [] w bs p h = both (record { numbers = []; rest = bs }) w refl refl (omega arith)
+line-cut d (c ∷ cs) w bs p h =
+    let p′ = simp tests at p in
+    let ih : (u : ℕ) (ds : List ℕ) → span d cs ≤ u → LineCut d cs u ds = λ u ds m. line-cut d cs u ds (p′ .1) m in
+    by-test (is-place c)
+    (λ t.
+    let s = span-plain d cs (implied (is-place c) (starts-plain cs) (p′ .0) t) in
+    let k : d + span d cs ≤ w = rw t at h in
+    place-cut d c cs ih w bs t (omega arith) k)
+    (λ t. byte-cut d c cs ih w bs t (rw t at h))
+
+-- a line, its causes, and what is done with it: the same, if what is done with a line cut short is
+module _ {A B : Type 0} (number d : ℕ) (form : List ℕ) (cs : List ℕ → List Cause) (f : Line → A) (g : A → Outcome B) where
+  unfoldable pub judged : (bs : List ℕ) → Outcome B
+  judged bs = do
+    x ← (do
+      l ← line-due number d form bs
+      judge (cs (l .numbers))
+      taken (f l))
+    g x
+
+  pub judged-cut : (w : ℕ) (bs : List ℕ) → parted form ≡ true → span d form ≤ w →
+      ((l : Line) (v : ℕ) → refusal (cs (l .numbers)) ≡ 0 → w ≤ v + span d form →
+      g (f (record { numbers = l .numbers; rest = take v (l .rest) })) ≡ g (f l)) →
+      judged (take w bs) ≡ judged bs
+  unfolding judged line-due line-or judge passed _>>=_ _>>_
+  judged-cut w bs p h same = of-line (line-cut d form w bs p h)
+    where
+      of-causes : (l : Line) (v k : ℕ) → refusal (cs (l .numbers)) ≡ k → w ≤ v + span d form →
+          (do
+            x ← (do
+              passed k
+              taken (f (record { numbers = l .numbers; rest = take v (l .rest) })))
+            g x) ≡
+          (do
+            x ← (do
+              passed k
+              taken (f l))
+            g x)
+      of-causes l v zero e r = same l v e r
+      of-causes l v (suc k) e r = refl
+
+      of-line : LineCut d form w bs → judged (take w bs) ≡ judged bs
+      of-line (neither g e) = rw (g, e)
+      of-line (both l v g e r) = rw (g, e) (of-causes l v (refusal (cs (l .numbers))) refl r)
