@@ -73,7 +73,7 @@ line-filled d u w (c ∷ cs) (n ∷ ns) rest p l s =
 -- a line that is read was written so
 pub record LineSpelled (d : ℕ) (form bs : List ℕ) (l : Line) : Type 0 where
   pub written : bs ≡ filled form (l .numbers) ++ l .rest
-  pub count : length (l .numbers) ≡ places form
+  pub size : length (l .numbers) ≡ places form
   pub short : all (small d) (l .numbers) ≡ true
 
 module _ (d : ℕ) (few : d ≤ 10) (c : ℕ) (cs : List ℕ) (ih : (bs : List ℕ) (l : Line) → line-of d cs bs ≡ some l → LineSpelled d cs bs l) where
@@ -90,7 +90,7 @@ module _ (d : ℕ) (few : d ≤ 10) (c : ℕ) (cs : List ℕ) (ih : (bs : List �
           let q = number-of-spelled d bs x few g in
           rw (← s) (record {
             written = rw (t, append-assoc) (q .0 ∙ ap (λ (b : List ℕ). spelled (x .value) ++ b) (r .written));
-            count = rw t (omega (arith, r .count));
+            size = rw t (omega (arith, r .size));
             short = simp tests (q .1, r .short);
           })
 
@@ -107,7 +107,7 @@ module _ (d : ℕ) (few : d ≤ 10) (c : ℕ) (cs : List ℕ) (ih : (bs : List �
       let r = ih bs l (rw s at e) in
       record {
         written = rw (t, eqb-true b c s) (ap (λ (b : List ℕ). c ∷ b) (r .written));
-        count = rw t (omega (arith, r .count));
+        size = rw t (omega (arith, r .size));
         short = r .short;
       })
       (λ s. absurd (none-not-some (rw s at e)))
@@ -115,6 +115,6 @@ module _ (d : ℕ) (few : d ≤ 10) (c : ℕ) (cs : List ℕ) (ih : (bs : List �
 -- a line that is read was written so
 pub line-spelled : (d : ℕ) → d ≤ 10 → (form bs : List ℕ) (l : Line) → line-of d form bs ≡ some l → LineSpelled d form bs l
 unfolding line-of places filled all
-line-spelled d few [] bs l e = rw (← some-same e) (record { written = refl; count = refl; short = refl })
+line-spelled d few [] bs l e = rw (← some-same e) (record { written = refl; size = refl; short = refl })
 line-spelled d few (c ∷ cs) bs l e =
     by-test (is-place c) (λ t. place-spelled d few c cs (line-spelled d few cs) bs l t (rw t at e)) (λ t. byte-spelled d few c cs (line-spelled d few cs) bs l t (rw t at e))

@@ -52,27 +52,31 @@ module _ {B : Type 0} (number d : ℕ) (form bs : List ℕ) (cs : Line → List 
       of-line (some l) g h = of-causes l g (refusal (cs l)) refl h
 
 -- a refusal number passes a test
-abbrev pub Given : {A : Type 0} → (ℕ → Bool) → Outcome A → Type 0
-Given ok o = (k : ℕ) → o ≡ refused k → ok k ≡ true
+pub record Given {A : Type 0} (ok : ℕ → Bool) (o : Outcome A) : Type 0 where
+  pub by : (k : ℕ) → o ≡ refused k → ok k ≡ true
 
-module _ (ok : ℕ → Bool) where
+-- the first cause that is met
+given-refusal : (ok : ℕ → Bool) (cs : List Cause) → all (λ c. ok (c .number)) cs ≡ true → (k : ℕ) → refusal cs ≡ suc k → ok (suc k) ≡ true
+unfolding refusal all
+given-refusal ok [] e k h = absurd (omega arith)
+given-refusal ok (c ∷ cs) e k h =
+    let e′ = simp tests at e in
+    by-test (c .met) (λ t. let d : c .number ≡ suc k = rw t at h in rw d at (e′ .0)) (λ t. given-refusal ok cs (e′ .1) k (rw t at h))
+
+module _ {ok : ℕ → Bool} where
   -- what is taken has no number
   pub given-taken : {A : Type 0} (a : A) → Given ok (taken a)
-  given-taken a k e = absurd (refused-not-taken (sym e))
+  given-taken a = record { by = λ k e. absurd (refused-not-taken (sym e)) }
+
+  -- a number
+  given-refused : {A : Type 0} (j : ℕ) → ok j ≡ true → Given {A = A} ok (refused j)
+  given-refused j h = record { by = λ k e. let d : j ≡ k = cc in rw d at h }
 
   -- one step after another
   pub given-bind : {A B : Type 0} (o : Outcome A) (f : A → Outcome B) → Given ok o → ((a : A) → Given ok (f a)) → Given ok (_>>=_ o f)
   unfolding _>>=_
-  given-bind (refused j) f h n k e = let d : j ≡ k = cc in rw d at (h j refl)
-  given-bind (taken a) f h n k e = n a k e
-
-  -- the first cause that is met
-  given-refusal : (cs : List Cause) → all (λ c. ok (c .number)) cs ≡ true → (k : ℕ) → refusal cs ≡ suc k → ok (suc k) ≡ true
-  unfolding refusal all
-  given-refusal [] e k h = absurd (omega arith)
-  given-refusal (c ∷ cs) e k h =
-      let e′ = simp tests at e in
-      by-test (c .met) (λ t. let d : c .number ≡ suc k = rw t at h in rw d at (e′ .0)) (λ t. given-refusal cs (e′ .1) k (rw t at h))
+  given-bind (refused j) f h n = given-refused j (h .by j refl)
+  given-bind (taken a) f h n = n a
 
   -- causes
   pub given-judge : {B : Type 0} (cs : List Cause) (o : Outcome B) → all (λ c. ok (c .number)) cs ≡ true → Given ok o → Given ok (do judge cs; o)
@@ -80,8 +84,8 @@ module _ (ok : ℕ → Bool) where
   given-judge cs o h n = go (refusal cs) refl
     where
       go : (j : ℕ) → refusal cs ≡ j → Given ok (_>>_ (passed j) o)
-      go zero d k e = n k e
-      go (suc j) d k e = let s : suc j ≡ k = cc in rw s at (given-refusal cs h j d)
+      go zero d = n
+      go (suc j) d = given-refused (suc j) (given-refusal ok cs h j d)
 
   -- a line of its form
   pub given-line : (number d : ℕ) (form bs : List ℕ) → ok number ≡ true → Given ok (line-due number d form bs)
@@ -89,5 +93,5 @@ module _ (ok : ℕ → Bool) where
   given-line number d form bs h = go (line-of d form bs)
     where
       go : (o : Option Line) → Given ok (line-or number o)
-      go none k e = let s : number ≡ k = cc in rw s at h
-      go (some l) k e = absurd (refused-not-taken (sym e))
+      go none = given-refused number h
+      go (some l) = given-taken l

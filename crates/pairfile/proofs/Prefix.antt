@@ -7,33 +7,19 @@ use mathlib.Core.Path.{_≡_, refl}
 use mathlib.Core.List.{List, [], _∷_}
 use Prim.Native.Nat.{ℕ, zero, suc, _+_, _*_, _≤_}
 use native.Mathlib.Omega.{arith}
-<<<<<<< crates/pairfile/proofs/Prefix.antt
-use borrow.Author.Tests.{lt-ltb, leb-true, leb-false}
-use lib.Dec.{leb, eqb}
-use lib.ListN.{length, getD, take, drop}
-use lib.Seq.{take-all, take-nil, length-take-le}
-use Rattle.theory.proofs.Tests.{tests, fails, implied, by-test}
-=======
 use borrow.Author.Tests.{lt-ltb}
 use lib.ListN.{length, getD, take}
->>>>>>> /tmp/ln/study/crates/pairfile/proofs/Prefix.antt
 use Rattle.theory.specs.Lists.{Pair}
 use Rattle.pairs.specs.Held.{insert-pair, smaller-first-pair}
-<<<<<<< crates/pairfile/proofs/Prefix.antt
-use Rattle.pairfile.specs.Text.{text, between}
-use Rattle.pairfile.specs.Numbers.{is-digit, digits, is-number, value, Number, number-of}
-use Rattle.pairfile.specs.Lines.{
-=======
 use Rattle.lines.specs.Text.{text, between}
 use Rattle.lines.specs.Numbers.{is-digit}
 use Rattle.lines.specs.Lines.{is-place, first, second}
 use Rattle.lines.specs.Outcomes.{taken, _>>=_, _>>_, judge}
 use Rattle.pairfile.specs.File.{
->>>>>>> /tmp/ln/study/crates/pairfile/proofs/Prefix.antt
   modules-form,
   pairs-form,
   pair-form,
-  count-line,
+  head-line,
   modules-causes,
   modules-line,
   pairs-causes,
@@ -67,7 +53,7 @@ pairs-cut n (suc left) w held bs h =
 
 -- a file is decided by its first 65,536 bytes
 pub read-cut : (room w : ℕ) (bs : List ℕ) → 65536 ≤ w → read-file room (take w bs) ≡ read-file room bs
-unfolding read-file modules-line pairs-line count-line first judged modules-form pairs-form text parted starts-plain span is-place is-digit between
+unfolding read-file modules-line pairs-line head-line first judged modules-form pairs-form text parted starts-plain span is-place is-digit between
 read-cut room w bs h =
     judged-cut 1 4 modules-form (λ ns. modules-causes (getD ns 0 0)) (λ l. l)
     (λ l. do

@@ -1,51 +1,64 @@
--- What follows where a line or a file is not refused.
---   refused-not-taken, taken-same    an outcome is one thing
---   bind-taken                       both steps have been taken
---   LinePassed, line-passed          a line has its form, and none of its causes is met
---   Numbered                         a refusal number is not 0
---   taken-numbered, bind-numbered, judge-numbered, count-numbered, pair-numbered    so it is, step by step
---   count-taken                      the number of the first or second line
---   modules-unmet, pairs-unmet       N and M are in their ranges
---   PairTaken, pair-taken            a pair line
+-- What follows where a line is not refused, and by which numbers it is.
+--   is-file-number, number-range the refusal numbers of a pair file: none is 0, and none is above 11
+--   head-given, pair-given       those of its lines
+--   head-taken                   the number of the first or second line
+--   PairTaken, pair-taken        a pair line
+--   modules-unmet, pairs-unmet   N and M are in their ranges
 -- Assumes nothing.
 use mathlib.Core.Path.{_≡_, refl, sym, ap, _∙_}
-use mathlib.Core.Bool.{false}
+use mathlib.Core.Bool.{Bool, true, false, _||_}
+use mathlib.Core.Logic.{⊎-elim}
 use mathlib.Core.List.{List, [], _∷_, _++_}
 use mathlib.Core.Option.{some}
 use Prim.Native.Nat.{ℕ, zero, suc, _≤_}
 use native.Mathlib.Omega.{arith}
 use borrow.Author.Tests.{ltb-false}
 use lib.Dec.{ltb}
+use Rattle.theory.specs.Basics.{all}
 use Rattle.theory.specs.Lists.{Pair}
 use Rattle.theory.specs.Refusals.{Cause, cause, refusal}
-use Rattle.theory.proofs.Tests.{tests, by-test}
+use Rattle.theory.proofs.Tests.{tests, or-cases, by-test}
 use Rattle.pairs.specs.Held.{is-held, smaller-first-pair}
 use Rattle.pairs.specs.Causes.{pair-causes}
 use Rattle.pairs.proofs.Causes.{refusal-first, pair-then}
 use Rattle.lines.specs.Text.{between}
 use Rattle.lines.specs.Lines.{Line, first, second, line-of}
 use Rattle.lines.specs.Outcomes.{taken, line-due}
-use Rattle.pairfile.specs.File.{pair-form, count-line, modules-causes, pairs-causes, pair-line-causes, Named, pair-line}
-use Rattle.lines.proofs.Taken.{Numbered, bind-numbered, judge-numbered, line-numbered, line-passed, taken-numbered, taken-same}
+use Rattle.pairfile.specs.File.{pair-form, head-line, modules-causes, pairs-causes, pair-line-causes, Named, pair-line}
+use Rattle.lines.proofs.Taken.{taken-same, line-passed, Given, given-taken, given-bind, given-judge, given-line}
+
+-- the refusal numbers of a pair file: 1 to 6, 10 and 11
+unfoldable pub is-file-number : ℕ → Bool
+is-file-number k = between 1 6 k || between 10 11 k
+
+-- none is 0, and none is above 11
+pub number-range : (k : ℕ) → is-file-number k ≡ true → (1 ≤ k) × (k ≤ 11)
+unfolding is-file-number between
+number-range k e =
+    ⊎-elim (λ t. let t′ = simp tests at t in (t′ .0, omega arith)) (λ t. let t′ = simp tests at t in (omega arith, t′ .1))
+    (or-cases (between 1 6 k) (between 10 11 k) e)
 
 -- the first line and the second
-pub count-numbered : (form bs : List ℕ) (causes : ℕ → List Cause) → Numbered (count-line form causes bs)
-unfolding count-line
-count-numbered form bs causes =
-    bind-numbered (line-due 1 4 form bs) _ (line-numbered 1 4 form bs (λ z. omega arith)) (λ l. judge-numbered (causes (first l)) (taken l) (taken-numbered l))
+pub head-given : (form bs : List ℕ) (causes : ℕ → List Cause) → ((n : ℕ) → all (λ c. is-file-number (c .number)) (causes n) ≡ true) →
+    Given is-file-number (head-line form causes bs)
+unfolding head-line is-file-number between
+head-given form bs causes h =
+    given-bind (line-due 1 4 form bs) _ (given-line 1 4 form bs refl)
+    (λ l. given-judge (causes (first l)) (taken l) (h (first l)) (given-taken l))
 
 -- a pair line
-pub pair-numbered : (n : ℕ) (held : List Pair) (bs : List ℕ) → Numbered (pair-line n held bs)
-unfolding pair-line
-pair-numbered n held bs =
-    bind-numbered (line-due 1 4 pair-form bs) _ (line-numbered 1 4 pair-form bs (λ z. omega arith))
-    (λ l. judge-numbered (pair-line-causes n held (first l) (second l)) _ (taken-numbered _))
+pub pair-given : (n : ℕ) (held : List Pair) (bs : List ℕ) → Given is-file-number (pair-line n held bs)
+unfolding pair-line is-file-number between
+pair-given n held bs =
+    given-bind (line-due 1 4 pair-form bs) _ (given-line 1 4 pair-form bs refl)
+    (λ l. given-judge (pair-line-causes n held (first l) (second l)) _
+    (unfold pair-line-causes pair-causes cause all is-file-number between in refl) (given-taken _))
 
 -- the first line or the second: its form and its number
-pub count-taken : (form bs : List ℕ) (causes : ℕ → List Cause) (l : Line) → count-line form causes bs ≡ taken l →
+pub head-taken : (form bs : List ℕ) (causes : ℕ → List Cause) (l : Line) → head-line form causes bs ≡ taken l →
     (line-of 4 form bs ≡ some l) × (refusal (causes (first l)) ≡ 0)
-unfolding count-line
-count-taken form bs causes l e =
+unfolding head-line
+head-taken form bs causes l e =
     let p = line-passed 1 4 form bs (λ k. causes (first k)) taken l e in
     let s = taken-same (p .then) in
     (p .found ∙ ap some s, ap (λ (k : Line). refusal (causes (first k))) (sym s) ∙ p .unmet)

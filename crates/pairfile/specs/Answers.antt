@@ -1,61 +1,43 @@
 -- What the functions' answers say, in the terms of the other definitions. A position in the bytes stands for the bytes from there on.
---   count-in, count-end      N or M, and where its line ends
---   CountRead                what modules_line and pairs_line promise
+--   head-in, head-end      N or M, and where its line ends
+--   HeadRead                what modules_line and pairs_line promise
 --   named-in, named-end, PlaceKnown    the pair that a line names, where the line ends, and the pair's place
 --   PairLineRead             what pair_line promises
 --   Same-past                the words past the first pairs of a list are as they were
 --   pairs-or, PairsRead      what read_pairs promises
-<<<<<<< crates/pairfile/specs/Answers.antt
---   reading-of, pairs-of, pairs-used   what read_words hands back
---   FileRead                 what read_words promises
--- Assumes nothing: these are definitions.
-use mathlib.Core.Path.{_≡_}
-use mathlib.Core.List.{List, [], _∷_}
-use mathlib.Core.Option.{Option, none, some}
-use Prim.Native.Nat.{ℕ, zero, suc, _+_, _*_, _≤_, _<_}
-use lib.ListN.{length, getD, take, drop}
-=======
---   reading-of, pairs-of, words-used   what read_words hands back
+--   reading-of, pairs-of, pairs-used   what a reader of words hands back
 --   WordsRead, FileRead      what a reader of words promises, and what read_words does
 -- Assumes nothing: these are definitions.
 use mathlib.Core.Path.{_≡_}
 use mathlib.Core.List.{List, [], _∷_}
-use Prim.Native.Nat.{ℕ, zero, suc, _*_, _≤_}
-use lib.ListN.{length, drop}
->>>>>>> /tmp/ln/study/crates/pairfile/specs/Answers.antt
+use Prim.Native.Nat.{ℕ, zero, suc, _+_, _*_, _≤_, _<_}
+use lib.ListN.{length, getD, drop}
 use Rattle.theory.specs.Lists.{Pair, Pairs, pair}
 use Rattle.theory.specs.Words.{laid-pairs}
 use Rattle.pairs.specs.Held.{place-of}
-<<<<<<< crates/pairfile/specs/Answers.antt
-use Rattle.pairfile.specs.Numbers.{Number, number-of}
-use Rattle.pairfile.specs.Lines.{Line, places, line-of}
-use Rattle.pairfile.specs.Outcomes.{Outcome, refused, taken}
-=======
-use Rattle.pairs.specs.Located.{ones-in}
 use Rattle.lines.specs.Lines.{Line}
 use Rattle.lines.specs.Outcomes.{Outcome, refused, taken}
->>>>>>> /tmp/ln/study/crates/pairfile/specs/Answers.antt
 use Rattle.pairfile.specs.File.{Named, pair-line, read-pairs, read-file}
-use Rattle.pairfile.specs.declared.CountLine.{CountLine}
-use Rattle.pairfile.specs.declared.CountLine.the-variants.{Refused as count-refused, Count as count}
+use Rattle.pairfile.specs.declared.HeadLine.{HeadLine}
+use Rattle.pairfile.specs.declared.HeadLine.the-variants.{Refused as head-refused, Number as head}
 use Rattle.pairfile.specs.declared.PairLine.{PairLine}
 use Rattle.pairfile.specs.declared.PairLine.the-variants.{Refused as line-refused, Named as named}
 use Rattle.pairfile.specs.declared.Reading.{Reading}
 
 -- the line with N or M on it, or the refusal number
-unfoldable pub count-in : (bytes : List ℕ) → CountLine → Outcome Line
-count-in bs (count-refused k) = refused k
-count-in bs (count v i) = taken (record { numbers = v ∷ []; rest = drop i bs })
+unfoldable pub head-in : (bytes : List ℕ) → HeadLine → Outcome Line
+head-in bs (head-refused k) = refused k
+head-in bs (head v i) = taken (record { numbers = v ∷ []; rest = drop i bs })
 
 -- where it ends
-unfoldable pub count-end : CountLine → ℕ
-count-end (count-refused k) = 0
-count-end (count v i) = i
+unfoldable pub head-end : HeadLine → ℕ
+head-end (head-refused k) = 0
+head-end (head v i) = i
 
 -- MODULES_LINE and PAIRS_LINE: the line that is due
-pub record CountRead (bytes : List ℕ) (due : Outcome Line) (r : CountLine) : Type 0 where
-  pub found : due ≡ count-in bytes r
-  pub within : count-end r ≤ length bytes
+pub record HeadRead (bytes : List ℕ) (due : Outcome Line) (r : HeadLine) : Type 0 where
+  pub found : due ≡ head-in bytes r
+  pub within : head-end r ≤ length bytes
 
 -- the pair named and the bytes after its line, or the refusal number
 unfoldable pub named-in : (bytes : List ℕ) → PairLine → Outcome Named
@@ -108,20 +90,12 @@ unfoldable pub pairs-used : Outcome Pairs → ℕ
 pairs-used (refused k) = 4096
 pairs-used (taken g) = length (g .pairs)
 
-<<<<<<< crates/pairfile/specs/Answers.antt
--- READ_WORDS: number, N, M and every pair of a file; the words past those used are as they were. After a refusal the words used are free
-pub record FileRead (room : ℕ) (bytes words words′ : List ℕ) (r : Reading) : Type 0 where
-  pub reading : r ≡ reading-of (read-file room bytes)
-  pub pairs : laid-pairs (r .m) words′ ≡ pairs-of (read-file room bytes)
-  pub past : Same-past (pairs-used (read-file room bytes)) words words′
-=======
 -- number, N, M and every pair of an outcome; the words past those used are as they were. After a refusal the words used are free
-pub record WordsRead (due : Outcome Pairs) (ends ends′ : List ℕ) (r : Reading) : Type 0 where
+pub record WordsRead (due : Outcome Pairs) (words words′ : List ℕ) (r : Reading) : Type 0 where
   pub reading : r ≡ reading-of due
-  pub pairs : ones-in (r .m) ends′ ≡ pairs-of due
-  pub past : drop (words-used due) ends′ ≡ drop (words-used due) ends
+  pub pairs : laid-pairs (r .m) words′ ≡ pairs-of due
+  pub past : Same-past (pairs-used due) words words′
 
 -- READ_WORDS: those of a pair file
-abbrev pub FileRead : (room : ℕ) → (bytes ends ends′ : List ℕ) → Reading → Type 0
-FileRead room bytes ends ends′ r = WordsRead (read-file room bytes) ends ends′ r
->>>>>>> /tmp/ln/study/crates/pairfile/specs/Answers.antt
+abbrev pub FileRead : (room : ℕ) → (bytes words words′ : List ℕ) → Reading → Type 0
+FileRead room bytes words words′ r = WordsRead (read-file room bytes) words words′ r
