@@ -1,7 +1,8 @@
 -- A line is decided by the first bytes: what lies behind the longest line of its form changes nothing.
 --   span                    the most bytes that a line of a form can have
 --   LineCut, line-cut       a line in the first bytes
---   judged, judged-cut      a line, its causes, and what is done with it
+--   Alike, alike-then, alike-same    the first bytes give what all of them give, and what follows does
+--   trim-line, line-alike, judged-alike    the line that is due, and its causes
 -- Assumes nothing.
 use mathlib.Core.Path.{_≡_, refl, sym, ap, _∙_}
 use mathlib.Core.Bool.{true, false, cond}
@@ -18,7 +19,7 @@ use Rattle.theory.proofs.Tests.{tests, fails, implied, by-test}
 use Rattle.theory.specs.Refusals.{Cause, refusal}
 use Rattle.lines.specs.Numbers.{is-digit, digits, is-number, value, Number, number-of}
 use Rattle.lines.specs.Lines.{is-place, Line, with-numbers, after-number, after-byte, line-of}
-use Rattle.lines.specs.Outcomes.{Outcome, taken, _>>=_, _>>_, passed, judge, line-or, line-due}
+use Rattle.lines.specs.Outcomes.{Outcome, refused, taken, _>>=_, _>>_, passed, judge, line-or, line-due}
 use Rattle.lines.proofs.Spelling.{some-same, none-not-some}
 use Rattle.lines.proofs.Fills.{starts-plain, parted}
 
@@ -121,37 +122,62 @@ line-cut d (c ∷ cs) w bs p h =
     place-cut d c cs ih w bs t (omega arith) k)
     (λ t. byte-cut d c cs ih w bs t (rw t at h))
 
--- a line, its causes, and what is done with it: the same, if what is done with a line cut short is
-module _ {A B : Type 0} (number d : ℕ) (form : List ℕ) (cs : List ℕ → List Cause) (f : Line → A) (g : A → Outcome B) where
-  unfoldable pub judged : (bs : List ℕ) → Outcome B
-  judged bs = do
-    x ← (do
-      l ← line-due number d form bs
-      judge (cs (l .numbers))
-      taken (f l))
-    g x
+-- ---- refused alike, or taken alike
 
-  pub judged-cut : (w : ℕ) (bs : List ℕ) → parted form ≡ true → span d form ≤ w →
-      ((l : Line) (v : ℕ) → refusal (cs (l .numbers)) ≡ 0 → w ≤ v + span d form →
-      g (f (record { numbers = l .numbers; rest = take v (l .rest) })) ≡ g (f l)) →
-      judged (take w bs) ≡ judged bs
-  unfolding judged line-due line-or judge passed _>>=_ _>>_
-  judged-cut w bs p h same = of-line (line-cut d form w bs p h)
+-- what w bytes give and what all of them give, where at most j are read: a refusal by the same number, or the same thing with the bytes after it
+-- trimmed
+pub data Alike {A : Type 0} (trim : ℕ → A → A) (w j : ℕ) (o o′ : Outcome A) : Type 0 where
+  refused-alike : (k : ℕ) → o ≡ refused k → o′ ≡ refused k → Alike trim w j o o′
+  taken-alike : (a : A) (v : ℕ) → o ≡ taken (trim v a) → o′ ≡ taken a → w ≤ v + j → Alike trim w j o o′
+
+-- then go on with what was taken: at most k more
+pub alike-then : {A B : Type 0} {trim : ℕ → A → A} {trim′ : ℕ → B → B} {w i j : ℕ} {o o′ : Outcome A} (k : ℕ) (f : A → Outcome B) → i + k ≤ j →
+    Alike trim w i o o′ → ((a : A) (v : ℕ) → w ≤ v + i → Alike trim′ v k (f (trim v a)) (f a)) → Alike trim′ w j (_>>=_ o f) (_>>=_ o′ f)
+unfolding _>>=_
+alike-then k f le (refused-alike m p q) next = refused-alike m (rw p) (rw q)
+alike-then {trim = trim} {trim′} {w} {i} {j} {o} {o′} k f le (taken-alike a v p q h) next = go (next a v h)
+  where
+    go : Alike trim′ v k (f (trim v a)) (f a) → Alike trim′ w j (_>>=_ o f) (_>>=_ o′ f)
+    go (refused-alike m r s) = refused-alike m (rw p r) (rw q s)
+    go (taken-alike b u r s m) = taken-alike b u (rw p r) (rw q s) (omega arith)
+
+-- or with what is the same however far the bytes are trimmed
+pub alike-same : {A B : Type 0} {trim : ℕ → A → A} {w i : ℕ} {o o′ : Outcome A} (f : A → Outcome B) →
+    Alike trim w i o o′ → ((a : A) (v : ℕ) → o′ ≡ taken a → w ≤ v + i → f (trim v a) ≡ f a) → _>>=_ o f ≡ _>>=_ o′ f
+unfolding _>>=_
+alike-same f (refused-alike m p q) same = rw (p, q)
+alike-same f (taken-alike a v p q h) same = rw (p, q) (same a v q h)
+
+-- a line with the bytes after it trimmed
+abbrev pub trim-line : ℕ → Line → Line
+trim-line v l = record { numbers = l .numbers; rest = take v (l .rest) }
+
+module _ (number d : ℕ) (form : List ℕ) (w : ℕ) (bs : List ℕ) (p : parted form ≡ true) (h : span d form ≤ w) where
+  -- the line that is due
+  pub line-alike : Alike trim-line w (span d form) (line-due number d form (take w bs)) (line-due number d form bs)
+  unfolding line-due line-or
+  line-alike = go (line-cut d form w bs p h)
     where
-      of-causes : (l : Line) (v k : ℕ) → refusal (cs (l .numbers)) ≡ k → w ≤ v + span d form →
-          (do
-            x ← (do
-              passed k
-              taken (f (record { numbers = l .numbers; rest = take v (l .rest) })))
-            g x) ≡
-          (do
-            x ← (do
-              passed k
-              taken (f l))
-            g x)
-      of-causes l v zero e r = same l v e r
-      of-causes l v (suc k) e r = refl
+      go : LineCut d form w bs → Alike trim-line w (span d form) (line-or number (line-of d form (take w bs))) (line-or number (line-of d form bs))
+      go (neither e f) = refused-alike number (rw f) (rw e)
+      go (both l v e f r) = taken-alike l v (rw f) (rw e) r
 
-      of-line : LineCut d form w bs → judged (take w bs) ≡ judged bs
-      of-line (neither g e) = rw (g, e)
-      of-line (both l v g e r) = rw (g, e) (of-causes l v (refusal (cs (l .numbers))) refl r)
+  -- and judged, by causes that do not go by the bytes after it
+  pub judged-alike : {A : Type 0} (trim : ℕ → A → A) (cs : Line → List Cause) (f : Line → A) → ((l : Line) (v : ℕ) → cs (trim-line v l) ≡ cs l) →
+      ((l : Line) (v : ℕ) → f (trim-line v l) ≡ trim v (f l)) →
+      Alike trim w (span d form)
+      (do
+        l ← line-due number d form (take w bs)
+        judge (cs l)
+        taken (f l))
+      (do
+        l ← line-due number d form bs
+        judge (cs l)
+        taken (f l))
+  unfolding judge passed _>>_
+  judged-alike {A} trim cs f same-causes same =
+      alike-then 0 _ (omega arith) line-alike (λ l v m. rw (same-causes l v, same l v) (go (f l) v (refusal (cs l))))
+    where
+      go : (x : A) (v k : ℕ) → Alike trim v 0 (_>>_ (passed k) (taken (trim v x))) (_>>_ (passed k) (taken x))
+      go x v zero = taken-alike x v refl refl (omega arith)
+      go x v (suc k) = refused-alike (suc k) refl refl

@@ -8,9 +8,9 @@ use mathlib.Core.List.{List, [], _∷_}
 use Prim.Native.Nat.{ℕ, zero, suc, _+_, _*_, _≤_}
 use native.Mathlib.Omega.{arith}
 use borrow.Author.Tests.{lt-ltb}
-use lib.ListN.{length, getD, take}
+use lib.ListN.{length, take}
 use Rattle.theory.specs.Lists.{Pair}
-use Rattle.pairs.specs.Held.{insert-pair, smaller-first-pair}
+use Rattle.pairs.specs.Held.{insert-pair}
 use Rattle.lines.specs.Text.{text, between}
 use Rattle.lines.specs.Numbers.{is-digit}
 use Rattle.lines.specs.Lines.{is-place, first, second}
@@ -20,19 +20,17 @@ use Rattle.pairfile.specs.File.{
   pairs-form,
   pair-form,
   head-line,
-  modules-causes,
   modules-line,
   pairs-causes,
   pairs-line,
-  pair-line-causes,
   pair-line,
   end-causes,
   read-pairs,
   read-file,
 }
-use Rattle.pairfile.proofs.Taken.{pairs-unmet}
+use Rattle.pairfile.proofs.Taken.{head-taken, pairs-unmet}
 use Rattle.lines.proofs.Fills.{starts-plain, parted}
-use Rattle.lines.proofs.Prefix.{judged, judged-cut, span}
+use Rattle.lines.proofs.Prefix.{span, alike-same, trim-line, judged-alike}
 
 -- the end of the first bytes is the end of the file, or none
 end-cut : (w : ℕ) (held : List Pair) (bs : List ℕ) → 1 ≤ w →
@@ -42,28 +40,21 @@ end-cut zero held bs h = absurd (omega arith)
 end-cut (suc w) held [] h = refl
 end-cut (suc w) held (b ∷ bs) h = rw (lt-ltb 0 (suc (length (take w bs))) (omega arith), lt-ltb 0 (suc (length bs)) (omega arith))
 
+-- a pair line has at most 15 bytes
 pub pairs-cut : (n left w : ℕ) (held : List Pair) (bs : List ℕ) → 15 * left + 1 ≤ w → read-pairs n left held (take w bs) ≡ read-pairs n left held bs
-unfolding read-pairs pair-line first second judged pair-form text parted starts-plain span is-place is-digit between
+unfolding read-pairs pair-line first second pair-form text parted starts-plain span is-place is-digit between
 pairs-cut n zero w held bs h = end-cut w held bs (omega arith)
 pairs-cut n (suc left) w held bs h =
-    judged-cut 1 4 pair-form (λ ns. pair-line-causes n held (getD ns 0 0) (getD ns 1 0))
-    (λ l. record { pair = smaller-first-pair (first l) (second l); rest = l .rest })
-    (λ x. read-pairs n left (insert-pair (x .pair) held) (x .rest)) w bs refl (omega arith)
-    (λ l v e r. pairs-cut n left v (insert-pair (smaller-first-pair (first l) (second l)) held) (l .rest) (omega arith))
+    alike-same _
+    (judged-alike 1 4 pair-form w bs refl (omega arith) (λ v x. record { pair = x .pair; rest = take v (x .rest) }) _ _ (λ l v. refl) (λ l v. refl))
+    (λ x v e r. pairs-cut n left v (insert-pair (x .pair) held) (x .rest) (omega arith))
 
 -- a file is decided by its first 65,536 bytes
 pub read-cut : (room w : ℕ) (bs : List ℕ) → 65536 ≤ w → read-file room (take w bs) ≡ read-file room bs
-unfolding read-file modules-line pairs-line head-line first judged modules-form pairs-form text parted starts-plain span is-place is-digit between
+unfolding read-file modules-line pairs-line head-line first modules-form pairs-form text parted starts-plain span is-place is-digit between
 read-cut room w bs h =
-    judged-cut 1 4 modules-form (λ ns. modules-causes (getD ns 0 0)) (λ l. l)
-    (λ l. do
-      k ← pairs-line room (l .rest)
-      ps ← read-pairs (first l) (first k) [] (k .rest)
-      taken (record { n = first l; pairs = ps })) w bs refl (omega arith)
-    (λ l v e r.
-    judged-cut 1 4 pairs-form (λ ns. pairs-causes room (getD ns 0 0)) (λ k. k)
-    (λ k. do
-      ps ← read-pairs (first l) (first k) [] (k .rest)
-      taken (record { n = first l; pairs = ps })) v (l .rest) refl (omega arith)
+    alike-same _ (judged-alike 1 4 modules-form w bs refl (omega arith) trim-line _ _ (λ l v. refl) (λ l v. refl))
+    (λ l v e r. alike-same _ (judged-alike 1 4 pairs-form v (l .rest) refl (omega arith) trim-line _ _ (λ k u. refl) (λ k u. refl))
     (λ k u d s.
-    rw (pairs-cut (first l) (first k) u [] (k .rest) (omega (arith, pairs-unmet room (first k) d)))))
+    let few = pairs-unmet room (first k) (head-taken pairs-form (l .rest) (pairs-causes room) k d .1) in
+    rw (pairs-cut (first l) (first k) u [] (k .rest) (omega (arith, few)))))

@@ -29,22 +29,11 @@ use Rattle.theory.proofs.Refusals.{refusal-none, refusal-passed}
 use Rattle.theory.proofs.Lists.{listed}
 use Rattle.theory.proofs.Words.{cut-list, holds-few}
 use Rattle.pairs.proofs.Causes.{refusal-first}
-<<<<<<< crates/sheetfile/proofs/Auditing.antt
-use Rattle.pairfile.specs.Outcomes.{taken, _>>=_, _>>_, passed, judge}
-use Rattle.pairfile.specs.Answers.{FileRead}
-use Rattle.pairfile.specs.declared.Reading.{Reading}
-use Rattle.pairfile.proofs.Judged.{judge-refused}
-use Rattle.pairfile.proofs.Readings.{reading-taken, reading-holds, reading-refused}
-=======
-use Rattle.pairs.proofs.Weights.{length-ones, ones-at, pairs-ones}
-use Rattle.theory.proofs.Lists.{Listed, listed}
 use Rattle.lines.specs.Outcomes.{taken, _>>=_, _>>_, passed, judge}
+use Rattle.lines.proofs.Found.{judge-refused}
 use Rattle.pairfile.specs.Answers.{FileRead}
 use Rattle.pairfile.specs.declared.Reading.{Reading}
-use Rattle.lines.proofs.Found.{judge-refused}
-use Rattle.pairfile.proofs.Accepts.{accepted as file-accepted}
-use Rattle.pairfile.proofs.Readings.{reading-taken, reading-refused}
->>>>>>> /tmp/ln/study/crates/sheetfile/proofs/Auditing.antt
+use Rattle.pairfile.proofs.Readings.{file-sound, reading-taken, reading-holds, reading-refused}
 use Rattle.verify.specs.Answers.{refused-by, Check-says}
 use Rattle.verify.specs.declared.Verdict.{Verdict}
 use Rattle.sheetfile.specs.Sheet.{Sheet, read-sheet}
@@ -231,29 +220,16 @@ take-zeros (suc n) (suc k) h = ap (λ (xs : List ℕ). 0 ∷ xs) (take-zeros n k
 module _ (file sheet : List ℕ) {old words : List ℕ} {r : Reading} (f : FileRead 4096 file old words r) where
   pub file-refused : (r .number ≡ 0 → ⊥) → refused-by (r .number) ≡ verdict-of (audit file sheet)
   unfolding audit _>>=_ verdict-of
-  file-refused n = rw (reading-refused 4096 file f n)
+  file-refused n = rw (reading-refused f n)
 
   module _ (z : r .number ≡ 0) where
     -- the list in the words, and arrays to work in
     pub list-ready : 12288 ≤ length words →
         Holds-list (r .n) (r .m) words × Audit-buffers (r .n) (r .m) (replicate 512 0) (replicate 512 0) (replicate 4096 0)
     list-ready long =
-<<<<<<< crates/sheetfile/proofs/Auditing.antt
-        let held : Holds-list (r .n) (r .m) words = reading-holds f z long in
+        let held : Holds-list (r .n) (r .m) words = reading-holds f (file-sound 4096 file) z long in
         let few = holds-few (r .n) (r .m) words (held .listed) in (
           held,
-=======
-        let good : is-list (list-of (r .n) (r .m) ends) ≡ true = file-accepted 4096 file _ (reading-taken 4096 file f z) .list in
-        let l : Listed (list-of (r .n) (r .m) ends) = listed (list-of (r .n) (r .m) ends) good in
-        let few : r .m ≤ 4096 = omega (arith, l .short, length-ones (r .m) ends) in
-        let n-few : r .n ≤ 512 = l .few in (
-          record {
-            held = good;
-            long = omega (arith, few);
-            weights-long = omega (arith, few, length-replicate {A = ℕ} 4096 1);
-            once = λ j h. ones-at 4096 j (omega (arith, few));
-          },
->>>>>>> /tmp/ln/study/crates/sheetfile/proofs/Auditing.antt
           record {
             cores-long = omega (arith, few .0, length-replicate {A = ℕ} 512 0);
             members-long = omega (arith, few .0, length-replicate {A = ℕ} 512 0);
@@ -262,12 +238,6 @@ module _ (file sheet : List ℕ) {old words : List ℕ} {r : Reading} (f : FileR
           },
         )
 
-<<<<<<< crates/sheetfile/proofs/Auditing.antt
     pub list-audited : {v : Verdict} → v ≡ verdict-of (audit-sheet (laid-list (r .n) (r .m) words) sheet) → v ≡ verdict-of (audit file sheet)
     unfolding audit _>>=_
-    list-audited e = rw (reading-taken f z) e
-=======
-    pub list-audited : {v : Verdict} → v ≡ verdict-of (audit-sheet (list-of (r .n) (r .m) ends) sheet) → v ≡ verdict-of (audit file sheet)
-    unfolding audit _>>=_ list-of
-    list-audited e = rw (reading-taken 4096 file f z) e
->>>>>>> /tmp/ln/study/crates/sheetfile/proofs/Auditing.antt
+    list-audited e = rw (reading-taken f (file-sound 4096 file) z) e

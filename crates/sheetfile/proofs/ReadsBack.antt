@@ -27,7 +27,7 @@ use Rattle.theory.proofs.Groups.{Bits, group-bits}
 use Rattle.lines.specs.Text.{text, between}
 use Rattle.lines.specs.Numbers.{is-digit}
 use Rattle.lines.specs.Lines.{is-place, places, first, second, line-of, filled}
-use Rattle.lines.specs.Outcomes.{taken, _>>=_, _>>_, passed, judge}
+use Rattle.lines.specs.Outcomes.{taken, _>>=_, _>>_, passed, judge, line-or, line-due}
 use Rattle.pairfile.proofs.Accepts.{accepted}
 use Rattle.lines.proofs.Found.{judge-passed}
 use Rattle.lines.proofs.Fills.{small, starts-plain, parted, line-filled}
@@ -38,7 +38,6 @@ use Rattle.sheetfile.specs.Sheet.{
   share-form,
   third,
   fourth,
-  due,
   member-line,
   read-members,
   number-line,
@@ -146,7 +145,7 @@ shares-back n few (p ∷ ps) acc (x ∷ xs) e r h =
 -- ---- the whole
 
 pub sheet-back : Sheet-back
-unfolding Sheet-back sheet-file read-sheet read-body due judge passed refusal cause ratio-causes rest-causes between
+unfolding Sheet-back sheet-file read-sheet read-body line-due line-or judge passed refusal cause ratio-causes rest-causes between
     _>>=_ _>>_ sheet first second third fourth is-group
 sheet-back g s l w =
     let k : Listed g = listed g l in

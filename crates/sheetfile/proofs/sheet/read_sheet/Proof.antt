@@ -2,16 +2,10 @@
 use mathlib.Core.Logic.{⊎-elim, inl, inr}
 use native.Mathlib.Omega.{arith}
 use Rattle.theory.specs.Basics.{mark}
-<<<<<<< crates/sheetfile/proofs/sheet/read_sheet/Proof.antt
 use Rattle.theory.specs.Words.{laid-list}
-use Rattle.pairfile.specs.Text.{text, between}
-use Rattle.pairfile.specs.Lines.{is-place, places}
-use Rattle.pairfile.proofs.Judged.{LineHas, line-has}
-=======
 use Rattle.lines.specs.Text.{text, between}
 use Rattle.lines.specs.Lines.{is-place, places}
 use Rattle.lines.proofs.Found.{LineHas, line-has}
->>>>>>> /tmp/ln/study/crates/sheetfile/proofs/read_sheet/Proof.antt
 use Rattle.sheetfile.specs.Sheet.{head-form}
 use Rattle.sheetfile.proofs.Bodies.{head-none, head-small, head-unfit, head-read}
 use borrow.Author.Needs.{needs}
