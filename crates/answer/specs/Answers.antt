@@ -14,13 +14,8 @@ use Rattle.theory.specs.Groups.{size, inside, Found}
 use Rattle.theory.specs.Cores.{core}
 use Rattle.theory.specs.Splits.{rounded-up}
 use Rattle.theory.specs.Ratio.{float-ratio}
-<<<<<<< crates/answer/specs/Answers.antt
 use Rattle.theory.specs.Words.{laid-pairs}
-use Rattle.pairfile.specs.Outcomes.{refused, taken}
-=======
-use Rattle.pairs.specs.Located.{ones-in}
 use Rattle.lines.specs.Outcomes.{refused, taken}
->>>>>>> /tmp/ln/study/crates/answer/specs/Answers.antt
 use Rattle.pairfile.specs.File.{read-file}
 use Rattle.pairfile.specs.Answers.{Same-past}
 use Rattle.kandurzo.specs.declared.Solved.{Solved}

@@ -12,14 +12,8 @@ use Prim.Native.Nat.{ℕ}
 use lib.ListN.{length, drop}
 use Rattle.theory.specs.Lists as Lists
 use Rattle.theory.specs.Lists.{Pairs}
-<<<<<<< crates/kandurzo/specs/Reading.antt
 use Rattle.theory.specs.Words.{laid-pairs}
-use Rattle.pairfile.specs.Outcomes.{Outcome, refused}
-=======
-use Rattle.pairs.specs.Located.{ones-in}
 use Rattle.lines.specs.Outcomes.{Outcome, refused}
-use Rattle.pairfile.specs.File.{read-file}
->>>>>>> /tmp/ln/study/crates/kandurzo/specs/Reading.antt
 use Rattle.pairfile.specs.Answers.{reading-of, pairs-of}
 use Rattle.records.specs.declared.Pair.{Pair}
 use Rattle.records.specs.declared.Head.{Head}

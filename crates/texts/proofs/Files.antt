@@ -8,7 +8,7 @@
 -- Assumes nothing.
 use mathlib.Core.Path.{_≡_, refl, sym, ap, _∙_}
 use mathlib.Core.Bool.{true}
-use mathlib.Core.List.{List, [], _∷_, append-assoc}
+use mathlib.Core.List.{List, append-assoc}
 use Prim.Native.Nat.{ℕ, _≤_}
 use native.Mathlib.Omega.{arith}
 use lib.ListN.{length, take, length-append, length-take}
@@ -26,25 +26,14 @@ use Rattle.theory.proofs.Words.{length-laid}
 use Rattle.theory.proofs.Duality.{optimal}
 use Rattle.theory.proofs.Promises.{split-there}
 use Rattle.pairs.proofs.General.{all-weaker}
-<<<<<<< crates/texts/proofs/Files.antt
-use Rattle.pairfile.specs.Outcomes.{Outcome, refused, taken}
-=======
-use Rattle.pairs.proofs.Weights.{length-ones}
 use Rattle.lines.specs.Outcomes.{Outcome, refused, taken}
->>>>>>> /tmp/ln/study/crates/texts/proofs/Files.antt
 use Rattle.pairfile.specs.File.{read-file}
 use Rattle.pairfile.proofs.Accepts.{accepted}
 use Rattle.pairfile.proofs.Readings.{file-numbered}
 use Rattle.kandurzo.specs.Buffers.{in-front}
-<<<<<<< crates/texts/proofs/Files.antt
-use Rattle.writing.specs.Putting.{Puts}
-use Rattle.writing.proofs.Putting.{puts-length, puts-front}
-use Rattle.sheetfile.specs.Writer.{sheet-file, Writable, Accepts-back}
-=======
 use Rattle.lines.specs.Putting.{Puts}
 use Rattle.lines.proofs.Putting.{puts-length, puts-front}
-use Rattle.sheetfile.specs.Writer.{sheet-file, Written, Accepts-back}
->>>>>>> /tmp/ln/study/crates/texts/proofs/Files.antt
+use Rattle.sheetfile.specs.Writer.{sheet-file, Writable, Accepts-back}
 use Rattle.sheetfile.specs.Audit.{audit}
 use Rattle.sheetfile.proofs.BestSheets.{best-writable}
 use Rattle.sheetfile.proofs.ReadsBack.{accepts-back}
@@ -256,13 +245,8 @@ module _ {file members cores shares words : List ℕ} {r : Answer} {members′ c
           group-length (answers s) z,
           numbers-length (take (r .n) cores′) (sheet-spelled .numbers),
           cores-few,
-<<<<<<< crates/texts/proofs/Files.antt
-          shares-length ps xs,
-          length-laid (length xs) words′,
-=======
           shares-length ps xs (sheet-spelled .pairs .ends-few) (sheet-spelled .pairs .shares-short),
-          length-ones (length xs) ends′,
->>>>>>> /tmp/ln/study/crates/texts/proofs/Files.antt
+          length-laid (length xs) words′,
           shares-count (g .0) (g .1),
           pairs-few,
         ))

@@ -18,20 +18,11 @@ use Rattle.theory.specs.Words.{laid-pairs}
 use Rattle.theory.proofs.Tests.{tests}
 use Rattle.theory.proofs.Words.{length-laid, laid-at}
 use Rattle.pairs.proofs.General.{all-at}
-<<<<<<< crates/texts/proofs/Lengths.antt
-use Rattle.pairfile.specs.Text.{text, between}
-use Rattle.pairfile.specs.Lines.{is-place, places, filled}
-use Rattle.pairfile.proofs.Spelling.{spell-length}
-use Rattle.writing.proofs.Lengths.{filled-length}
-=======
-use Rattle.pairs.proofs.Weights.{length-ones}
-use Rattle.pairs.proofs.Words.{ones-pair}
 use Rattle.lines.specs.Text.{text, between}
 use Rattle.lines.specs.Numbers.{spelled}
 use Rattle.lines.specs.Lines.{is-place, places, filled}
 use Rattle.lines.proofs.Spelling.{spell-length}
 use Rattle.lines.proofs.Lengths.{filled-length}
->>>>>>> /tmp/ln/study/crates/texts/proofs/Lengths.antt
 use Rattle.sheetfile.specs.Sheet.{head-form, member-form, number-form, share-form}
 use Rattle.sheetfile.specs.Writer.{member-lines, number-lines, share-lines, four-digits}
 use Rattle.texts.specs.Texts.{refusal-text, accepted-form}

@@ -15,24 +15,13 @@ use lib.Dec.{eqb}
 use lib.ListN.{length, getD, drop, drop-of-length-le}
 use lib.Seq.{drop-cons}
 use Rattle.theory.specs.Lists.{Pair, pair}
-<<<<<<< crates/texts/proofs/Lines.antt
 use Rattle.theory.specs.Words.{laid-pairs}
 use Rattle.theory.proofs.Words.{length-laid, laid-at}
-use Rattle.pairfile.specs.Text.{text}
-use Rattle.pairfile.specs.Numbers.{spell}
-use Rattle.pairfile.specs.Lines.{filled}
-use Rattle.writing.specs.Putting.{Puts}
-use Rattle.writing.proofs.Parts.{Left, left-start, left-step}
-=======
-use Rattle.pairs.specs.Located.{ones-in}
-use Rattle.pairs.proofs.Weights.{length-ones}
-use Rattle.pairs.proofs.Words.{ones-pair}
 use Rattle.lines.specs.Text.{text}
 use Rattle.lines.specs.Numbers.{spelled}
 use Rattle.lines.specs.Lines.{filled}
 use Rattle.lines.specs.Putting.{Puts}
 use Rattle.lines.proofs.Parts.{Left, left-start, left-step}
->>>>>>> /tmp/ln/study/crates/texts/proofs/Lines.antt
 use Rattle.sheetfile.specs.Sheet.{head-form, member-form, number-form, share-form}
 use Rattle.sheetfile.specs.Writer.{member-lines, number-lines, share-lines}
 use Rattle.answer.specs.declared.Answer.{Answer}

@@ -17,13 +17,8 @@ use Rattle.theory.specs.Lists.{Pairs, ends-in-range}
 use Rattle.theory.specs.Groups.{inside, size, Found}
 use Rattle.theory.specs.Splits.{core-order, outside-good}
 use Rattle.theory.specs.Promise.{Optimal}
-<<<<<<< crates/texts/specs/Contracts.antt
 use Rattle.theory.specs.Words.{laid-pairs}
-use Rattle.pairfile.specs.Outcomes.{refused, taken}
-=======
-use Rattle.pairs.specs.Located.{ones-in}
 use Rattle.lines.specs.Outcomes.{refused, taken}
->>>>>>> /tmp/ln/study/crates/texts/specs/Contracts.antt
 use Rattle.pairfile.specs.File.{read-file}
 use Rattle.lines.specs.Putting.{Puts}
 use Rattle.sheetfile.specs.Audit.{audit}

@@ -9,15 +9,9 @@ ghost use mathlib.Core.List.{[], _∷_};
 ghost use Prim.Native.Nat.{_+_, _≤_};
 ghost use lib.Dec.{eqb};
 ghost use lib.ListN.{length};
-<<<<<<< crates/texts/src/lib.rt
 ghost use Rattle.theory.specs.Words.{laid-pairs};
-ghost use Rattle.pairfile.specs.Lines.{filled};
-ghost use Rattle.writing.specs.Putting.{Puts};
-=======
-ghost use Rattle.pairs.specs.Located.{ones-in};
 ghost use Rattle.lines.specs.Lines.{filled};
 ghost use Rattle.lines.specs.Putting.{Puts};
->>>>>>> /tmp/ln/study/crates/texts/src/lib.rt
 ghost use Rattle.sheetfile.specs.Sheet.{member-form};
 ghost use Rattle.sheetfile.specs.Writer.{member-lines, number-lines, share-lines, four-digits};
 ghost use Rattle.sheetfile.specs.Audit.{audit};

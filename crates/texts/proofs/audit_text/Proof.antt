@@ -1,6 +1,5 @@
 -- `audit_text` meets its contract. Assumes nothing.
 use native.Mathlib.Omega.{arith}
-use mathlib.Core.List.{[], _∷_}
 use Rattle.lines.specs.Text.{text}
 use Rattle.texts.specs.Texts.{accepted-form}
 use Rattle.texts.proofs.Lengths.{no-more, and-small, refusal-length, accepted-length}

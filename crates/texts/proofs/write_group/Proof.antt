@@ -4,7 +4,6 @@ use Rattle.lines.specs.Text.{text}
 use Rattle.sheetfile.specs.Sheet.{head-form}
 use Rattle.texts.specs.Contracts.{answer-lines}
 use lib.ListN.{length-append}
-use Rattle.texts.proofs.Lengths.{no-more, and-small}
 use Rattle.texts.proofs.Lines.{members-left}
 use borrow.Author.Needs.{needs}
 use Rattle.texts.proofs.write_group.Statement.{statement}

@@ -5,7 +5,7 @@ use lib.ListN.{length, drop, length-append}
 use Rattle.lines.specs.Text.{text}
 use Rattle.sheetfile.specs.Sheet.{number-form}
 use Rattle.sheetfile.specs.Writer.{number-lines}
-use Rattle.texts.proofs.Lengths.{no-more, and-small, small-at}
+use Rattle.texts.proofs.Lengths.{small-at}
 use Rattle.lines.proofs.Parts.{Left, left-start, left-step, left-done}
 use Rattle.texts.proofs.Lines.{next-number, no-number}
 use borrow.Author.Needs.{needs}

@@ -2,13 +2,8 @@
 use Prim.Native.Nat.{_-_}
 use native.Mathlib.Omega.{arith}
 use lib.ListN.{length, drop, length-append}
-<<<<<<< crates/texts/proofs/write_shares/Proof.antt
 use Rattle.theory.specs.Words.{laid-pairs}
-use Rattle.pairfile.specs.Text.{text}
-=======
-use Rattle.pairs.specs.Located.{ones-in}
 use Rattle.lines.specs.Text.{text}
->>>>>>> /tmp/ln/study/crates/texts/proofs/write_shares/Proof.antt
 use Rattle.sheetfile.specs.Sheet.{share-form}
 use Rattle.sheetfile.specs.Writer.{share-lines}
 use Rattle.texts.proofs.Lengths.{small-at}
@@ -38,16 +33,8 @@ unfolding share-form text
 write-line-requires c κs =
     let l = c .before .before .before .before .before .before in
     let start = l .before .before .before .before .before in
-<<<<<<< crates/texts/proofs/write_shares/Proof.antt
-    let small = ends-small (start .pre .0) _ (l .loop-test .taken) in
-    let next = next-share (start .args .words .now) (start .args .shares .now) (l .before .loop .j) (l .loop-test .taken) in (
-      and-small _ (small .0) (and-small _ (small .1) (and-small _ (small-at _ (start .pre .0 .shares-digits) (l .before .loop .j)) no-more)) .each,
-      omega (arith, simp length-append at (rw next at (l .before .loop .inv .room))),
-    )
-=======
-    let next = next-share (start .args .ends .now) (start .args .shares .now) (l .before .loop .j) (l .loop-test .taken) in
+    let next = next-share (start .args .words .now) (start .args .shares .now) (l .before .loop .j) (l .loop-test .taken) in
     omega (arith, simp length-append at (rw next at (l .before .loop .inv .room)))
->>>>>>> /tmp/ln/study/crates/texts/proofs/write_shares/Proof.antt
 
 loop-again : tie.Need-loop-again Inv-loop μ-loop
 unfolding share-form text
