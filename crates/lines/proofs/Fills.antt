@@ -117,4 +117,5 @@ pub line-spelled : (d : ℕ) → d ≤ 10 → (form bs : List ℕ) (l : Line) �
 unfolding line-of places filled all
 line-spelled d few [] bs l e = rw (← some-same e) (record { written = refl; size = refl; short = refl })
 line-spelled d few (c ∷ cs) bs l e =
-    by-test (is-place c) (λ t. place-spelled d few c cs (line-spelled d few cs) bs l t (rw t at e)) (λ t. byte-spelled d few c cs (line-spelled d few cs) bs l t (rw t at e))
+    let ih = line-spelled d few cs in
+    by-test (is-place c) (λ t. place-spelled d few c cs ih bs l t (rw t at e)) (λ t. byte-spelled d few c cs ih bs l t (rw t at e))

@@ -4,7 +4,7 @@
 --   line-in, line-end        the line that has been found, and where it ends
 --   LineFound                what line_at promises
 --   one-number-in            the line with one number that has been found
---   OneNumberFound               what one_number_at promises
+--   OneNumberFound           what one_number_at promises
 -- Assumes nothing: these are definitions.
 use mathlib.Core.Path.{_≡_}
 use mathlib.Core.List.{List, [], _∷_}

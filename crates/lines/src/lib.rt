@@ -1,11 +1,12 @@
-// Lines of text, read and written by their forms: in a form a capital letter stands for a number, any other byte for itself.
+// Lines of text, read and written by their forms (document 01, "The pair file"): in a form a capital letter stands for a number, any other byte
+// for itself. What `line_at` reads, `write_line` writes.
 //
 // A line is read once and written once, from front to back, at the cost of its bytes. The digits of a number that is written are those of a tenth of
 // it and one more, so `write_number` runs once for each digit, at most ten times, each run called by the one before. How many digits a number that is
 // read may have is the caller's to say: four in pair files, nine at most.
 use numbers::between;
 ghost use mathlib.Core.Path.{_≡_};
-ghost use Prim.Native.Nat.{ℕ, _+_, _≤_};
+ghost use Prim.Native.Nat.{_+_, _≤_};
 ghost use lib.ListN.{length, getD};
 ghost use Rattle.lines.specs.Numbers.{spelled};
 ghost use Rattle.lines.specs.Lines.{places, filled};

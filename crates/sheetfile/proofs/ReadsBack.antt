@@ -71,12 +71,15 @@ module _ (rest : List ℕ) where
   share-read : (a b u : ℕ) → a ≤ 9999 → b ≤ 9999 → u ≤ 9999 →
       line-of 4 share-form (filled share-form (a ∷ b ∷ u ∷ []) ++ rest) ≡ some (record { numbers = a ∷ b ∷ u ∷ []; rest = rest })
   unfolding share-form text parted starts-plain is-digit is-place between places mark all small
-  share-read a b u l m n = line-filled 4 (omega arith) (omega arith) share-form (a ∷ b ∷ u ∷ []) rest refl refl (simp tests (omega arith, (omega arith, (omega arith, refl))))
+  share-read a b u l m n =
+      line-filled 4 (omega arith) (omega arith) share-form (a ∷ b ∷ u ∷ []) rest refl refl (simp tests (omega arith, (omega arith, (omega arith, refl))))
 
   head-read : (p q k c : ℕ) → p ≤ 9999 → q ≤ 9999 → k ≤ 9999 → c ≤ 9999 →
       line-of 4 head-form (filled head-form (p ∷ q ∷ k ∷ c ∷ []) ++ rest) ≡ some (record { numbers = p ∷ q ∷ k ∷ c ∷ []; rest = rest })
   unfolding head-form text parted starts-plain is-digit is-place between places mark all small
-  head-read p q k c l m n o = line-filled 4 (omega arith) (omega arith) head-form (p ∷ q ∷ k ∷ c ∷ []) rest refl refl (simp tests (omega arith, (omega arith, (omega arith, (omega arith, refl)))))
+  head-read p q k c l m n o =
+      line-filled 4 (omega arith) (omega arith) head-form (p ∷ q ∷ k ∷ c ∷ []) rest refl refl
+      (simp tests (omega arith, (omega arith, (omega arith, (omega arith, refl)))))
 
 -- ---- the parts
 

@@ -52,20 +52,11 @@ module _ (t : ℕ) where
       let l = c .before .before .before .before in
       omega (arith, simp length-append at (ap length (more l)), l .before .before .pre .1, w .ensures .end, w .kept .1 .0)
 
-  cast-out : lts.Need-cast-out (below t, reads.Post) (given t) reads.Post
-  cast-out c = omega arith
-
-  add-out : lts.Need-add-out (below t, reads.Post) (given t) reads.Post
-  add-out c = omega arith
-
   slice-write-out : lts.Need-slice-write-out (below t, reads.Post) (given t) reads.Post
   slice-write-out c = only-room c
 
   add-result : lts.Need-add-result (below t, reads.Post) (given t) reads.Post
   add-result c = omega (arith, only-room c)
-
-  same-length : lts.Need-same-length (below t, reads.Post) (given t) reads.Post
-  same-length c = search needs
 
   returns : lts.Need-returns (below t, reads.Post) (given t) reads.Post
   returns c = rw (spelled-one (c .before .before .args .value) (c .if1 .taken)) (puts-one _ _ _ (only-room c))
@@ -76,12 +67,6 @@ module _ (t : ℕ) where
         omega (arith, s .pre .0, c .before .if1 .left),
         omega (arith, simp length-append at (ap length (more (c .before))), s .pre .1),
       )
-
-  cast-out-2 : lts.Need-cast-out-2 (below t, reads.Post) (given t) reads.Post
-  cast-out-2 c = omega arith
-
-  add-out-2 : lts.Need-add-out-2 (below t, reads.Post) (given t) reads.Post
-  add-out-2 c = omega arith
 
   slice-write-out-2 : lts.Need-slice-write-out-2 (below t, reads.Post) (given t) reads.Post
   slice-write-out-2 c = last-room c
@@ -99,5 +84,6 @@ module _ (t : ℕ) where
 
 pub +write-number-spec : {M : Type 1} → statement M
 +write-number-spec =
-    close μ λ t. lts.spec (below t, reads.Post) (given t) reads.Post (cast-out t) (add-out t) (slice-write-out t) (add-result t) (same-length t)
-    (returns t) (requires t) (cast-out-2 t) (add-out-2 t) (slice-write-out-2 t) (add-result-2 t) (same-length-2 t) (returns-2 t)
+    close μ λ t. lts.spec (below t, reads.Post) (given t) reads.Post (λ c. omega arith) (λ c. omega arith) (slice-write-out t) (add-result t)
+    (λ c. search needs) (returns t) (requires t) (λ c. omega arith) (λ c. omega arith) (slice-write-out-2 t) (add-result-2 t) (same-length-2 t)
+    (returns-2 t)

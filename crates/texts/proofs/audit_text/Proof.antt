@@ -25,7 +25,11 @@ unfolding accepted-form text
 write-line-requires c κs =
     let a = c .before .before .before .before .before in
     let small = ratio-small (a .audit .ensures) (c .before .before .before .if1 .left) in
-    omega (arith, accepted-length (and-small (a .audit .result .p) (small .0) (and-small (a .audit .result .q) (small .1) no-more)), a .before .before .before .before .pre)
+    omega (
+      arith,
+      accepted-length (and-small (a .audit .result .p) (small .0) (and-small (a .audit .result .q) (small .1) no-more)),
+      a .before .before .before .before .pre,
+    )
 
 returns-2 : tie.Need-returns-2
 unfolding accepted-form text

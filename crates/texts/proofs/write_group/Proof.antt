@@ -24,7 +24,7 @@ unfolding head-form text
 write-members-requires c κs =
     let w = c .before .before .before in
     let start = begin w in
-    (start .pre .0 .few, members-left (start .args .found) _ (start .pre .1) (w .write-line .ensures) .room)
+    (start .pre .0, members-left (start .args .found) _ (start .pre .1) (w .write-line .ensures) .room)
 
 returns : tie.Need-returns
 unfolding head-form text

@@ -5,7 +5,6 @@ use lib.ListN.{length, drop, length-append}
 use Rattle.lines.specs.Text.{text}
 use Rattle.sheetfile.specs.Sheet.{number-form}
 use Rattle.sheetfile.specs.Writer.{number-lines}
-use Rattle.texts.proofs.Lengths.{small-at}
 use Rattle.lines.proofs.Parts.{Left, left-start, left-step, left-done}
 use Rattle.texts.proofs.Lines.{next-number, no-number}
 use borrow.Author.Needs.{needs}
@@ -19,10 +18,10 @@ abbrev μ-loop : tie.MeasureT-loop
 μ-loop cores out₀ at i₀ v₀ t7 out i v = length cores - v
 
 loop-holds : tie.Need-loop-holds Inv-loop μ-loop
-loop-holds c = left-start _ _ _ (c .before .before .pre .1)
+loop-holds c = left-start _ _ _ (c .before .before .pre)
 
 cast-t12 : tie.Need-cast-t12 Inv-loop μ-loop
-cast-t12 c = omega (arith, small-at _ (c .before .before .before .before .before .pre .0) (c .before .before .loop .v))
+cast-t12 c = omega (arith, c .shared-slice-known .given (c .before .before .loop .v))
 
 write-line-requires : tie.Need-write-line-requires Inv-loop μ-loop
 unfolding number-form text

@@ -6,7 +6,6 @@ use Rattle.theory.specs.Words.{laid-pairs}
 use Rattle.lines.specs.Text.{text}
 use Rattle.sheetfile.specs.Sheet.{share-form}
 use Rattle.sheetfile.specs.Writer.{share-lines}
-use Rattle.texts.proofs.Lengths.{small-at}
 use Rattle.lines.proofs.Parts.{Left, left-start, left-step, left-done}
 use Rattle.texts.proofs.Lines.{next-share, no-share}
 use borrow.Author.Needs.{needs}
@@ -26,7 +25,7 @@ loop-holds c = left-start _ _ _ (c .before .before .before .pre .1)
 cast-t22 : tie.Need-cast-t22 Inv-loop μ-loop
 cast-t22 c =
     let l = c .before .before .before .before in
-    omega (arith, small-at _ (l .before .before .before .before .pre .0 .shares-digits) (l .loop .j))
+    omega (arith, c .shared-slice-known3 .given (l .loop .j))
 
 write-line-requires : tie.Need-write-line-requires Inv-loop μ-loop
 unfolding share-form text
