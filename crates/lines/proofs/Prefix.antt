@@ -1,6 +1,7 @@
 -- A line is decided by the first bytes: what lies behind the longest line of its form changes nothing.
 --   span                    the most bytes that a line of a form can have
---   LineCut, line-cut       a line in the first bytes
+--   LineTrimmed, line-trimmed       a line in the first bytes
+--   rest-alike              whether bytes follow
 --   Alike, alike-then, alike-same    the first bytes give what all of them give, and what follows does
 --   trim-line, line-alike, judged-alike    the line that is due, and its causes
 -- Assumes nothing.
@@ -11,8 +12,8 @@ use mathlib.Core.Option.{Option, none, some}
 use Prim.Native.Nat.{ℕ, zero, suc, _+_, _-_, _≤_}
 use native.Mathlib.Nat.{zero-add, suc-add}
 use native.Mathlib.Omega.{arith}
-use borrow.Author.Tests.{leb-true, leb-false, not-true}
-use lib.Dec.{leb, eqb}
+use borrow.Author.Tests.{leb-true, leb-false, lt-ltb, not-true}
+use lib.Dec.{leb, ltb, eqb}
 use lib.ListN.{length, take, drop}
 use lib.Seq.{take-all, take-nil, length-take-le}
 use Rattle.theory.proofs.Tests.{tests, fails, implied, by-test}
@@ -75,52 +76,58 @@ unfolding span starts-plain
 span-plain d [] h = absurd (let z : _≡_ {A = ℕ} 0 1 = cc in omega arith)
 span-plain d (c ∷ cs) h = rw (not-true (is-place c) ((simp tests at h) .1)) (omega arith)
 
--- in the first w bytes a line is missing as it is in all of them, or is the same and what follows is cut short
-pub data LineCut (d : ℕ) (form : List ℕ) (w : ℕ) (bs : List ℕ) : Type 0 where
-  neither : line-of d form bs ≡ none → line-of d form (take w bs) ≡ none → LineCut d form w bs
+-- in the first w bytes a line is missing as it is in all of them, or is the same and what follows is trimmed
+pub data LineTrimmed (d : ℕ) (form : List ℕ) (w : ℕ) (bs : List ℕ) : Type 0 where
+  neither : line-of d form bs ≡ none → line-of d form (take w bs) ≡ none → LineTrimmed d form w bs
   both : (l : Line) (v : ℕ) → line-of d form bs ≡ some l → line-of d form (take w bs) ≡ some (record { numbers = l .numbers; rest = take v (l .rest) }) →
-      w ≤ v + span d form → LineCut d form w bs
+      w ≤ v + span d form → LineTrimmed d form w bs
 
-module _ (d : ℕ) (c : ℕ) (cs : List ℕ) (ih : (w : ℕ) (bs : List ℕ) → span d cs ≤ w → LineCut d cs w bs) where
-  place-cut : (w : ℕ) (bs : List ℕ) → is-place c ≡ true → suc d ≤ w → d + span d cs ≤ w → LineCut d (c ∷ cs) w bs
+module _ (d : ℕ) (c : ℕ) (cs : List ℕ) (ih : (w : ℕ) (bs : List ℕ) → span d cs ≤ w → LineTrimmed d cs w bs) where
+  place-trimmed : (w : ℕ) (bs : List ℕ) → is-place c ≡ true → suc d ≤ w → d + span d cs ≤ w → LineTrimmed d (c ∷ cs) w bs
   unfolding line-of after-number with-numbers span
-  place-cut w bs t more h = of-number (number-of d bs) refl
+  place-trimmed w bs t more h = of-number (number-of d bs) refl
     where
       of-line : (x : Number) (u : ℕ) → number-of d bs ≡ some x → w ≤ u + d →
-          number-of d (take w bs) ≡ some (record { value = x .value; rest = take u (x .rest) }) → LineCut d cs u (x .rest) → LineCut d (c ∷ cs) w bs
+          number-of d (take w bs) ≡ some (record { value = x .value; rest = take u (x .rest) }) → LineTrimmed d cs u (x .rest) → LineTrimmed d (c ∷ cs) w bs
       of-line x u g m n (neither p q) = neither (rw (t, g, p)) (rw (t, n, q))
       of-line x u g m n (both l v p q r) =
           both (record { numbers = x .value ∷ l .numbers; rest = l .rest }) v (rw (t, g, p)) (rw (t, n, q)) (rw t (omega arith))
 
-      of-number : (o : Option Number) → number-of d bs ≡ o → LineCut d (c ∷ cs) w bs
+      of-number : (o : Option Number) → number-of d bs ≡ o → LineTrimmed d (c ∷ cs) w bs
       of-number none g = neither (rw (t, g)) (rw (t, number-take-none d w bs more g))
       of-number (some x) g =
           let n = number-take-some d w bs more x g in
           of-line x (n .0) g (n .1) (n .2) (ih (n .0) (x .rest) (omega (arith, n .1)))
 
-  byte-cut : (w : ℕ) (bs : List ℕ) → is-place c ≡ false → 1 + span d cs ≤ w → LineCut d (c ∷ cs) w bs
+  byte-trimmed : (w : ℕ) (bs : List ℕ) → is-place c ≡ false → 1 + span d cs ≤ w → LineTrimmed d (c ∷ cs) w bs
   unfolding line-of after-byte span
-  byte-cut zero bs t h = absurd (omega arith)
-  byte-cut (suc w) [] t h = neither (rw t) (rw t)
-  byte-cut (suc w) (b ∷ bs) t h =
+  byte-trimmed zero bs t h = absurd (omega arith)
+  byte-trimmed (suc w) [] t h = neither (rw t) (rw t)
+  byte-trimmed (suc w) (b ∷ bs) t h =
       by-test (eqb b c) (λ e. of-line e (ih w bs (omega arith))) (λ e. neither (rw (t, e)) (rw (t, e)))
     where
-      of-line : eqb b c ≡ true → LineCut d cs w bs → LineCut d (c ∷ cs) (suc w) (b ∷ bs)
+      of-line : eqb b c ≡ true → LineTrimmed d cs w bs → LineTrimmed d (c ∷ cs) (suc w) (b ∷ bs)
       of-line e (neither p q) = neither (rw (t, e, p)) (rw (t, e, q))
       of-line e (both l v p q r) = both l v (rw (t, e, p)) (rw (t, e, q)) (rw t (omega arith))
 
-pub line-cut : (d : ℕ) (form : List ℕ) (w : ℕ) (bs : List ℕ) → parted form ≡ true → span d form ≤ w → LineCut d form w bs
+pub line-trimmed : (d : ℕ) (form : List ℕ) (w : ℕ) (bs : List ℕ) → parted form ≡ true → span d form ≤ w → LineTrimmed d form w bs
 unfolding parted span line-of
-line-cut d [] w bs p h = both (record { numbers = []; rest = bs }) w refl refl (omega arith)
-line-cut d (c ∷ cs) w bs p h =
+line-trimmed d [] w bs p h = both (record { numbers = []; rest = bs }) w refl refl (omega arith)
+line-trimmed d (c ∷ cs) w bs p h =
     let p′ = simp tests at p in
-    let ih : (u : ℕ) (ds : List ℕ) → span d cs ≤ u → LineCut d cs u ds = λ u ds m. line-cut d cs u ds (p′ .1) m in
+    let ih : (u : ℕ) (ds : List ℕ) → span d cs ≤ u → LineTrimmed d cs u ds = λ u ds m. line-trimmed d cs u ds (p′ .1) m in
     by-test (is-place c)
     (λ t.
     let s = span-plain d cs (implied (is-place c) (starts-plain cs) (p′ .0) t) in
     let k : d + span d cs ≤ w = rw t at h in
-    place-cut d c cs ih w bs t (omega arith) k)
-    (λ t. byte-cut d c cs ih w bs t (rw t at h))
+    place-trimmed d c cs ih w bs t (omega arith) k)
+    (λ t. byte-trimmed d c cs ih w bs t (rw t at h))
+
+-- whether bytes follow, one byte shows
+pub rest-alike : (w : ℕ) (bs : List ℕ) → 1 ≤ w → ltb 0 (length (take w bs)) ≡ ltb 0 (length bs)
+rest-alike zero bs h = absurd (omega arith)
+rest-alike (suc w) [] h = refl
+rest-alike (suc w) (b ∷ bs) h = rw (lt-ltb 0 (suc (length (take w bs))) (omega arith), lt-ltb 0 (suc (length bs)) (omega arith))
 
 -- ---- refused alike, or taken alike
 
@@ -156,9 +163,9 @@ module _ (number d : ℕ) (form : List ℕ) (w : ℕ) (bs : List ℕ) (p : parte
   -- the line that is due
   pub line-alike : Alike trim-line w (span d form) (line-due number d form (take w bs)) (line-due number d form bs)
   unfolding line-due line-or
-  line-alike = go (line-cut d form w bs p h)
+  line-alike = go (line-trimmed d form w bs p h)
     where
-      go : LineCut d form w bs → Alike trim-line w (span d form) (line-or number (line-of d form (take w bs))) (line-or number (line-of d form bs))
+      go : LineTrimmed d form w bs → Alike trim-line w (span d form) (line-or number (line-of d form (take w bs))) (line-or number (line-of d form bs))
       go (neither e f) = refused-alike number (rw f) (rw e)
       go (both l v e f r) = taken-alike l v (rw f) (rw e) r
 

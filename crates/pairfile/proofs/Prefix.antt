@@ -1,20 +1,16 @@
 -- A file is decided by its first bytes: what lies behind the longest file that could be accepted changes nothing.
---   span                    the most bytes that a line of a form can have
---   LineCut, line-cut       a line in the first bytes
---   pairs-cut, read-cut     the pair lines, and the whole file
+--   read-trimmed    the whole file
 -- Assumes nothing.
 use mathlib.Core.Path.{_≡_, refl}
-use mathlib.Core.List.{List, [], _∷_}
+use mathlib.Core.List.{List, []}
 use Prim.Native.Nat.{ℕ, zero, suc, _+_, _*_, _≤_}
 use native.Mathlib.Omega.{arith}
-use borrow.Author.Tests.{lt-ltb}
-use lib.ListN.{length, take}
+use lib.ListN.{take}
 use Rattle.theory.specs.Lists.{Pair}
 use Rattle.pairs.specs.Held.{insert-pair}
 use Rattle.lines.specs.Text.{text, between}
 use Rattle.lines.specs.Numbers.{is-digit}
 use Rattle.lines.specs.Lines.{is-place, first, second}
-use Rattle.lines.specs.Outcomes.{taken, _>>=_, _>>_, judge}
 use Rattle.pairfile.specs.File.{
   modules-form,
   pairs-form,
@@ -30,31 +26,23 @@ use Rattle.pairfile.specs.File.{
 }
 use Rattle.pairfile.proofs.Taken.{head-taken, pairs-unmet}
 use Rattle.lines.proofs.Fills.{starts-plain, parted}
-use Rattle.lines.proofs.Prefix.{span, alike-same, trim-line, judged-alike}
-
--- the end of the first bytes is the end of the file, or none
-end-cut : (w : ℕ) (held : List Pair) (bs : List ℕ) → 1 ≤ w →
-    (do judge (end-causes (take w bs)); taken held) ≡ (do judge (end-causes bs); taken held)
-unfolding end-causes
-end-cut zero held bs h = absurd (omega arith)
-end-cut (suc w) held [] h = refl
-end-cut (suc w) held (b ∷ bs) h = rw (lt-ltb 0 (suc (length (take w bs))) (omega arith), lt-ltb 0 (suc (length bs)) (omega arith))
+use Rattle.lines.proofs.Prefix.{span, rest-alike, alike-same, trim-line, judged-alike}
 
 -- a pair line has at most 15 bytes
-pub pairs-cut : (n left w : ℕ) (held : List Pair) (bs : List ℕ) → 15 * left + 1 ≤ w → read-pairs n left held (take w bs) ≡ read-pairs n left held bs
-unfolding read-pairs pair-line first second pair-form text parted starts-plain span is-place is-digit between
-pairs-cut n zero w held bs h = end-cut w held bs (omega arith)
-pairs-cut n (suc left) w held bs h =
+pairs-trimmed : (n left w : ℕ) (held : List Pair) (bs : List ℕ) → 15 * left + 1 ≤ w → read-pairs n left held (take w bs) ≡ read-pairs n left held bs
+unfolding read-pairs end-causes pair-line first second pair-form text parted starts-plain span is-place is-digit between
+pairs-trimmed n zero w held bs h = rw (rest-alike w bs (omega arith))
+pairs-trimmed n (suc left) w held bs h =
     alike-same _
     (judged-alike 1 4 pair-form w bs refl (omega arith) (λ v x. record { pair = x .pair; rest = take v (x .rest) }) _ _ (λ l v. refl) (λ l v. refl))
-    (λ x v e r. pairs-cut n left v (insert-pair (x .pair) held) (x .rest) (omega arith))
+    (λ x v e r. pairs-trimmed n left v (insert-pair (x .pair) held) (x .rest) (omega arith))
 
 -- a file is decided by its first 65,536 bytes
-pub read-cut : (room w : ℕ) (bs : List ℕ) → 65536 ≤ w → read-file room (take w bs) ≡ read-file room bs
+pub read-trimmed : (room w : ℕ) (bs : List ℕ) → 65536 ≤ w → read-file room (take w bs) ≡ read-file room bs
 unfolding read-file modules-line pairs-line head-line first modules-form pairs-form text parted starts-plain span is-place is-digit between
-read-cut room w bs h =
+read-trimmed room w bs h =
     alike-same _ (judged-alike 1 4 modules-form w bs refl (omega arith) trim-line _ _ (λ l v. refl) (λ l v. refl))
     (λ l v e r. alike-same _ (judged-alike 1 4 pairs-form v (l .rest) refl (omega arith) trim-line _ _ (λ k u. refl) (λ k u. refl))
     (λ k u d s.
     let few = pairs-unmet room (first k) (head-taken pairs-form (l .rest) (pairs-causes room) k d .1) in
-    rw (pairs-cut (first l) (first k) u [] (k .rest) (omega (arith, few)))))
+    rw (pairs-trimmed (first l) (first k) u [] (k .rest) (omega (arith, few)))))

@@ -10,7 +10,6 @@ use mathlib.Core.Bool.{true}
 use mathlib.Core.List.{List, [], _∷_, _++_}
 use Prim.Native.Nat.{ℕ, zero, suc, _+_, _*_, _≤_}
 use native.Mathlib.Omega.{arith}
-use borrow.Author.Tests.{lt-ltb}
 use lib.ListN.{length, set, take, replicate}
 use Rattle.theory.specs.Lists.{Pair, Pairs}
 use Rattle.theory.specs.Cores.{core-number, core-numbers}
@@ -25,7 +24,7 @@ use Rattle.lines.specs.Outcomes.{Outcome, refused, taken, _>>=_, _>>_, passed, 
 use Rattle.pairfile.specs.File.{read-file}
 use Rattle.lines.proofs.Fills.{starts-plain, parted}
 use Rattle.pairfile.proofs.Accepts.{accepted}
-use Rattle.lines.proofs.Prefix.{span, Alike, taken-alike, alike-then, alike-same, trim-line, line-alike, judged-alike}
+use Rattle.lines.proofs.Prefix.{span, rest-alike, Alike, taken-alike, alike-then, alike-same, trim-line, line-alike, judged-alike}
 use Rattle.pairfile.proofs.Promises.{reads-first}
 use Rattle.pairfile.specs.Promise.{Read-first}
 use Rattle.sheetfile.specs.Sheet.{
@@ -96,22 +95,15 @@ shares-alike (p ∷ ps) xs w bs h =
 
 -- ---- the whole
 
--- the end of the first bytes is the end of the sheet, or none
-end-trimmed : (w : ℕ) (bs : List ℕ) → 1 ≤ w → rest-causes (take w bs) ≡ rest-causes bs
-unfolding rest-causes
-end-trimmed zero bs h = absurd (omega arith)
-end-trimmed (suc w) [] h = refl
-end-trimmed (suc w) (b ∷ bs) h = rw (lt-ltb 0 (suc (length (take w bs))) (omega arith), lt-ltb 0 (suc (length bs)) (omega arith))
-
 -- all lines after the head, and one byte more, which shows whether bytes follow
 body-trimmed : (g : Pairs) (q w : ℕ) (bs : List ℕ) → 12 * q + 12 * g .n + 21 * length (g .pairs) + 1 ≤ w → read-body g q (take w bs) ≡ read-body g q bs
-unfolding read-body core-numbers
+unfolding read-body rest-causes core-numbers
 body-trimmed g q w bs h =
     let n : length (core-numbers g) ≡ g .n = length-table (g .n) (core-number g) in
     alike-same _ (members-alike q 0 (replicate (g .n) 0) w bs (omega arith))
     (λ m v e a. alike-same _ (numbers-alike (core-numbers g) v (m .rest) (omega (arith, n)))
     (λ r u e b. alike-same _ (shares-alike (g .pairs) [] u r (omega (arith, n)))
-    (λ x t e c. rw (end-trimmed t (x .rest) (omega (arith, n))))))
+    (λ x t e c. rw (rest-alike t (x .rest) (omega (arith, n))))))
 
 -- Q is at most N
 ratio-unmet : (n q : ℕ) → refusal (ratio-causes n q) ≡ 0 → q ≤ n
