@@ -21,7 +21,7 @@ loop-holds : tie.Need-loop-holds Inv-loop μ-loop
 loop-holds c = left-start _ _ _ (c .before .before .pre)
 
 cast-t12 : tie.Need-cast-t12 Inv-loop μ-loop
-cast-t12 c = omega (arith, c .shared-slice-known .given (c .before .before .loop .v))
+cast-t12 c = omega (arith, c .shared-slice-known2 .given (c .before .before .loop .v))
 
 write-line-requires : tie.Need-write-line-requires Inv-loop μ-loop
 unfolding number-form text

@@ -25,7 +25,7 @@ loop-holds c = left-start _ _ _ (c .before .before .before .pre .1)
 cast-t22 : tie.Need-cast-t22 Inv-loop μ-loop
 cast-t22 c =
     let l = c .before .before .before .before in
-    omega (arith, c .shared-slice-known3 .given (l .loop .j))
+    omega (arith, c .shared-slice-known5 .given (l .loop .j))
 
 write-line-requires : tie.Need-write-line-requires Inv-loop μ-loop
 unfolding share-form text
