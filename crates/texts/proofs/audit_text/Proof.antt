@@ -1,7 +1,6 @@
 -- `audit_text` meets its contract. Assumes nothing.
 use native.Mathlib.Omega.{arith}
-use mathlib.Core.List.{[], _∷_}
-use Rattle.pairfile.specs.Text.{text}
+use Rattle.lines.specs.Text.{text}
 use Rattle.texts.specs.Texts.{accepted-form}
 use Rattle.texts.proofs.Lengths.{no-more, and-small, refusal-length, accepted-length}
 use Rattle.texts.proofs.Files.{prints}
@@ -25,17 +24,24 @@ write-line-requires : tie.Need-write-line-requires
 unfolding accepted-form text
 write-line-requires c κs =
     let a = c .before .before .before .before .before in
-    let small = ratio-small (a .audit .ensures) (c .before .before .before .if1 .left) in (
-      and-small _ (small .0) (and-small _ (small .1) no-more) .each,
-      omega (arith, accepted-length (a .audit .result .p ∷ a .audit .result .q ∷ []), a .before .before .before .before .pre),
+    let small = ratio-small (a .audit .ensures) (c .before .before .before .if1 .left) in
+    omega (
+      arith,
+      accepted-length (and-small (a .audit .result .p) (small .0) (and-small (a .audit .result .q) (small .1) no-more)),
+      a .before .before .before .before .pre,
     )
 
 returns-2 : tie.Need-returns-2
 unfolding accepted-form text
 returns-2 c =
     let a = c .before .before .before .before .before .before .before .before in
+    let small = ratio-small (a .audit .ensures) (c .before .before .before .before .before .before .if1 .left) in
     prints (verdict-accepted (a .audit .ensures) (c .before .before .before .before .before .before .if1 .left)) (c .before .before .write-line .ensures)
-    (omega (arith, accepted-length (a .audit .result .p ∷ a .audit .result .q ∷ []), a .before .before .before .before .pre))
+    (omega (
+      arith,
+      accepted-length (and-small (a .audit .result .p) (small .0) (and-small (a .audit .result .q) (small .1) no-more)),
+      a .before .before .before .before .pre,
+    ))
 
 pub audit-text-spec : {M : Type 1} → statement M
 audit-text-spec =
