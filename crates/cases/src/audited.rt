@@ -1,11 +1,12 @@
 // Sheets that are audited beside a pair file: whole, with each byte altered, and as far as a buffer holds them.
 use crate::text::Given;
 use crate::text::after;
+use crate::text::byte_at;
 use crate::text::find;
 use crate::text::no_file;
 use crate::text::number_at;
 use crate::text::one_more;
-use crate::text::put_field;
+use crate::text::put_number;
 use crate::text::put_two;
 use input::read_open;
 use sheetfile::audit;
@@ -45,9 +46,9 @@ fn open_both(line: &[u8]) -> Opened {
 // ---- whole, and altered
 
 // What audit answers.
-fn put_verdict(text: &mut [u8], at: usize, label: &[u8], verdict: Verdict) -> usize {
-    let status = put_field(text, at, label, verdict.number as u64);
-    put_two(text, status, verdict.p, b"/", verdict.q)
+fn put_verdict(text: &mut [u8], at: usize, verdict: Verdict) -> usize {
+    let status = put_number(text, at, b' ', verdict.number as u64);
+    put_two(text, status, verdict.p, b'/', verdict.q)
 }
 
 fn one_up(byte: u8) -> u8 {
@@ -83,18 +84,30 @@ fn fated(fates: Fates, verdict: Verdict, before: Verdict) -> Fates {
     }
 }
 
-// The sheet with byte i one more, and one less; then it is as before.
-fn alter_at(fates: Fates, file: &[u8], sheet: &mut [u8], i: usize, before: Verdict) -> Fates {
+// The sheet with another byte at place i; then it is as before.
+fn alter_to(
+    fates: Fates,
+    file: &[u8],
+    sheet: &mut [u8],
+    i: usize,
+    byte: u8,
+    before: Verdict,
+) -> Fates {
     if sheet.len() <= i {
         return fates;
     }
-    let byte = sheet[i];
-    sheet[i] = one_up(byte);
-    let more = fated(fates, audit(file, sheet), before);
-    sheet[i] = one_down(byte);
-    let less = fated(more, audit(file, sheet), before);
+    let kept = sheet[i];
     sheet[i] = byte;
-    less
+    let verdict = audit(file, sheet);
+    sheet[i] = kept;
+    fated(fates, verdict, before)
+}
+
+// The sheet with byte i one more, and one less.
+fn alter_at(fates: Fates, file: &[u8], sheet: &mut [u8], i: usize, before: Verdict) -> Fates {
+    let byte = byte_at(sheet, i);
+    let more = alter_to(fates, file, sheet, i, one_up(byte), before);
+    alter_to(more, file, sheet, i, one_down(byte), before)
 }
 
 fn alter_bytes(file: &[u8], sheet: &mut [u8]) -> Fates {
@@ -113,16 +126,16 @@ fn alter_bytes(file: &[u8], sheet: &mut [u8]) -> Fates {
 }
 
 fn put_fates(text: &mut [u8], fates: Fates) -> usize {
-    let caught = put_field(text, 0, b"", fates.caught as u64);
-    let best = put_field(text, caught, b" ", fates.best as u64);
-    put_field(text, best, b" ", fates.other as u64)
+    let caught = put_number(text, 0, b' ', fates.caught as u64);
+    let best = put_number(text, caught, b' ', fates.best as u64);
+    put_number(text, best, b' ', fates.other as u64)
 }
 
 fn put_audit(text: &mut [u8], file: &[u8], sheet: &mut [u8], alters: bool) -> usize {
     if alters {
         return put_fates(text, alter_bytes(file, sheet));
     }
-    put_verdict(text, 0, b"", audit(file, sheet))
+    put_verdict(text, 0, audit(file, sheet))
 }
 
 pub(crate) fn try_audit(line: &[u8], text: &mut [u8], alters: bool) -> Given {
@@ -146,9 +159,9 @@ pub(crate) fn try_audit(line: &[u8], text: &mut [u8], alters: bool) -> Given {
 fn put_read(text: &mut [u8], opened: Opened, file: &mut [u8], sheet: &mut [u8]) -> usize {
     let n = read_open(opened.file, file);
     let k = read_open(opened.sheet, sheet);
-    let first = put_field(text, 0, b"", n as u64);
-    let second = put_field(text, first, b" ", k as u64);
-    put_verdict(text, second, b" ", audit(&file[..n], &sheet[..k]))
+    let first = put_number(text, 0, b' ', n as u64);
+    let second = put_number(text, first, b' ', k as u64);
+    put_verdict(text, second, audit(&file[..n], &sheet[..k]))
 }
 
 // The same with the first n bytes of one buffer and the first k of the other.

@@ -71,7 +71,7 @@ fn print_first(bytes: &[u8], n: usize) {
 // A case that did not come out as due: its line, and the answer given.
 fn print_bad(line: &[u8], text: &[u8], end: usize) {
     io::write_all(STDOUT_FILENO, line);
-    io::write_all(STDOUT_FILENO, b": not as due, but ");
+    io::write_all(STDOUT_FILENO, b": not as due, but");
     print_first(text, end);
     io::write_all(STDOUT_FILENO, b"\n");
 }

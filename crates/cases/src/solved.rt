@@ -6,9 +6,11 @@ use crate::text::find;
 use crate::text::no_file;
 use crate::text::number_at;
 use crate::text::one_more;
-use crate::text::put_field;
+use crate::text::put;
+use crate::text::put_number;
 use crate::text::put_text;
 use crate::text::put_two;
+use answer::Answer;
 use answer::solve_file;
 
 // How many bytes the text has, and how many bytes the run has that is still to be put.
@@ -19,13 +21,17 @@ struct Run {
 
 // ---- the answer
 
+// The refusal number, P/Q, and K and the size of that core.
+fn put_answer(text: &mut [u8], found: Answer) -> usize {
+    let status = put_number(text, 0, b' ', found.number as u64);
+    let ratio = put_two(text, status, found.p, b'/', found.q);
+    put_two(text, ratio, found.k, b',', found.coresize)
+}
+
 // What read and solve make of the bytes.
 fn put_solved(text: &mut [u8], bytes: &[u8]) -> usize {
     let mut members = [2u8; 512];
-    let found = solve_file(bytes, &mut members);
-    let status = put_field(text, 0, b"", found.number as u64);
-    let ratio = put_two(text, status, found.p, b"/", found.q);
-    let core = put_two(text, ratio, found.k, b",", found.coresize);
+    let core = put_answer(text, solve_file(bytes, &mut members));
     put_runs(text, core, &members)
 }
 
@@ -59,8 +65,8 @@ fn put_run(text: &mut [u8], at: usize, byte: u8, count: u32) -> usize {
     if byte == 2 {
         return at;
     }
-    let end = put_field(text, at, b" ", byte as u64);
-    put_field(text, end, b"x", count as u64)
+    let end = put_number(text, at, b' ', byte as u64);
+    put_number(text, end, b'x', count as u64)
 }
 
 // ---- by name
@@ -84,12 +90,13 @@ pub(crate) fn try_file(line: &[u8], text: &mut [u8]) -> Given {
 // Line i: of a pair of two modules of 256 to 511, `i / 256 + 1` apart on the circle of these, or empty.
 fn put_line(file: &mut [u8], at: usize, i: u32, pair: bool) -> usize {
     if !pair {
-        return put_text(file, at, b"\n");
+        return put(file, at, b'\n');
     }
     let step = std::num::wrapping_add_u32(one_more(i), i / 256);
-    let first = put_field(file, at, b"pair=", (256 + i % 256) as u64);
-    let second = put_field(file, first, b",", (256 + step % 256) as u64);
-    put_text(file, second, b"\n")
+    let name = put_text(file, at, b"pair");
+    let first = put_number(file, name, b'=', (256 + i % 256) as u64);
+    let second = put_number(file, first, b',', (256 + step % 256) as u64);
+    put(file, second, b'\n')
 }
 
 fn put_lines(file: &mut [u8], at: usize, count: u32, pair: bool) -> usize {
@@ -102,6 +109,15 @@ fn put_lines(file: &mut [u8], at: usize, count: u32, pair: bool) -> usize {
     end
 }
 
+// The first two lines.
+fn put_head(file: &mut [u8], n: u32, m: u32) -> usize {
+    let modules = put_text(file, 0, b"modules");
+    let first = put_number(file, modules, b'=', n as u64);
+    let pairs = put_text(file, first, b"\npairs");
+    let second = put_number(file, pairs, b'=', m as u64);
+    put(file, second, b'\n')
+}
+
 // Makes the file that the line's numbers describe.
 fn put_file(file: &mut [u8], line: &[u8]) -> Given {
     let n = number_at(line, 0);
@@ -109,9 +125,7 @@ fn put_file(file: &mut [u8], line: &[u8]) -> Given {
     let lines = number_at(line, m.next);
     let again = number_at(line, lines.next);
     let more = number_at(line, again.next);
-    let first = put_field(file, 0, b"modules=", n.value as u64);
-    let second = put_field(file, first, b"\npairs=", m.value as u64);
-    let head = put_text(file, second, b"\n");
+    let head = put_head(file, n.value, m.value);
     let pairs = put_lines(file, head, lines.value, true);
     let twice = put_lines(file, pairs, again.value, true);
     Given {

@@ -2,7 +2,7 @@
 ghost use Prim.Native.Nat.{_≤_};
 ghost use lib.ListN.{length};
 
-// Where the answer due begins in the line, and how many bytes of the text the answer given has.
+// Where the answer due begins in the line, and how many bytes of the text the answer given has, the space among them that stands before each part.
 pub(crate) struct Given {
     pub(crate) due: usize,
     pub(crate) end: usize,
@@ -28,7 +28,7 @@ pub(crate) fn byte_at(bytes: &[u8], i: usize) -> u8 {
 }
 
 // Puts a byte into the text, after its first `at` bytes; answers how many it has then. What does not fit is dropped.
-fn put(text: &mut [u8], at: usize, byte: u8) -> usize {
+pub(crate) fn put(text: &mut [u8], at: usize, byte: u8) -> usize {
     if at < text.len() {
         text[at] = byte;
         return at + 1;
@@ -46,36 +46,30 @@ pub(crate) fn put_text(text: &mut [u8], at: usize, bytes: &[u8]) -> usize {
     end
 }
 
-// A label and a number.
-pub(crate) fn put_field(text: &mut [u8], at: usize, label: &[u8], value: u64) -> usize {
+// A byte, and behind it a number.
+pub(crate) fn put_number(text: &mut [u8], at: usize, byte: u8, value: u64) -> usize {
     let mut digits = [0u8; 20];
-    let end = put_text(text, at, label);
+    let end = put(text, at, byte);
     let k = io::decimal(value, &mut digits);
     put_text(text, end, &digits[..k])
 }
 
-// Two numbers, unless both are 0.
-pub(crate) fn put_two(
-    text: &mut [u8],
-    at: usize,
-    first: u32,
-    between: &[u8],
-    second: u32,
-) -> usize {
+// A space and two numbers with a byte between them, unless both are 0.
+pub(crate) fn put_two(text: &mut [u8], at: usize, first: u32, byte: u8, second: u32) -> usize {
     if first == 0 {
         if second == 0 {
             return at;
         }
     }
-    let end = put_field(text, at, b" ", first as u64);
-    put_field(text, end, between, second as u64)
+    let end = put_number(text, at, b' ', first as u64);
+    put_number(text, end, byte, second as u64)
 }
 
 // A file is not there: no answer is so due.
 pub(crate) fn no_file(text: &mut [u8], due: usize) -> Given {
     Given {
         due,
-        end: put_text(text, 0, b"no file"),
+        end: put_text(text, 0, b" no file"),
     }
 }
 
@@ -111,9 +105,9 @@ pub(crate) fn number_at(line: &[u8], from: usize) -> Number {
     Number { value, next: i }
 }
 
-// Whether the line, from `from` on, is the text's first `end` bytes.
+// Whether the line, from `from` on, is the text's first `end` bytes without the space that it begins with.
 pub(crate) fn same(line: &[u8], from: usize, text: &[u8], end: usize) -> bool {
-    let mut i = 0;
+    let mut i = 1;
     let mut j = from;
     while i < end {
         if byte_at(line, j) != byte_at(text, i) {
