@@ -18,7 +18,7 @@ use Rattle.theory.specs.Refusals.{cause, refusal}
 use Rattle.theory.specs.Words.{laid-pairs, put-at}
 use Rattle.theory.proofs.Lists.{Listed, listed}
 use Rattle.theory.proofs.Words.{length-put, put-below, put-past, put-drop}
-use Rattle.pairfile.specs.Outcomes.{Outcome, refused, taken}
+use Rattle.lines.specs.Outcomes.{Outcome, refused, taken}
 use Rattle.pairfile.specs.File.{read-file}
 use Rattle.pairfile.specs.Answers.{reading-of, pairs-of, Same-past}
 use Rattle.records.specs.declared.Pair.{Pair}

@@ -15,7 +15,7 @@ use Rattle.theory.specs.Cores.{core}
 use Rattle.theory.specs.Splits.{rounded-up}
 use Rattle.theory.specs.Ratio.{float-ratio}
 use Rattle.theory.specs.Words.{laid-pairs}
-use Rattle.pairfile.specs.Outcomes.{refused, taken}
+use Rattle.lines.specs.Outcomes.{refused, taken}
 use Rattle.pairfile.specs.File.{read-file}
 use Rattle.pairfile.specs.Answers.{Same-past}
 use Rattle.kandurzo.specs.declared.Solved.{Solved}

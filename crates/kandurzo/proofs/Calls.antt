@@ -19,9 +19,9 @@ use Rattle.theory.specs.Lists.{Pairs}
 use Rattle.theory.specs.Refusals.{refusal, if-taken}
 use Rattle.theory.specs.Words.{word-pair, pairs-in, counts-of, laid-pairs, laid-list}
 use Rattle.theory.proofs.Lists.{listed}
+use Rattle.theory.proofs.Tests.{by-test}
 use Rattle.pairs.specs.Held.{insert-pair, remove-pair, smaller-first-pair}
 use Rattle.pairs.specs.Causes.{add-causes, remove-causes}
-use Rattle.pairs.proofs.General.{by-test}
 use Rattle.records.specs.declared.Pair.{Pair}
 use Rattle.records.specs.declared.Head.{Head}
 use Rattle.records.specs.Records.{held-list, agrees, blank, copied-out, word-record, records-in, put-back, Room-out, Room-back}

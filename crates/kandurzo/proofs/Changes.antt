@@ -17,7 +17,7 @@ use borrow.Author.Tests.{ne-eqb, eq-eqb, eqb-true, eqb-false, not-false}
 use Rattle.theory.specs.Basics.{all}
 use Rattle.theory.specs.Lists.{Pair, pair, ends-in-range, is-list}
 use Rattle.theory.specs.Refusals.{refusal, if-taken}
-use Rattle.theory.proofs.Tests.{tests, no}
+use Rattle.theory.proofs.Tests.{tests, no, by-test}
 use Rattle.theory.specs.Words.{laid-pairs, laid-list}
 use Rattle.theory.proofs.Lists.{listed}
 use Rattle.theory.proofs.Words.{length-laid, laid-at}
@@ -26,7 +26,6 @@ use Rattle.pairs.specs.Causes.{pair-causes}
 use Rattle.pairs.specs.Located.{Rising-words, located}
 use Rattle.pairs.specs.declared.Place.{Place}
 use Rattle.pairs.specs.Shifts.{insert-at, delete-at}
-use Rattle.pairs.proofs.General.{by-test}
 use Rattle.pairs.proofs.Causes.{pair-good}
 use Rattle.pairs.proofs.Keeps.{remove-list}
 use Rattle.pairs.proofs.Words.{holds-rising, place-within, place-held, insert-holds, laid-inserted, length-insert, laid-freed, length-delete}

@@ -19,9 +19,8 @@ use denote.Slice.{Room}
 use Rattle.theory.specs.Lists as Lists
 use Rattle.theory.specs.Words.{laid-list}
 use Rattle.theory.specs.Refusals.{cause, refusal, if-taken}
-use Rattle.theory.proofs.Tests.{no}
+use Rattle.theory.proofs.Tests.{no, by-test}
 use Rattle.theory.proofs.Lists.{listed}
-use Rattle.pairs.proofs.General.{by-test}
 use Rattle.records.specs.declared.Pair.{Pair}
 use Rattle.records.specs.declared.Head.{Head}
 use Rattle.records.specs.Records.{held-list, agrees, copied-out, Room-out}

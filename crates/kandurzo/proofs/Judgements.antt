@@ -17,6 +17,7 @@ use Rattle.theory.specs.Splits.{shares-good}
 use Rattle.theory.specs.Refusals.{Cause, cause, refusal, if-taken}
 use Rattle.theory.specs.Check.{loads-good, check-causes, check-number}
 use Rattle.theory.specs.Surplus.{surplus-causes, surplus-number}
+use Rattle.theory.proofs.Tests.{by-test}
 use Rattle.verify.specs.declared.Verdict.{Verdict}
 use Rattle.verify.specs.declared.Difference.{Difference}
 use Rattle.verify.specs.Answers.{Check-says, Surplus-says}
@@ -26,7 +27,6 @@ use Rattle.records.specs.Records.{held-list, agrees}
 use Rattle.kandurzo.specs.Buffers.{buffer, any-short, work-words}
 use Rattle.kandurzo.specs.Gate.{gate-number, gate-of}
 use Rattle.kandurzo.specs.Judging.{check-buffers, check-call-causes, Check-call, surplus-buffers, surplus-call-causes, Surplus-call, Check-on, Surplus-on}
-use Rattle.pairs.proofs.General.{by-test}
 use Rattle.kandurzo.proofs.Filling.{work-zeros}
 use Rattle.kandurzo.proofs.Gates.{none-short, gate-open, the-gate, the-words, words-list, words-left}
 

@@ -13,9 +13,9 @@ use borrow.Author.Tests.{eqb-true, eqb-false, not-false}
 use Rattle.theory.specs.Lists.{Pairs}
 use Rattle.theory.specs.Refusals.{Cause, cause, refusal}
 use Rattle.theory.proofs.Refusals.{refusal-met, refusal-passed, refusal-none}
+use Rattle.theory.proofs.Tests.{by-test}
 use Rattle.pairs.specs.Held.{is-held, smaller-first-pair}
 use Rattle.pairs.specs.Causes.{pair-causes, add-causes, remove-causes}
-use Rattle.pairs.proofs.General.{by-test}
 use Rattle.pairs.proofs.Causes.{refusal-first, pair-then}
 
 module _ (d : Bool) (n a b : ℕ) where

@@ -16,9 +16,9 @@ use Rattle.theory.specs.Lists as Lists
 use Rattle.theory.specs.Cores.{core-number, core-numbers}
 use Rattle.theory.proofs.Tables.{length-table, table-at}
 use Rattle.theory.specs.Refusals.{if-taken}
+use Rattle.theory.proofs.Tests.{by-test}
 use Rattle.records.specs.declared.Pair.{Pair}
 use Rattle.records.specs.declared.Head.{Head}
-use Rattle.pairs.proofs.General.{by-test}
 use Rattle.kandurzo.specs.Buffers.{buffer, any-short, in-front, work-words}
 use Rattle.kandurzo.specs.Gate.{gate-number, gate-of}
 use Rattle.kandurzo.specs.Peeling.{peel-buffers, peel-call-causes, Peel-call, Peel-on}

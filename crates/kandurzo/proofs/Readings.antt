@@ -1,5 +1,4 @@
 -- Read: from the bytes to words, and from the words to the lent records.
---   file-few                    a file is refused by a number below 12: 12 is the work buffer's length alone
 --   read-short, read-file-on    what read answers on words: of a short work buffer, and of any other
 --   Reads, reads-file           what is asked of a reader
 --   outcome-taken               what is taken
@@ -10,33 +9,25 @@
 use mathlib.Core.Path.{_≡_, refl, sym, ap, _∙_}
 use mathlib.Core.Bool.{Bool, true, false, cond}
 use mathlib.Core.List.{List, [], _∷_, _++_}
-use mathlib.Core.Option.{Option, none, some}
-use Prim.Native.Nat.{ℕ, zero, suc, _+_, _*_, _≤_, _<_}
+use Prim.Native.Nat.{ℕ, _+_, _*_, _≤_, _<_}
 use native.Mathlib.Omega.{arith}
-use lib.Dec.{ltb}
 use lib.ListN.{length, drop}
 use borrow.Author.Tests.{lt-ltb, le-ltb}
 use Rattle.theory.specs.Basics.{all}
 use Rattle.theory.specs.Lists as Lists
 use Rattle.theory.specs.Lists.{Pairs, is-list}
 use Rattle.theory.specs.Words.{laid-pairs}
-use Rattle.theory.specs.Refusals.{Cause, cause, refusal}
 use Rattle.theory.proofs.Lists.{listed}
 use Rattle.theory.proofs.Words.{length-laid}
-use Rattle.theory.proofs.Tests.{tests}
-use Rattle.pairs.specs.Held.{insert-pair}
-use Rattle.pairs.specs.Causes.{pair-causes}
 use Rattle.pairs.proofs.Keeps.{counts-once}
-use Rattle.pairfile.specs.Outcomes.{Outcome, refused, taken, _>>=_, _>>_, passed, judge}
-use Rattle.pairfile.specs.Lines.{modules-form, pairs-form, pair-form, Line, first, second, line-of}
-use Rattle.pairfile.specs.File.{line-or-1, line-due, count-line, modules-causes, modules-line, pairs-causes, pairs-line}
-use Rattle.pairfile.specs.File.{pair-line-causes, pair-line, end-causes, read-pairs, read-file}
+use Rattle.lines.specs.Outcomes.{Outcome, refused, taken}
+use Rattle.lines.proofs.Taken.{refused-not-taken}
+use Rattle.pairfile.specs.File.{read-file}
 use Rattle.pairfile.specs.Promise.{ones}
 use Rattle.pairfile.specs.Answers.{reading-of, pairs-of, FileRead}
 use Rattle.pairfile.specs.declared.Reading.{Reading}
-use Rattle.pairfile.proofs.Taken.{refused-not-taken}
 use Rattle.pairfile.proofs.Accepts.{accepted}
-use Rattle.pairfile.proofs.Readings.{words-small, reading-past}
+use Rattle.pairfile.proofs.Readings.{file-numbers, file-sound, reading-past, words-small}
 use Rattle.records.specs.declared.Pair.{Pair}
 use Rattle.records.specs.declared.Head.{Head}
 use Rattle.records.specs.Records.{held-list, agrees, put-back, Fits-records, Room-back}
@@ -49,74 +40,6 @@ use Rattle.kandurzo.proofs.Filling.{work-zeros, cleared-past}
 use Rattle.kandurzo.proofs.Gates.{none-short}
 use Rattle.kandurzo.proofs.Calls.{records-laid}
 use Rattle.kandurzo.proofs.Taken.{held-front, agrees-front}
-
--- ---- the numbers of a file
-
--- a refusal number is below 12
-abbrev Few : {A : Type 0} → Outcome A → Type 0
-Few o = (k : ℕ) → o ≡ refused k → k < 12
-
-taken-few : {A : Type 0} (a : A) → Few (taken a)
-taken-few a k e = absurd (refused-not-taken (sym e))
-
-bind-few : {A B : Type 0} (o : Outcome A) (f : A → Outcome B) → Few o → ((a : A) → Few (f a)) → Few (_>>=_ o f)
-unfolding _>>=_
-bind-few (refused j) f h n k e = let d : j ≡ k = cc in let l = h j refl in omega arith
-bind-few (taken a) f h n k e = n a k e
-
-low : Cause → Bool
-low c = ltb (c .number) 12
-
-refusal-few : (cs : List Cause) → all low cs ≡ true → refusal cs < 12
-unfolding refusal all low
-refusal-few [] e = omega arith
-refusal-few (c ∷ cs) e = let e′ = simp tests at e in go (c .met) (e′ .0) (refusal-few cs (e′ .1))
-  where
-    go : (b : Bool) → c .number < 12 → refusal cs < 12 → cond b (c .number) (refusal cs) < 12
-    go true h k = h
-    go false h k = k
-
-judge-few : {B : Type 0} (cs : List Cause) (o : Outcome B) → all low cs ≡ true → Few o → Few (do judge cs; o)
-unfolding judge passed _>>_
-judge-few cs o l n = go (refusal cs) (refusal-few cs l)
-  where
-    go : (j : ℕ) → j < 12 → Few (_>>_ (passed j) o)
-    go zero h k e = n k e
-    go (suc j) h k e = let d : suc j ≡ k = cc in omega arith
-
-line-few : (form bs : List ℕ) → Few (line-due form bs)
-unfolding line-due line-or-1
-line-few form bs = go (line-of form bs)
-  where
-    go : (o : Option Line) → Few (line-or-1 o)
-    go none k e = let d : 1 ≡ k = cc in omega arith
-    go (some l) k e = absurd (refused-not-taken (sym e))
-
-count-few : (form bs : List ℕ) (causes : ℕ → List Cause) → ((n : ℕ) → all low (causes n) ≡ true) → Few (count-line form causes bs)
-unfolding count-line
-count-few form bs causes h =
-    bind-few (line-due form bs) _ (line-few form bs) (λ l. judge-few (causes (first l)) (taken l) (h (first l)) (taken-few l))
-
-pair-few : (n : ℕ) (held : List Lists.Pair) (bs : List ℕ) → Few (pair-line n held bs)
-unfolding pair-line
-pair-few n held bs =
-    bind-few (line-due pair-form bs) _ (line-few pair-form bs)
-    (λ l. judge-few (pair-line-causes n held (first l) (second l)) _ (unfold pair-line-causes pair-causes cause all low in refl) (taken-few _))
-
-pairs-few : (n left : ℕ) (held : List Lists.Pair) (bs : List ℕ) → Few (read-pairs n left held bs)
-unfolding read-pairs
-pairs-few n zero held bs = judge-few (end-causes bs) (taken held) (unfold end-causes cause all low in refl) (taken-few held)
-pairs-few n (suc left) held bs =
-    bind-few (pair-line n held bs) _ (pair-few n held bs) (λ l. pairs-few n left (insert-pair (l .pair) held) (l .rest))
-
--- 12 and 13 are never a file's
-pub file-few : (room : ℕ) (bs : List ℕ) → Few (read-file room bs)
-unfolding read-file modules-line pairs-line
-file-few room bs =
-    bind-few (modules-line bs) _ (count-few modules-form bs modules-causes (λ n. unfold modules-causes cause all low in refl))
-    (λ l. bind-few (pairs-line room (l .rest)) _
-    (count-few pairs-form (l .rest) (pairs-causes room) (λ n. unfold pairs-causes cause all low in refl))
-    (λ k. bind-few (read-pairs (first l) (first k) [] (k .rest)) _ (pairs-few (first l) (first k) [] (k .rest)) (λ ps. taken-few _)))
 
 -- ---- on words
 
@@ -138,13 +61,13 @@ read-short read room bytes work h =
     nothing [] e = refl
     nothing (q ∷ qs) e = absurd (omega arith)
 
--- a file's number is below 12
+-- a file's number is below 12: 12 is the work buffer's length alone, and 13 is never a file's
 number-few : (room : ℕ) (bytes : List ℕ) → reading-of (read-file room bytes) .number < 12
 unfolding reading-of
 number-few room bytes = go (read-file room bytes) refl
   where
     go : (o : Outcome Pairs) → read-file room bytes ≡ o → reading-of o .number < 12
-    go (refused k) e = file-few room bytes k e
+    go (refused k) e = omega (arith, file-numbers room bytes k e .1)
     go (taken g) e = omega arith
 
 module _ (room : ℕ) (bytes work after : List ℕ) (f : Reading) (long : 16384 ≤ length work) (read : FileRead room bytes work after f) where
@@ -153,7 +76,7 @@ module _ (room : ℕ) (bytes work after : List ℕ) (f : Reading) (long : 16384 
       let same : f .number ≡ reading-of (read-file room bytes) .number = ap (λ (q : Reading). q .number) (read .reading) in
       let zeros : (w : List ℕ) → work-left (f .number) w ≡ cleared w =
       λ w. work-zeros (f .number) w (λ x. omega (arith, number-few room bytes)) (λ x. omega (arith, number-few room bytes)) in
-      zeros after ∙ cleared-past 12288 after work (omega arith) (reading-past read) ∙ sym (zeros work)
+      zeros after ∙ cleared-past 12288 after work (omega arith) (reading-past read (file-sound room bytes)) ∙ sym (zeros work)
 
   head-is : _≡_ {A = Head} (record { n = f .n; m = f .m }) (read-head (read-file room bytes))
   unfolding read-head head-of
@@ -162,7 +85,8 @@ module _ (room : ℕ) (bytes work after : List ℕ) (f : Reading) (long : 16384 
   fit-records : Fits-records (f .m) after
   unfolding Fits-records
   fit-records j l =
-      (omega (arith, words-small read (2 * j) (omega arith)), omega (arith, words-small read (2 * j + 1) (omega arith)))
+      let small = words-small read (file-sound room bytes) in
+      (omega (arith, small (2 * j) (omega arith)), omega (arith, small (2 * j + 1) (omega arith)))
 
   -- of any other: the file's answer
   pub read-file-on : Read-on read-file room bytes work after (record { number = f .number; head = record { n = f .n; m = f .m }; count = f .m })

@@ -15,7 +15,7 @@ use borrow.Author.Tests.{eqb-true, eqb-false}
 use Rattle.theory.specs.Lists.{Pairs, is-list}
 use Rattle.theory.specs.Promise.{Split-densest, Ratios-in-order}
 use Rattle.theory.proofs.Promises.{split-densest, ratios-in-order}
-use Rattle.pairs.proofs.General.{by-test}
+use Rattle.theory.proofs.Tests.{by-test}
 use Rattle.records.specs.declared.Pair.{Pair}
 use Rattle.records.specs.declared.Head.{Head}
 use Rattle.records.specs.Records.{held-list, agrees}

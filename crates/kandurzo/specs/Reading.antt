@@ -13,7 +13,7 @@ use lib.ListN.{length, drop}
 use Rattle.theory.specs.Lists as Lists
 use Rattle.theory.specs.Lists.{Pairs}
 use Rattle.theory.specs.Words.{laid-pairs}
-use Rattle.pairfile.specs.Outcomes.{Outcome, refused}
+use Rattle.lines.specs.Outcomes.{Outcome, refused}
 use Rattle.pairfile.specs.Answers.{reading-of, pairs-of}
 use Rattle.records.specs.declared.Pair.{Pair}
 use Rattle.records.specs.declared.Head.{Head}

@@ -1,118 +1,65 @@
--- What follows where a line or a file is not refused.
---   refused-not-taken, taken-same    an outcome is one thing
---   bind-taken                       both steps have been taken
---   LinePassed, line-passed          a line has its form, and none of its causes is met
---   Numbered                         a refusal number is not 0
---   taken-numbered, bind-numbered, judge-numbered, count-numbered, pair-numbered    so it is, step by step
---   count-taken                      the number of the first or second line
---   modules-unmet, pairs-unmet       N and M are in their ranges
---   PairTaken, pair-taken            a pair line
+-- What follows where a line is not refused, and by which numbers it is.
+--   is-file-number, number-range the refusal numbers of a pair file: none is 0, and none is above 11
+--   head-given, pair-given       those of its lines
+--   head-taken                   the number of the first or second line
+--   PairTaken, pair-taken        a pair line
+--   modules-unmet, pairs-unmet   N and M are in their ranges
 -- Assumes nothing.
 use mathlib.Core.Path.{_≡_, refl, sym, ap, _∙_}
-use mathlib.Core.Bool.{false}
+use mathlib.Core.Bool.{Bool, true, false, _||_}
+use mathlib.Core.Logic.{⊎-elim}
 use mathlib.Core.List.{List, [], _∷_, _++_}
-use mathlib.Core.Option.{Option, none, some}
+use mathlib.Core.Option.{some}
 use Prim.Native.Nat.{ℕ, zero, suc, _≤_}
 use native.Mathlib.Omega.{arith}
 use borrow.Author.Tests.{ltb-false}
 use lib.Dec.{ltb}
+use Rattle.theory.specs.Basics.{all}
 use Rattle.theory.specs.Lists.{Pair}
 use Rattle.theory.specs.Refusals.{Cause, cause, refusal}
-use Rattle.theory.proofs.Tests.{tests}
+use Rattle.theory.proofs.Tests.{tests, or-cases, by-test}
 use Rattle.pairs.specs.Held.{is-held, smaller-first-pair}
 use Rattle.pairs.specs.Causes.{pair-causes}
-use Rattle.pairs.proofs.General.{by-test}
 use Rattle.pairs.proofs.Causes.{refusal-first, pair-then}
-use Rattle.pairfile.specs.Text.{between}
-use Rattle.pairfile.specs.Lines.{pair-form, Line, first, second, line-of}
-use Rattle.pairfile.specs.Outcomes.{Outcome, refused, taken, _>>=_, _>>_, passed, judge}
-use Rattle.pairfile.specs.File.{line-or-1, line-due, count-line, modules-causes, pairs-causes, pair-line-causes, Named, pair-line}
+use Rattle.lines.specs.Text.{between}
+use Rattle.lines.specs.Lines.{Line, first, second, line-of}
+use Rattle.lines.specs.Outcomes.{taken, line-due}
+use Rattle.pairfile.specs.File.{pair-form, head-line, modules-causes, pairs-causes, pair-line-causes, Named, pair-line}
+use Rattle.lines.proofs.Taken.{taken-same, line-passed, Given, given-taken, given-bind, given-judge, given-line}
 
--- what is refused is not taken
-pub refused-not-taken : {A : Type 0} {k : ℕ} {a : A} → refused k ≡ taken a → ⊥
-refused-not-taken e = let z : _≡_ {A = ℕ} 0 1 = cc in omega arith
+-- the refusal numbers of a pair file: 1 to 6, 10 and 11
+unfoldable pub is-file-number : ℕ → Bool
+is-file-number k = between 1 6 k || between 10 11 k
 
--- one thing is taken
-pub taken-same : {A : Type 0} {a b : A} → taken a ≡ taken b → a ≡ b
-taken-same e = cc
-
--- what is taken by two steps is taken by each
-pub bind-taken : {A B : Type 0} (o : Outcome A) (f : A → Outcome B) (b : B) → _>>=_ o f ≡ taken b → (a : A) × (o ≡ taken a) × (f a ≡ taken b)
-unfolding _>>=_
-bind-taken (refused k) f b e = absurd (refused-not-taken e)
-bind-taken (taken a) f b e = (a, refl, e)
-
--- a line of its form, none of whose causes is met
-pub record LinePassed {B : Type 0} (form bs : List ℕ) (cs : Line → List Cause) (f : Line → Outcome B) (b : B) : Type 0 where
-  pub line : Line
-  pub found : line-of form bs ≡ some line
-  pub unmet : refusal (cs line) ≡ 0
-  pub then : f line ≡ taken b
-
-module _ {B : Type 0} (form bs : List ℕ) (cs : Line → List Cause) where
-  -- a line that is taken has its form, and none of its causes is met
-  pub line-passed : (f : Line → Outcome B) (b : B) → (do l ← line-due form bs; judge (cs l); f l) ≡ taken b → LinePassed form bs cs f b
-  unfolding line-due line-or-1 judge passed _>>=_ _>>_
-  line-passed f b e = of-line (line-of form bs) refl e
-    where
-      of-causes : (l : Line) → line-of form bs ≡ some l → (k : ℕ) → refusal (cs l) ≡ k → _>>_ (passed k) (f l) ≡ taken b → LinePassed form bs cs f b
-      of-causes l d zero u h = record { line = l; found = d; unmet = u; then = h }
-      of-causes l d (suc k) u h = absurd (refused-not-taken h)
-
-      of-line : (o : Option Line) → line-of form bs ≡ o → (do l ← line-or-1 o; judge (cs l); f l) ≡ taken b → LinePassed form bs cs f b
-      of-line none d h = absurd (refused-not-taken h)
-      of-line (some l) d h = of-causes l d (refusal (cs l)) refl h
-
--- a refusal number is not 0
-abbrev pub Numbered : {A : Type 0} → Outcome A → Type 0
-Numbered o = (k : ℕ) → o ≡ refused k → k ≡ 0 → ⊥
-
--- what is taken has no number
-pub taken-numbered : {A : Type 0} (a : A) → Numbered (taken a)
-taken-numbered a k e z = refused-not-taken (sym e)
-
--- one step after another
-pub bind-numbered : {A B : Type 0} (o : Outcome A) (f : A → Outcome B) → Numbered o → ((a : A) → Numbered (f a)) → Numbered (_>>=_ o f)
-unfolding _>>=_
-bind-numbered (refused j) f h n k e z = let d : j ≡ k = cc in h j refl (omega arith)
-bind-numbered (taken a) f h n k e z = n a k e z
-
--- causes
-pub judge-numbered : {B : Type 0} (cs : List Cause) (o : Outcome B) → Numbered o → Numbered (do judge cs; o)
-unfolding judge passed _>>_
-judge-numbered cs o n = go (refusal cs)
-  where
-    go : (j : ℕ) → Numbered (_>>_ (passed j) o)
-    go zero k e z = n k e z
-    go (suc j) k e z = let d : suc j ≡ k = cc in omega arith
-
-line-numbered : (form bs : List ℕ) → Numbered (line-due form bs)
-unfolding line-due line-or-1
-line-numbered form bs = go (line-of form bs)
-  where
-    go : (o : Option Line) → Numbered (line-or-1 o)
-    go none k e z = let d : 1 ≡ k = cc in omega arith
-    go (some l) k e z = refused-not-taken (sym e)
+-- none is 0, and none is above 11
+pub number-range : (k : ℕ) → is-file-number k ≡ true → (1 ≤ k) × (k ≤ 11)
+unfolding is-file-number between
+number-range k e =
+    ⊎-elim (λ t. let t′ = simp tests at t in (t′ .0, omega arith)) (λ t. let t′ = simp tests at t in (omega arith, t′ .1))
+    (or-cases (between 1 6 k) (between 10 11 k) e)
 
 -- the first line and the second
-pub count-numbered : (form bs : List ℕ) (causes : ℕ → List Cause) → Numbered (count-line form causes bs)
-unfolding count-line
-count-numbered form bs causes =
-    bind-numbered (line-due form bs) _ (line-numbered form bs) (λ l. judge-numbered (causes (first l)) (taken l) (taken-numbered l))
+pub head-given : (form bs : List ℕ) (causes : ℕ → List Cause) → ((n : ℕ) → all (λ c. is-file-number (c .number)) (causes n) ≡ true) →
+    Given is-file-number (head-line form causes bs)
+unfolding head-line is-file-number between
+head-given form bs causes h =
+    given-bind (line-due 1 4 form bs) _ (given-line 1 4 form bs refl)
+    (λ l. given-judge (causes (first l)) (taken l) (h (first l)) (given-taken l))
 
 -- a pair line
-pub pair-numbered : (n : ℕ) (held : List Pair) (bs : List ℕ) → Numbered (pair-line n held bs)
-unfolding pair-line
-pair-numbered n held bs =
-    bind-numbered (line-due pair-form bs) _ (line-numbered pair-form bs)
-    (λ l. judge-numbered (pair-line-causes n held (first l) (second l)) _ (taken-numbered _))
+pub pair-given : (n : ℕ) (held : List Pair) (bs : List ℕ) → Given is-file-number (pair-line n held bs)
+unfolding pair-line is-file-number between
+pair-given n held bs =
+    given-bind (line-due 1 4 pair-form bs) _ (given-line 1 4 pair-form bs refl)
+    (λ l. given-judge (pair-line-causes n held (first l) (second l)) _
+    (unfold pair-line-causes pair-causes cause all is-file-number between in refl) (given-taken _))
 
 -- the first line or the second: its form and its number
-pub count-taken : (form bs : List ℕ) (causes : ℕ → List Cause) (l : Line) → count-line form causes bs ≡ taken l →
-    (line-of form bs ≡ some l) × (refusal (causes (first l)) ≡ 0)
-unfolding count-line
-count-taken form bs causes l e =
-    let p = line-passed form bs (λ k. causes (first k)) taken l e in
+pub head-taken : (form bs : List ℕ) (causes : ℕ → List Cause) (l : Line) → head-line form causes bs ≡ taken l →
+    (line-of 4 form bs ≡ some l) × (refusal (causes (first l)) ≡ 0)
+unfolding head-line
+head-taken form bs causes l e =
+    let p = line-passed 1 4 form bs (λ k. causes (first k)) taken l e in
     let s = taken-same (p .then) in
     (p .found ∙ ap some s, ap (λ (k : Line). refusal (causes (first k))) (sym s) ∙ p .unmet)
 
@@ -127,7 +74,7 @@ unmet-split cs ds e = go (refusal cs) refl
 -- a pair line that is not refused: the two numbers on it, and the pair is new
 pub record PairTaken (n : ℕ) (held : List Pair) (bs : List ℕ) (x : Named) : Type 0 where
   pub line : Line
-  pub found : line-of pair-form bs ≡ some line
+  pub found : line-of 4 pair-form bs ≡ some line
   pub fit : refusal (pair-causes n (first line) (second line)) ≡ 0
   pub new : is-held (x .pair) held ≡ false
   pub pair : x .pair ≡ smaller-first-pair (first line) (second line)
@@ -138,7 +85,7 @@ pub pair-taken : (n : ℕ) (held : List Pair) (bs : List ℕ) (x : Named) → pa
 unfolding pair-line pair-line-causes cause refusal
 pair-taken n held bs x e =
     let named : Line → Named = λ k. record { pair = smaller-first-pair (first k) (second k); rest = k .rest } in
-    let p = line-passed pair-form bs (λ k. pair-line-causes n held (first k) (second k)) (λ k. taken (named k)) x e in
+    let p = line-passed 1 4 pair-form bs (λ k. pair-line-causes n held (first k) (second k)) (λ k. taken (named k)) x e in
     let l = p .line in
     let s : x ≡ named l = sym (taken-same (p .then)) in
     let last = cause 10 (is-held (smaller-first-pair (first l) (second l)) held) ∷ [] in

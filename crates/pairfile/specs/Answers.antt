@@ -1,97 +1,43 @@
 -- What the functions' answers say, in the terms of the other definitions. A position in the bytes stands for the bytes from there on.
---   number-in, number-end    the number that has been found, and where it ends
---   NumberFound              what number_at promises
---   line-in, line-end        the line that has been found, and where it ends
---   LineFound                what line_at promises
---   one-number-in            the line with one number that has been found
---   CountFound               what count_at promises
---   count-in, count-end      N or M, and where its line ends
---   CountRead                what modules_line and pairs_line promise
+--   head-in, head-end      N or M, and where its line ends
+--   HeadRead                what modules_line and pairs_line promise
 --   named-in, named-end, PlaceKnown    the pair that a line names, where the line ends, and the pair's place
 --   PairLineRead             what pair_line promises
 --   Same-past                the words past the first pairs of a list are as they were
 --   pairs-or, PairsRead      what read_pairs promises
---   reading-of, pairs-of, pairs-used   what read_words hands back
---   FileRead                 what read_words promises
+--   reading-of, pairs-of, pairs-used   what a reader of words hands back
+--   WordsRead, FileRead      what a reader of words promises, and what read_words does
 -- Assumes nothing: these are definitions.
 use mathlib.Core.Path.{_≡_}
 use mathlib.Core.List.{List, [], _∷_}
-use mathlib.Core.Option.{Option, none, some}
 use Prim.Native.Nat.{ℕ, zero, suc, _+_, _*_, _≤_, _<_}
-use lib.ListN.{length, getD, take, drop}
+use lib.ListN.{length, getD, drop}
 use Rattle.theory.specs.Lists.{Pair, Pairs, pair}
 use Rattle.theory.specs.Words.{laid-pairs}
 use Rattle.pairs.specs.Held.{place-of}
-use Rattle.pairfile.specs.Numbers.{Number, number-of}
-use Rattle.pairfile.specs.Lines.{Line, places, line-of}
-use Rattle.pairfile.specs.Outcomes.{Outcome, refused, taken}
+use Rattle.lines.specs.Lines.{Line}
+use Rattle.lines.specs.Outcomes.{Outcome, refused, taken}
 use Rattle.pairfile.specs.File.{Named, pair-line, read-pairs, read-file}
-use Rattle.pairfile.specs.declared.FoundNumber.{FoundNumber}
-use Rattle.pairfile.specs.declared.FoundNumber.the-variants.{Number as number, Missing}
-use Rattle.pairfile.specs.declared.FoundLine.{FoundLine}
-use Rattle.pairfile.specs.declared.FoundLine.the-variants.{Line as line, Malformed}
-use Rattle.pairfile.specs.declared.CountLine.{CountLine}
-use Rattle.pairfile.specs.declared.CountLine.the-variants.{Refused as count-refused, Count as count}
+use Rattle.pairfile.specs.declared.HeadLine.{HeadLine}
+use Rattle.pairfile.specs.declared.HeadLine.the-variants.{Refused as head-refused, Number as head}
 use Rattle.pairfile.specs.declared.PairLine.{PairLine}
 use Rattle.pairfile.specs.declared.PairLine.the-variants.{Refused as line-refused, Named as named}
 use Rattle.pairfile.specs.declared.Reading.{Reading}
 
--- the number found, and the bytes after it
-unfoldable pub number-in : (bytes : List ℕ) → FoundNumber → Option Number
-number-in bs Missing = none
-number-in bs (number v i) = some (record { value = v; rest = drop i bs })
-
--- where it ends
-unfoldable pub number-end : FoundNumber → ℕ
-number-end Missing = 0
-number-end (number v i) = i
-
--- NUMBER_AT: the number at a position
-pub record NumberFound (bytes : List ℕ) (at : ℕ) (r : FoundNumber) : Type 0 where
-  pub found : number-of (drop at bytes) ≡ number-in bytes r
-  pub within : number-end r ≤ length bytes
-
--- the line found: its numbers are the first k of a buffer
-unfoldable pub line-in : (bytes : List ℕ) → (k : ℕ) → (numbers : List ℕ) → FoundLine → Option Line
-line-in bs k ns Malformed = none
-line-in bs k ns (line i) = some (record { numbers = take k ns; rest = drop i bs })
-
--- where it ends
-unfoldable pub line-end : FoundLine → ℕ
-line-end Malformed = 0
-line-end (line i) = i
-
--- LINE_AT: the line of a form at a position. After a malformed line the buffer's first entries, one for each place of the form, are free
-pub record LineFound (bytes : List ℕ) (at : ℕ) (form numbers numbers′ : List ℕ) (r : FoundLine) : Type 0 where
-  pub found : line-of form (drop at bytes) ≡ line-in bytes (places form) numbers′ r
-  pub within : line-end r ≤ length bytes
-  -- entries past those places are as they were
-  pub past : drop (places form) numbers′ ≡ drop (places form) numbers
-
--- the line found, with one number
-unfoldable pub one-number-in : (bytes : List ℕ) → FoundNumber → Option Line
-one-number-in bs Missing = none
-one-number-in bs (number v i) = some (record { numbers = v ∷ []; rest = drop i bs })
-
--- COUNT_AT: the line of a form with one number at a position
-pub record CountFound (bytes : List ℕ) (at : ℕ) (form : List ℕ) (r : FoundNumber) : Type 0 where
-  pub found : line-of form (drop at bytes) ≡ one-number-in bytes r
-  pub within : number-end r ≤ length bytes
-
 -- the line with N or M on it, or the refusal number
-unfoldable pub count-in : (bytes : List ℕ) → CountLine → Outcome Line
-count-in bs (count-refused k) = refused k
-count-in bs (count v i) = taken (record { numbers = v ∷ []; rest = drop i bs })
+unfoldable pub head-in : (bytes : List ℕ) → HeadLine → Outcome Line
+head-in bs (head-refused k) = refused k
+head-in bs (head v i) = taken (record { numbers = v ∷ []; rest = drop i bs })
 
 -- where it ends
-unfoldable pub count-end : CountLine → ℕ
-count-end (count-refused k) = 0
-count-end (count v i) = i
+unfoldable pub head-end : HeadLine → ℕ
+head-end (head-refused k) = 0
+head-end (head v i) = i
 
 -- MODULES_LINE and PAIRS_LINE: the line that is due
-pub record CountRead (bytes : List ℕ) (due : Outcome Line) (r : CountLine) : Type 0 where
-  pub found : due ≡ count-in bytes r
-  pub within : count-end r ≤ length bytes
+pub record HeadRead (bytes : List ℕ) (due : Outcome Line) (r : HeadLine) : Type 0 where
+  pub found : due ≡ head-in bytes r
+  pub within : head-end r ≤ length bytes
 
 -- the pair named and the bytes after its line, or the refusal number
 unfoldable pub named-in : (bytes : List ℕ) → PairLine → Outcome Named
@@ -144,8 +90,12 @@ unfoldable pub pairs-used : Outcome Pairs → ℕ
 pairs-used (refused k) = 4096
 pairs-used (taken g) = length (g .pairs)
 
--- READ_WORDS: number, N, M and every pair of a file; the words past those used are as they were. After a refusal the words used are free
-pub record FileRead (room : ℕ) (bytes words words′ : List ℕ) (r : Reading) : Type 0 where
-  pub reading : r ≡ reading-of (read-file room bytes)
-  pub pairs : laid-pairs (r .m) words′ ≡ pairs-of (read-file room bytes)
-  pub past : Same-past (pairs-used (read-file room bytes)) words words′
+-- number, N, M and every pair of an outcome; the words past those used are as they were. After a refusal the words used are free
+pub record WordsRead (due : Outcome Pairs) (words words′ : List ℕ) (r : Reading) : Type 0 where
+  pub reading : r ≡ reading-of due
+  pub pairs : laid-pairs (r .m) words′ ≡ pairs-of due
+  pub past : Same-past (pairs-used due) words words′
+
+-- READ_WORDS: those of a pair file
+abbrev pub FileRead : (room : ℕ) → (bytes words words′ : List ℕ) → Reading → Type 0
+FileRead room bytes words words′ r = WordsRead (read-file room bytes) words words′ r

@@ -14,10 +14,9 @@ use lib.Dec.{leb}
 use borrow.Author.Tests.{leb-false, eqb-false}
 use Rattle.theory.specs.Lists.{pair, ends-in-range, smaller-first, weight-in-range}
 use Rattle.theory.specs.Refusals.{Cause, cause, refusal}
-use Rattle.theory.proofs.Tests.{tests, no}
+use Rattle.theory.proofs.Tests.{tests, no, by-test}
 use Rattle.pairs.specs.Held.{smaller-first-pair}
 use Rattle.pairs.specs.Causes.{module-unknown, self-paired, pair-causes}
-use Rattle.pairs.proofs.General.{by-test}
 
 neither : (t u : Bool) → (t || u) ≡ false → (t ≡ false) × (u ≡ false)
 neither true u e = no (sym e)

@@ -16,9 +16,9 @@ use lib.ListN.{length}
 use borrow.Author.Tests.{lt-leb, le-leb}
 use Rattle.theory.specs.Basics.{all}
 use Rattle.theory.specs.Lists.{Pair, stands-before, rising}
-use Rattle.theory.proofs.Tests.{tests, no, fails}
+use Rattle.theory.proofs.Tests.{tests, no, fails, by-test}
 use Rattle.pairs.specs.Held.{same-ends, is-held, weight-of, heavier, lighter, raise-pair, lower-pair}
-use Rattle.pairs.proofs.General.{by-test, all-weaker}
+use Rattle.pairs.proofs.General.{all-weaker}
 use Rattle.pairs.proofs.Order.{same-iff, same-refl, same-sym, same-same, order-cases}
 use Rattle.pairs.proofs.Rising.{rising-iff, lower-all, lower-not-held}
 use Rattle.pairs.proofs.Keeps.{not-held-weight, same-pair, rising-alone}

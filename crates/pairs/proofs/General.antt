@@ -1,23 +1,16 @@
--- General laws of tests and of lists.
---   by-test                    a test holds or fails
+-- General laws of lists.
 --   all-weaker, all-at         a test of every element of a list
 --   drop-more, drop-at-word    lists that agree from i on agree further on, and word by word
---   drop-set                   a store leaves what lies behind it
 -- Assumes nothing.
 use mathlib.Core.Path.{_≡_, refl, sym, ap, _∙_}
-use mathlib.Core.Bool.{Bool, true, false}
+use mathlib.Core.Bool.{Bool, true}
 use mathlib.Core.List.{List, [], _∷_}
 use Prim.Native.Nat.{ℕ, zero, suc, _+_, _-_, _≤_, _<_}
 use native.Mathlib.Omega.{arith}
-use lib.ListN.{length, getD, set, drop}
+use lib.ListN.{length, getD, drop}
 use lib.Seq.{getD-drop, drop-drop}
 use Rattle.theory.specs.Basics.{all}
 use Rattle.theory.proofs.Tests.{tests}
-
--- a test holds or fails
-pub by-test : {A : Type 0} (t : Bool) → (t ≡ true → A) → (t ≡ false → A) → A
-by-test true f g = f refl
-by-test false f g = g refl
 
 -- what every element passes, every element passes by a weaker test
 pub all-weaker : {A : Type 0} (f h : A → Bool) → ((x : A) → f x ≡ true → h x ≡ true) → (xs : List A) → all f xs ≡ true → all h xs ≡ true
@@ -49,10 +42,3 @@ drop-at-word i j xs ys h e =
     let at-j : (zs : List ℕ) → getD zs j 0 ≡ getD (drop i zs) (j - i) 0 =
     λ zs. ap (λ (t : ℕ). getD zs t 0) (sym d) ∙ sym (getD-drop i zs (j - i) 0) in
     at-j xs ∙ ap (λ (l : List ℕ). getD l (j - i) 0) e ∙ sym (at-j ys)
-
--- a store leaves what lies behind it
-pub drop-set : (xs : List ℕ) (i j v : ℕ) → i < j → drop j (set xs i v) ≡ drop j xs
-drop-set [] i j v h = refl
-drop-set (x ∷ xs) i zero v h = absurd (omega arith)
-drop-set (x ∷ xs) zero (suc j) v h = refl
-drop-set (x ∷ xs) (suc i) (suc j) v h = drop-set xs i j v (omega arith)

@@ -13,10 +13,9 @@ use lib.Dec.{eqb}
 use lib.ListN.{length}
 use Rattle.theory.specs.Basics.{all}
 use Rattle.theory.specs.Lists.{Pair, Pairs, ends-in-range, smaller-first, weight-in-range, rising, is-list}
-use Rattle.theory.proofs.Tests.{tests, no}
+use Rattle.theory.proofs.Tests.{tests, no, by-test}
 use Rattle.theory.proofs.Lists.{listed, is-listed}
 use Rattle.pairs.specs.Held.{same-ends, is-held, weight-of, with-pair, without-pair}
-use Rattle.pairs.proofs.General.{by-test}
 use Rattle.pairs.proofs.Order.{same-iff, same-refl, order-cases}
 use Rattle.pairs.proofs.Rising.{rising-iff, lower-not-held, same-not-held}
 use Rattle.pairs.proofs.Changes.{insert-length, remove-length, insert-all, remove-all, insert-rising, remove-rising}

@@ -12,16 +12,16 @@ use Prim.Native.Nat.{ℕ, _+_, _*_, _-_, _≤_, _<_}
 use native.Mathlib.Omega.{arith}
 use lib.Dec.{leb, eqb}
 use lib.ListN.{length, getD, set, drop, length-set}
-use lib.Seq.{getD-set-same, getD-set-other, ext-getD}
+use lib.Seq.{getD-set-same, getD-set-other, drop-set-lt, ext-getD}
 use borrow.Author.Tests.{eqb-true, eqb-false}
 use Rattle.theory.specs.Lists.{Pair, pair}
 use Rattle.theory.specs.Words.{laid-pairs}
 use Rattle.theory.proofs.Words.{length-laid, laid-at}
+use Rattle.theory.proofs.Tests.{by-test}
 use Rattle.pairs.specs.Held.{is-held, weight-of, place-of, heavier, lighter, raise-pair, lower-pair}
 use Rattle.pairs.specs.Located.{Rising-words, located}
 use Rattle.pairs.specs.Counts.{count-at, set-count, Raisable, raised, pairs-raised, lowered, pairs-lowered}
 use Rattle.pairs.specs.declared.Place.{Place}
-use Rattle.pairs.proofs.General.{by-test, drop-set}
 use Rattle.pairs.proofs.Words.{place-within, place-held, length-insert, insert-drop, laid-inserted, length-delete, delete-drop, laid-deleted}
 use Rattle.pairs.proofs.Places.{lower-cut, lower-set, raise-set, raise-new, weight-at}
 
@@ -80,7 +80,7 @@ module _ (m : ℕ) (place : Place) (p : Pair) (ws : List ℕ) (h : Raisable m pl
   unfolding raised set-count
   raised-drop k l =
       by-test (place .held)
-      (λ t. rw t (drop-set ws (8192 + place .at) k (count-at (place .at) ws + p .w) (omega (arith, h .within))))
+      (λ t. rw t (drop-set-lt k ws (8192 + place .at) (count-at (place .at) ws + p .w) (omega (arith, h .within))))
       (λ t. rw t (insert-drop m (place .at) p ws (h .within) (h .new t) (h .long) k l))
 
   -- where lookup has found the place: the list with p's stops more
@@ -117,7 +117,7 @@ module _ (m at w : ℕ) (ws : List ℕ) (there : at < m) (few : m ≤ 4096) (lon
   lowered-drop k l =
       by-test (leb (count-at at ws) w)
       (λ t. rw t (delete-drop m at ws there few long k l))
-      (λ t. rw t (drop-set ws (8192 + at) k (count-at at ws - w) (omega arith)))
+      (λ t. rw t (drop-set-lt k ws (8192 + at) (count-at at ws - w) (omega arith)))
 
 -- at the place of a held pair: the list with its stops less
 pub lowered-pairs : (m : ℕ) (p : Pair) (ws : List ℕ) → Rising-words m ws → is-held p (laid-pairs m ws) ≡ true →

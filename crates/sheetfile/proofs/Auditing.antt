@@ -29,11 +29,11 @@ use Rattle.theory.proofs.Refusals.{refusal-none, refusal-passed}
 use Rattle.theory.proofs.Lists.{listed}
 use Rattle.theory.proofs.Words.{cut-list, holds-few}
 use Rattle.pairs.proofs.Causes.{refusal-first}
-use Rattle.pairfile.specs.Outcomes.{taken, _>>=_, _>>_, passed, judge}
+use Rattle.lines.specs.Outcomes.{taken, _>>=_, _>>_, passed, judge}
+use Rattle.lines.proofs.Found.{judge-refused}
 use Rattle.pairfile.specs.Answers.{FileRead}
 use Rattle.pairfile.specs.declared.Reading.{Reading}
-use Rattle.pairfile.proofs.Judged.{judge-refused}
-use Rattle.pairfile.proofs.Readings.{reading-taken, reading-holds, reading-refused}
+use Rattle.pairfile.proofs.Readings.{file-sound, reading-taken, reading-holds, reading-refused}
 use Rattle.verify.specs.Answers.{refused-by, Check-says}
 use Rattle.verify.specs.declared.Verdict.{Verdict}
 use Rattle.sheetfile.specs.Sheet.{Sheet, read-sheet}
@@ -227,7 +227,7 @@ module _ (file sheet : List ℕ) {old words : List ℕ} {r : Reading} (f : FileR
     pub list-ready : 12288 ≤ length words →
         Holds-list (r .n) (r .m) words × Audit-buffers (r .n) (r .m) (replicate 512 0) (replicate 512 0) (replicate 4096 0)
     list-ready long =
-        let held : Holds-list (r .n) (r .m) words = reading-holds f z long in
+        let held : Holds-list (r .n) (r .m) words = reading-holds f (file-sound 4096 file) z long in
         let few = holds-few (r .n) (r .m) words (held .listed) in (
           held,
           record {
@@ -240,4 +240,4 @@ module _ (file sheet : List ℕ) {old words : List ℕ} {r : Reading} (f : FileR
 
     pub list-audited : {v : Verdict} → v ≡ verdict-of (audit-sheet (laid-list (r .n) (r .m) words) sheet) → v ≡ verdict-of (audit file sheet)
     unfolding audit _>>=_
-    list-audited e = rw (reading-taken f z) e
+    list-audited e = rw (reading-taken f (file-sound 4096 file) z) e

@@ -19,7 +19,7 @@ use Rattle.theory.proofs.Lists.{listed}
 use Rattle.theory.proofs.Bounds.{total, inside-le-total, size-bound, size-le-length, core-number-le}
 use Rattle.theory.proofs.Cores.{core-bits}
 use Rattle.pairfile.specs.Promise.{ones}
-use Rattle.pairfile.specs.Outcomes.{taken}
+use Rattle.lines.specs.Outcomes.{taken}
 use Rattle.pairfile.specs.File.{read-file}
 use Rattle.pairfile.proofs.Accepts.{accepted}
 use Rattle.sheetfile.specs.Sheet.{Sheet}

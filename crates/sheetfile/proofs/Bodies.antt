@@ -15,18 +15,17 @@ use lib.Seq.{getD-take}
 use Rattle.theory.specs.Basics.{mark}
 use Rattle.theory.specs.Lists.{Pairs}
 use Rattle.theory.specs.Refusals.{cause, refusal}
-use Rattle.pairfile.specs.Text.{text, between}
-use Rattle.pairfile.specs.Lines.{first, second, is-place, places}
-use Rattle.pairfile.specs.Outcomes.{Outcome, taken, _>>=_, _>>_, passed, judge}
-use Rattle.pairfile.specs.Answers.{LineFound}
-use Rattle.pairfile.specs.declared.FoundLine.{FoundLine}
-use Rattle.pairfile.specs.declared.FoundLine.the-variants.{Malformed}
-use Rattle.pairfile.proofs.Judged.{LineHas, malformed}
+use Rattle.lines.specs.Text.{text, between}
+use Rattle.lines.specs.Lines.{first, second, is-place, places}
+use Rattle.lines.specs.Outcomes.{Outcome, taken, _>>=_, _>>_, passed, judge, line-or, line-due}
+use Rattle.lines.specs.Answers.{LineFound}
+use Rattle.lines.specs.declared.FoundLine.{FoundLine}
+use Rattle.lines.specs.declared.FoundLine.the-variants.{Malformed}
+use Rattle.lines.proofs.Found.{LineHas, malformed}
 use Rattle.sheetfile.specs.Sheet.{
   head-form,
   third,
   fourth,
-  due,
   Part,
   Body,
   read-members,
@@ -112,17 +111,17 @@ abbrev pub head-in : (number : ℕ) → (numbers : List ℕ) → SheetHead
 head-in k ns = record { number = k; p = getD ns 0 0; q = getD ns 1 0; k = getD ns 2 0; coresize = getD ns 3 0 }
 
 -- 101
-pub head-none : {bs ms ns : List ℕ} {r : FoundLine} → LineFound bs 0 head-form ms ns r → (g : Pairs) (s xs : List ℕ) → r ≡ Malformed →
+pub head-none : {bs ms ns : List ℕ} {r : FoundLine} → LineFound 4 bs 0 head-form ms ns r → (g : Pairs) (s xs : List ℕ) → r ≡ Malformed →
     SheetRead (read-sheet g bs) s xs (refused-head 101)
-unfolding read-sheet due _>>=_ unless-number
+unfolding read-sheet line-due line-or _>>=_ unless-number
 head-none f g s xs e = record { found = rw (malformed f e); some = λ z. absurd (omega (arith, z)) }
 
 -- Q has at most four digits
-pub head-small : {bs ns : List ℕ} {i : ℕ} → LineHas head-form 4 bs 0 ns i → getD ns 1 0 ≤ 9999
+pub head-small : {bs ns : List ℕ} {i : ℕ} → LineHas 4 head-form 4 bs 0 ns i → getD ns 1 0 ≤ 9999
 unfolding head-form text places is-place between mark
 head-small {bs} {ns} f = omega (arith, line-small head-form bs _ 1 (f .found) (omega arith), getD-take 4 ns 1 0 (omega arith))
 
-module _ {bs ns : List ℕ} {i : ℕ} (f : LineHas head-form 4 bs 0 ns i) (g : Pairs) where
+module _ {bs ns : List ℕ} {i : ℕ} (f : LineHas 4 head-form 4 bs 0 ns i) (g : Pairs) where
   abbrev n : ℕ
   n = g .n
 
@@ -133,7 +132,7 @@ module _ {bs ns : List ℕ} {i : ℕ} (f : LineHas head-form 4 bs 0 ns i) (g : P
     judge (ratio-causes n q)
     body ← read-body g q (drop i bs)
     taken (sheet (record { numbers = take 4 ns; rest = drop i bs }) body))
-  unfolding read-sheet due _>>=_ second
+  unfolding read-sheet line-due line-or _>>=_ second
   after-head = rw (f .found, getD-take 4 ns 1 0 (omega arith))
 
   -- 102

@@ -1,6 +1,5 @@
 -- A sheet is decided by its first bytes: what lies behind the longest sheet that could be accepted changes nothing.
---   Alike, alike-then, alike-same                  the first bytes give what all of them give, and what follows does
---   due-alike, line-alike                          a line
+--   one-alike                                      a line
 --   members-alike, numbers-alike, shares-alike     lines one after another
 --   body-trimmed, read-trimmed                     all lines after the head, and the whole sheet
 --   sheet-first                                    Sheet-first: a sheet is decided by its first 100,000 bytes
@@ -11,23 +10,21 @@ use mathlib.Core.Bool.{true}
 use mathlib.Core.List.{List, [], _∷_, _++_}
 use Prim.Native.Nat.{ℕ, zero, suc, _+_, _*_, _≤_}
 use native.Mathlib.Omega.{arith}
-use borrow.Author.Tests.{lt-ltb}
 use lib.ListN.{length, set, take, replicate}
 use Rattle.theory.specs.Lists.{Pair, Pairs}
 use Rattle.theory.specs.Cores.{core-number, core-numbers}
 use Rattle.theory.specs.Refusals.{Cause, cause, refusal}
 use Rattle.theory.proofs.Lists.{Listed, listed}
 use Rattle.theory.proofs.Tables.{length-table}
-use Rattle.theory.proofs.Tests.{tests}
-use Rattle.pairs.proofs.General.{by-test}
-use Rattle.pairfile.specs.Text.{text, between}
-use Rattle.pairfile.specs.Numbers.{is-digit, Number}
-use Rattle.pairfile.specs.Lines.{is-place, Line, first, second, line-of}
-use Rattle.pairfile.specs.Outcomes.{Outcome, refused, taken, _>>=_, _>>_, passed, judge}
+use Rattle.theory.proofs.Tests.{tests, by-test}
+use Rattle.lines.specs.Text.{text, between}
+use Rattle.lines.specs.Numbers.{is-digit, Number}
+use Rattle.lines.specs.Lines.{is-place, Line, first, second}
+use Rattle.lines.specs.Outcomes.{Outcome, refused, taken, _>>=_, _>>_, passed, judge}
 use Rattle.pairfile.specs.File.{read-file}
-use Rattle.pairfile.proofs.Fills.{starts-plain, parted}
+use Rattle.lines.proofs.Fills.{starts-plain, parted}
 use Rattle.pairfile.proofs.Accepts.{accepted}
-use Rattle.pairfile.proofs.Prefix.{span, LineCut, neither, both, line-cut}
+use Rattle.lines.proofs.Prefix.{span, rest-alike, Alike, taken-alike, alike-then, alike-same, trim-line, line-alike, judged-alike}
 use Rattle.pairfile.proofs.Promises.{reads-first}
 use Rattle.pairfile.specs.Promise.{Read-first}
 use Rattle.sheetfile.specs.Sheet.{
@@ -37,7 +34,6 @@ use Rattle.sheetfile.specs.Sheet.{
   share-form,
   third,
   fourth,
-  due,
   judged-line,
   Part,
   member-line,
@@ -55,36 +51,7 @@ use Rattle.sheetfile.specs.Sheet.{
 use Rattle.sheetfile.specs.Audit.{audit-sheet, audit}
 use Rattle.sheetfile.specs.Promise.{Sheet-first, Audit-first}
 
--- ---- refused alike, or taken alike
-
--- what w bytes of a sheet give and what all of them give, where at most j are read: a refusal by the same number, or the same thing with the bytes
--- after it trimmed
-data Alike {A : Type 0} (trim : ℕ → A → A) (w j : ℕ) (o o′ : Outcome A) : Type 0 where
-  refused-alike : (k : ℕ) → o ≡ refused k → o′ ≡ refused k → Alike trim w j o o′
-  taken-alike : (a : A) (v : ℕ) → o ≡ taken (trim v a) → o′ ≡ taken a → w ≤ v + j → Alike trim w j o o′
-
--- then go on with what was taken: at most k more
-alike-then : {A B : Type 0} {trim : ℕ → A → A} {trim′ : ℕ → B → B} {w i j : ℕ} {o o′ : Outcome A} (k : ℕ) (f : A → Outcome B) → i + k ≤ j →
-    Alike trim w i o o′ → ((a : A) (v : ℕ) → w ≤ v + i → Alike trim′ v k (f (trim v a)) (f a)) → Alike trim′ w j (_>>=_ o f) (_>>=_ o′ f)
-unfolding _>>=_
-alike-then k f le (refused-alike m p q) next = refused-alike m (rw p) (rw q)
-alike-then {trim = trim} {trim′} {w} {i} {j} {o} {o′} k f le (taken-alike a v p q h) next = go (next a v h)
-  where
-    go : Alike trim′ v k (f (trim v a)) (f a) → Alike trim′ w j (_>>=_ o f) (_>>=_ o′ f)
-    go (refused-alike m r s) = refused-alike m (rw p r) (rw q s)
-    go (taken-alike b u r s m) = taken-alike b u (rw p r) (rw q s) (omega arith)
-
--- or with what is the same however far the bytes are trimmed
-alike-same : {A B : Type 0} {trim : ℕ → A → A} {w i : ℕ} {o o′ : Outcome A} (f : A → Outcome B) →
-    Alike trim w i o o′ → ((a : A) (v : ℕ) → w ≤ v + i → f (trim v a) ≡ f a) → _>>=_ o f ≡ _>>=_ o′ f
-unfolding _>>=_
-alike-same f (refused-alike m p q) same = rw (p, q)
-alike-same f (taken-alike a v p q h) same = rw (p, q) (same a v h)
-
--- a line, a number and some lines, each with the bytes after it trimmed
-abbrev trim-line : ℕ → Line → Line
-trim-line v l = record { numbers = l .numbers; rest = take v (l .rest) }
-
+-- a number and some lines, each with the bytes after it trimmed
 abbrev trim-number : ℕ → Number → Number
 trim-number v x = record { value = x .value; rest = take v (x .rest) }
 
@@ -93,28 +60,13 @@ trim-part v x = record { entries = x .entries; rest = take v (x .rest) }
 
 -- ---- lines
 
--- the line that is due
-due-alike : (form : List ℕ) (w : ℕ) (bs : List ℕ) → parted form ≡ true → span form ≤ w →
-    Alike trim-line w (span form) (due (line-of form (take w bs))) (due (line-of form bs))
-unfolding due
-due-alike form w bs p h = go (line-cut form w bs p h)
-  where
-    go : LineCut form w bs → Alike trim-line w (span form) (due (line-of form (take w bs))) (due (line-of form bs))
-    go (neither d e) = refused-alike 101 (rw e) (rw d)
-    go (both l v d e r) = taken-alike l v (rw e) (rw d) r
-
--- and judged: its own cause and the number picked do not go by the bytes after it
-line-alike : (form : List ℕ) (own : Line → Cause) (pick : Line → ℕ) (w : ℕ) (bs : List ℕ) → parted form ≡ true → span form ≤ w →
+-- a line judged: its own cause and the number picked do not go by the bytes after it
+one-alike : (form : List ℕ) (own : Line → Cause) (pick : Line → ℕ) (w : ℕ) (bs : List ℕ) → parted form ≡ true → span 4 form ≤ w →
     ((l : Line) (v : ℕ) → own (trim-line v l) ≡ own l) → ((l : Line) (v : ℕ) → pick (trim-line v l) ≡ pick l) →
-    Alike trim-number w (span form) (judged-line form own pick (take w bs)) (judged-line form own pick bs)
-unfolding judged-line judge passed _>>_
-line-alike form own pick w bs p h same-own same-pick =
-    alike-then 0 _ (omega arith) (due-alike form w bs p h)
-    (λ l v m. rw (same-own l v, same-pick l v) (go (record { value = pick l; rest = l .rest }) v (refusal (own l ∷ []))))
-  where
-    go : (x : Number) (v k : ℕ) → Alike trim-number v 0 (_>>_ (passed k) (taken (trim-number v x))) (_>>_ (passed k) (taken x))
-    go x v zero = taken-alike x v refl refl (omega arith)
-    go x v (suc k) = refused-alike (suc k) refl refl
+    Alike trim-number w (span 4 form) (judged-line form own pick (take w bs)) (judged-line form own pick bs)
+unfolding judged-line
+one-alike form own pick w bs p h same-own same-pick =
+    judged-alike 101 4 form w bs p h trim-number (λ l. own l ∷ []) _ (λ l v. rw (same-own l v)) (λ l v. rw (same-pick l v))
 
 -- one line after another: a member line and a number line have at most 12 bytes, a share line 21
 members-alike : (left low : ℕ) (s : List ℕ) (w : ℕ) (bs : List ℕ) → 12 * left ≤ w →
@@ -122,7 +74,7 @@ members-alike : (left low : ℕ) (s : List ℕ) (w : ℕ) (bs : List ℕ) → 12
 unfolding read-members member-line first member-form text parted starts-plain span is-place is-digit between
 members-alike zero low s w bs h = taken-alike (record { entries = s; rest = bs }) w refl refl (omega arith)
 members-alike (suc left) low s w bs h =
-    alike-then (12 * left) _ (omega arith) (line-alike member-form _ first w bs refl (omega arith) (λ l v. refl) (λ l v. refl))
+    alike-then (12 * left) _ (omega arith) (one-alike member-form _ first w bs refl (omega arith) (λ l v. refl) (λ l v. refl))
     (λ a v m. members-alike left (suc (a .value)) (set s (a .value) 1) v (a .rest) (omega arith))
 
 numbers-alike : (cs : List ℕ) (w : ℕ) (bs : List ℕ) → 12 * length cs ≤ w →
@@ -130,7 +82,7 @@ numbers-alike : (cs : List ℕ) (w : ℕ) (bs : List ℕ) → 12 * length cs ≤
 unfolding read-numbers number-line first number-form text parted starts-plain span is-place is-digit between
 numbers-alike [] w bs h = taken-alike bs w refl refl (omega arith)
 numbers-alike (c ∷ cs) w bs h =
-    alike-then (12 * length cs) _ (omega arith) (line-alike number-form _ first w bs refl (omega arith) (λ l v. refl) (λ l v. refl))
+    alike-then (12 * length cs) _ (omega arith) (one-alike number-form _ first w bs refl (omega arith) (λ l v. refl) (λ l v. refl))
     (λ x v m. numbers-alike cs v (x .rest) (omega arith))
 
 shares-alike : (ps : List Pair) (xs : List ℕ) (w : ℕ) (bs : List ℕ) → 21 * length ps ≤ w →
@@ -138,27 +90,20 @@ shares-alike : (ps : List Pair) (xs : List ℕ) (w : ℕ) (bs : List ℕ) → 21
 unfolding read-shares share-line first second third share-form text parted starts-plain span is-place is-digit between
 shares-alike [] xs w bs h = taken-alike (record { entries = xs; rest = bs }) w refl refl (omega arith)
 shares-alike (p ∷ ps) xs w bs h =
-    alike-then (21 * length ps) _ (omega arith) (line-alike share-form _ third w bs refl (omega arith) (λ l v. refl) (λ l v. refl))
+    alike-then (21 * length ps) _ (omega arith) (one-alike share-form _ third w bs refl (omega arith) (λ l v. refl) (λ l v. refl))
     (λ u v m. shares-alike ps (xs ++ (u .value ∷ [])) v (u .rest) (omega arith))
 
 -- ---- the whole
 
--- the end of the first bytes is the end of the sheet, or none
-end-trimmed : (w : ℕ) (bs : List ℕ) → 1 ≤ w → rest-causes (take w bs) ≡ rest-causes bs
-unfolding rest-causes
-end-trimmed zero bs h = absurd (omega arith)
-end-trimmed (suc w) [] h = refl
-end-trimmed (suc w) (b ∷ bs) h = rw (lt-ltb 0 (suc (length (take w bs))) (omega arith), lt-ltb 0 (suc (length bs)) (omega arith))
-
 -- all lines after the head, and one byte more, which shows whether bytes follow
 body-trimmed : (g : Pairs) (q w : ℕ) (bs : List ℕ) → 12 * q + 12 * g .n + 21 * length (g .pairs) + 1 ≤ w → read-body g q (take w bs) ≡ read-body g q bs
-unfolding read-body core-numbers
+unfolding read-body rest-causes core-numbers
 body-trimmed g q w bs h =
     let n : length (core-numbers g) ≡ g .n = length-table (g .n) (core-number g) in
     alike-same _ (members-alike q 0 (replicate (g .n) 0) w bs (omega arith))
-    (λ m v a. alike-same _ (numbers-alike (core-numbers g) v (m .rest) (omega (arith, n)))
-    (λ r u b. alike-same _ (shares-alike (g .pairs) [] u r (omega (arith, n)))
-    (λ x t c. rw (end-trimmed t (x .rest) (omega (arith, n))))))
+    (λ m v e a. alike-same _ (numbers-alike (core-numbers g) v (m .rest) (omega (arith, n)))
+    (λ r u e b. alike-same _ (shares-alike (g .pairs) [] u r (omega (arith, n)))
+    (λ x t e c. rw (rest-alike t (x .rest) (omega (arith, n))))))
 
 -- Q is at most N
 ratio-unmet : (n q : ℕ) → refusal (ratio-causes n q) ≡ 0 → q ≤ n
@@ -169,10 +114,10 @@ ratio-unmet n q e = by-test (between 1 n q) (λ t. (simp tests at t) .1) (λ t. 
 read-trimmed : (g : Pairs) (w : ℕ) (bs : List ℕ) → 40 + 24 * g .n + 21 * length (g .pairs) + 1 ≤ w → read-sheet g (take w bs) ≡ read-sheet g bs
 unfolding read-sheet sheet first second third fourth judge passed _>>_ head-form text parted starts-plain span is-place is-digit between
 read-trimmed g w bs h =
-    alike-same _ (due-alike head-form w bs refl (omega arith))
-    (λ l v m. go l v (refusal (ratio-causes (g .n) (second l))) refl m)
+    alike-same _ (line-alike 101 4 head-form w bs refl (omega arith))
+    (λ l v d m. go l v (refusal (ratio-causes (g .n) (second l))) refl m)
   where
-    go : (l : Line) (v k : ℕ) → refusal (ratio-causes (g .n) (second l)) ≡ k → w ≤ v + span head-form →
+    go : (l : Line) (v k : ℕ) → refusal (ratio-causes (g .n) (second l)) ≡ k → w ≤ v + span 4 head-form →
         (do
           passed k
           body ← read-body g (second l) (take v (l .rest))

@@ -8,9 +8,9 @@
 --   Shared, shared-start, shared-small, shared-refused, shared-step, shared-done       share lines
 -- Assumes nothing.
 use mathlib.Core.Path.{_≡_, refl, ap, _∙_}
-use mathlib.Core.Bool.{Bool, true, false, not, _&&_}
+use mathlib.Core.Bool.{Bool, false, not, _&&_}
 use mathlib.Core.List.{List, [], _∷_, _++_}
-use mathlib.Core.Option.{Option, none, some}
+use mathlib.Core.Option.{some}
 use Prim.Native.Nat.{ℕ, zero, suc, _+_, _*_, _-_, _≤_, _<_}
 use native.Mathlib.Omega.{arith}
 use borrow.Author.Tests.{not-false}
@@ -21,20 +21,19 @@ use Rattle.theory.specs.Basics.{mark}
 use Rattle.theory.specs.Lists.{Pair, pair}
 use Rattle.theory.specs.Refusals.{cause, refusal}
 use Rattle.theory.specs.Words.{laid-pairs}
-use Rattle.theory.proofs.Tests.{tests}
+use Rattle.theory.proofs.Tests.{tests, fails}
 use Rattle.theory.proofs.Words.{length-laid, laid-at}
 use Rattle.pairs.proofs.General.{all-at}
-use Rattle.pairfile.specs.Text.{text, between}
-use Rattle.pairfile.specs.Numbers.{Number}
-use Rattle.pairfile.specs.Lines.{Line, first, is-place, places, line-of}
-use Rattle.pairfile.specs.Outcomes.{Outcome, refused, taken, _>>=_, _>>_, passed, judge}
-use Rattle.pairfile.proofs.Taken.{refused-not-taken, taken-same}
-use Rattle.pairfile.proofs.Fills.{small, line-spelled}
+use Rattle.lines.specs.Text.{text, between}
+use Rattle.lines.specs.Numbers.{Number}
+use Rattle.lines.specs.Lines.{Line, first, is-place, places, line-of}
+use Rattle.lines.specs.Outcomes.{Outcome, refused, taken, _>>=_}
+use Rattle.lines.proofs.Taken.{taken-same, line-passed}
+use Rattle.lines.proofs.Fills.{small, line-spelled}
 use Rattle.sheetfile.specs.Sheet.{
   member-form,
   share-form,
   third,
-  due,
   judged-line,
   member-line,
   read-members,
@@ -50,37 +49,28 @@ use Rattle.sheetfile.specs.declared.sheet.Lines.{Lines}
 -- a line that is taken: it is of its form, its own cause is not met, and its number is the one picked
 pub record Accepted-line (form : List ℕ) (test : Line → Bool) (pick : Line → ℕ) (bs : List ℕ) (a : Number) : Type 0 where
   pub line : Line
-  pub found : line-of form bs ≡ some line
+  pub found : line-of 4 form bs ≡ some line
   pub unmet : test line ≡ false
   pub picked : pick line ≡ a .value
 
 pub accepted-line : (form : List ℕ) (k : ℕ) (test : Line → Bool) (pick : Line → ℕ) (bs : List ℕ) (a : Number) →
     judged-line form (λ l. cause (suc k) (test l)) pick bs ≡ taken a → Accepted-line form test pick bs a
-unfolding judged-line due _>>=_ _>>_ judge passed refusal cause
-accepted-line form k test pick bs a e = of-line (line-of form bs) refl e
-  where
-    of-test : (l : Line) → line-of form bs ≡ some l → (t : Bool) → test l ≡ t →
-        (do
-          judge (cause (suc k) t ∷ [])
-          taken (record { value = pick l; rest = l .rest })) ≡ taken a → Accepted-line form test pick bs a
-    of-test l d true f h = absurd (refused-not-taken h)
-    of-test l d false f h = record { line = l; found = d; unmet = f; picked = ap (λ (x : Number). x .value) (taken-same h) }
-
-    of-line : (o : Option Line) → line-of form bs ≡ o →
-        (do
-          l ← due o
-          judge (cause (suc k) (test l) ∷ [])
-          taken (record { value = pick l; rest = l .rest })) ≡ taken a →
-        Accepted-line form test pick bs a
-    of-line none d h = absurd (refused-not-taken h)
-    of-line (some l) d h = of-test l d (test l) refl h
+unfolding judged-line refusal cause
+accepted-line form k test pick bs a e =
+    let p = line-passed 101 4 form bs (λ l. cause (suc k) (test l) ∷ []) (λ l. taken (record { value = pick l; rest = l .rest })) a e in
+    record {
+      line = p .line;
+      found = p .found;
+      unmet = fails (test (p .line)) (λ t. omega (arith, rw t at (p .unmet)));
+      picked = ap (λ (x : Number). x .value) (taken-same (p .then));
+    }
 
 -- a number on a line has at most four digits
-pub line-small : (form bs : List ℕ) (l : Line) (i : ℕ) → line-of form bs ≡ some l → i < places form → getD (l .numbers) i 0 ≤ 9999
+pub line-small : (form bs : List ℕ) (l : Line) (i : ℕ) → line-of 4 form bs ≡ some l → i < places form → getD (l .numbers) i 0 ≤ 9999
 unfolding small
 line-small form bs l i e h =
-    let s = line-spelled form bs l e in
-    simp tests at (all-at small (l .numbers) i 0 (s .short) (omega (arith, s .count)))
+    let s = line-spelled 4 (omega arith) form bs l e in
+    omega (arith, simp tests at (all-at (small 4) (l .numbers) i 0 (s .short) (omega (arith, s .size))))
 
 -- a number that is not 0 is a refusal, and 0 is none
 pub unless-some : {A : Type 0} (k : ℕ) (a : A) → (k ≡ 0 → ⊥) → unless-number k a ≡ refused k

@@ -24,13 +24,13 @@ use Rattle.theory.proofs.Lists.{Listed, listed}
 use Rattle.theory.proofs.Tests.{tests}
 use Rattle.theory.proofs.Bounds.{size-le-length}
 use Rattle.theory.proofs.Groups.{Bits, group-bits}
-use Rattle.pairfile.specs.Text.{text, between}
-use Rattle.pairfile.specs.Numbers.{is-digit}
-use Rattle.pairfile.specs.Lines.{is-place, places, first, second, line-of, filled}
-use Rattle.pairfile.specs.Outcomes.{taken, _>>=_, _>>_, passed, judge}
+use Rattle.lines.specs.Text.{text, between}
+use Rattle.lines.specs.Numbers.{is-digit}
+use Rattle.lines.specs.Lines.{is-place, places, first, second, line-of, filled}
+use Rattle.lines.specs.Outcomes.{taken, _>>=_, _>>_, passed, judge, line-or, line-due}
 use Rattle.pairfile.proofs.Accepts.{accepted}
-use Rattle.pairfile.proofs.Judged.{judge-passed}
-use Rattle.pairfile.proofs.Fills.{small, starts-plain, parted, line-filled}
+use Rattle.lines.proofs.Found.{judge-passed}
+use Rattle.lines.proofs.Fills.{small, starts-plain, parted, line-filled}
 use Rattle.sheetfile.specs.Sheet.{
   head-form,
   member-form,
@@ -38,7 +38,6 @@ use Rattle.sheetfile.specs.Sheet.{
   share-form,
   third,
   fourth,
-  due,
   member-line,
   read-members,
   number-line,
@@ -61,23 +60,26 @@ use Rattle.sheetfile.proofs.BestSheets.{best-writable}
 -- ---- lines that are written
 
 module _ (rest : List ℕ) where
-  member-read : (v : ℕ) → v ≤ 9999 → line-of member-form (filled member-form (v ∷ []) ++ rest) ≡ some (record { numbers = v ∷ []; rest = rest })
+  member-read : (v : ℕ) → v ≤ 9999 → line-of 4 member-form (filled member-form (v ∷ []) ++ rest) ≡ some (record { numbers = v ∷ []; rest = rest })
   unfolding member-form text parted starts-plain is-digit is-place between places mark all small
-  member-read v l = line-filled member-form (v ∷ []) rest refl refl (simp tests (l, refl))
+  member-read v l = line-filled 4 (omega arith) (omega arith) member-form (v ∷ []) rest refl refl (simp tests (omega arith, refl))
 
-  number-read : (c : ℕ) → c ≤ 9999 → line-of number-form (filled number-form (c ∷ []) ++ rest) ≡ some (record { numbers = c ∷ []; rest = rest })
+  number-read : (c : ℕ) → c ≤ 9999 → line-of 4 number-form (filled number-form (c ∷ []) ++ rest) ≡ some (record { numbers = c ∷ []; rest = rest })
   unfolding number-form text parted starts-plain is-digit is-place between places mark all small
-  number-read c l = line-filled number-form (c ∷ []) rest refl refl (simp tests (l, refl))
+  number-read c l = line-filled 4 (omega arith) (omega arith) number-form (c ∷ []) rest refl refl (simp tests (omega arith, refl))
 
   share-read : (a b u : ℕ) → a ≤ 9999 → b ≤ 9999 → u ≤ 9999 →
-      line-of share-form (filled share-form (a ∷ b ∷ u ∷ []) ++ rest) ≡ some (record { numbers = a ∷ b ∷ u ∷ []; rest = rest })
+      line-of 4 share-form (filled share-form (a ∷ b ∷ u ∷ []) ++ rest) ≡ some (record { numbers = a ∷ b ∷ u ∷ []; rest = rest })
   unfolding share-form text parted starts-plain is-digit is-place between places mark all small
-  share-read a b u l m n = line-filled share-form (a ∷ b ∷ u ∷ []) rest refl refl (simp tests (l, (m, (n, refl))))
+  share-read a b u l m n =
+      line-filled 4 (omega arith) (omega arith) share-form (a ∷ b ∷ u ∷ []) rest refl refl (simp tests (omega arith, (omega arith, (omega arith, refl))))
 
   head-read : (p q k c : ℕ) → p ≤ 9999 → q ≤ 9999 → k ≤ 9999 → c ≤ 9999 →
-      line-of head-form (filled head-form (p ∷ q ∷ k ∷ c ∷ []) ++ rest) ≡ some (record { numbers = p ∷ q ∷ k ∷ c ∷ []; rest = rest })
+      line-of 4 head-form (filled head-form (p ∷ q ∷ k ∷ c ∷ []) ++ rest) ≡ some (record { numbers = p ∷ q ∷ k ∷ c ∷ []; rest = rest })
   unfolding head-form text parted starts-plain is-digit is-place between places mark all small
-  head-read p q k c l m n o = line-filled head-form (p ∷ q ∷ k ∷ c ∷ []) rest refl refl (simp tests (l, (m, (n, (o, refl)))))
+  head-read p q k c l m n o =
+      line-filled 4 (omega arith) (omega arith) head-form (p ∷ q ∷ k ∷ c ∷ []) rest refl refl
+      (simp tests (omega arith, (omega arith, (omega arith, (omega arith, refl)))))
 
 -- ---- the parts
 
@@ -146,7 +148,7 @@ shares-back n few (p ∷ ps) acc (x ∷ xs) e r h =
 -- ---- the whole
 
 pub sheet-back : Sheet-back
-unfolding Sheet-back sheet-file read-sheet read-body due judge passed refusal cause ratio-causes rest-causes between
+unfolding Sheet-back sheet-file read-sheet read-body line-due line-or judge passed refusal cause ratio-causes rest-causes between
     _>>=_ _>>_ sheet first second third fourth is-group
 sheet-back g s l w =
     let k : Listed g = listed g l in

@@ -22,8 +22,8 @@ use Rattle.theory.specs.Cores.{core-numbers}
 use Rattle.theory.specs.Splits.{rounded-up}
 use Rattle.verify.specs.declared.Verdict.{Verdict}
 use Rattle.verify.specs.Answers.{refused-by}
-use Rattle.pairfile.specs.Numbers.{Number}
-use Rattle.pairfile.specs.Outcomes.{Outcome, refused, taken}
+use Rattle.lines.specs.Numbers.{Number}
+use Rattle.lines.specs.Outcomes.{Outcome, refused, taken}
 use Rattle.sheetfile.specs.Sheet.{Part, Body, Sheet}
 use Rattle.sheetfile.specs.declared.sheet.OneLine.{OneLine}
 use Rattle.sheetfile.specs.declared.sheet.Lines.{Lines}

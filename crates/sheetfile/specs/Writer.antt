@@ -18,8 +18,8 @@ use Rattle.theory.specs.Splits.{rounded-up}
 use Rattle.theory.specs.Promise.{Optimal}
 use Rattle.pairfile.specs.File.{read-file}
 use Rattle.sheetfile.specs.Audit.{audit}
-use Rattle.pairfile.specs.Lines.{filled}
-use Rattle.pairfile.specs.Outcomes.{taken}
+use Rattle.lines.specs.Lines.{filled}
+use Rattle.lines.specs.Outcomes.{taken}
 use Rattle.sheetfile.specs.Sheet.{head-form, member-form, number-form, share-form, Sheet, read-sheet}
 
 -- a line for each member byte that is 1; the first byte is module v's

@@ -6,10 +6,10 @@ ghost use lib.ListN.{length, drop};
 ghost use Rattle.theory.specs.Words.{laid-pairs, laid-list, Holds-list};
 ghost use Rattle.sheetfile.specs.Sheet.{member-line, number-line, share-line, read-members, read-numbers, read-shares, read-body, read-sheet};
 ghost use Rattle.sheetfile.specs.Answers.{LineRead, PartRead, NumbersRead, Beside, BodyRead, SheetRead};
-use pairfile::FoundLine;
-use pairfile::FoundNumber;
-use pairfile::count_at;
-use pairfile::line_at;
+use lines::FoundLine;
+use lines::FoundNumber;
+use lines::line_at;
+use lines::one_number_at;
 
 // A line: its refusal number or 0, a number on it, and where it ends.
 struct OneLine {
@@ -48,7 +48,7 @@ fn member_line(bytes: &[u8], at: usize, n: usize, low: u32) -> OneLine
     requires { ⌜ at ≤ length (now bytes) ⌝ }
     ensures { λ r. ⌜ LineRead (now (bytes .entry)) (member-line n low (drop at (now (bytes .entry)))) r ⌝ }
 {
-    match count_at(bytes, at, b"member=A\n") {
+    match one_number_at(bytes, at, b"member=A\n", 4) {
         FoundNumber::Missing => refused_line(101),
         FoundNumber::Number { value, next } => {
             if value < low || n <= value as usize {
@@ -68,7 +68,7 @@ fn number_line(bytes: &[u8], at: usize, c: u32) -> OneLine
     requires { ⌜ at ≤ length (now bytes) ⌝ }
     ensures { λ r. ⌜ LineRead (now (bytes .entry)) (number-line c (drop at (now (bytes .entry)))) r ⌝ }
 {
-    match count_at(bytes, at, b"number=C\n") {
+    match one_number_at(bytes, at, b"number=C\n", 4) {
         FoundNumber::Missing => refused_line(101),
         FoundNumber::Number { value, next } => {
             if value != c {
@@ -89,7 +89,7 @@ fn share_line(bytes: &[u8], at: usize, a: u32, b: u32) -> OneLine
     ensures { λ r. ⌜ LineRead (now (bytes .entry)) (share-line a b (drop at (now (bytes .entry)))) r ⌝ }
 {
     let mut numbers = [0u32; 3];
-    match line_at(bytes, at, b"share=A,B,U\n", &mut numbers) {
+    match line_at(bytes, at, b"share=A,B,U\n", 4, &mut numbers) {
         FoundLine::Malformed => refused_line(101),
         FoundLine::Line { next } => {
             if numbers[0] != a || numbers[1] != b {
@@ -237,7 +237,13 @@ pub(crate) fn read_sheet(
         (now (members .exit)) (now (shares .exit)) r ⌝ }
 {
     let mut numbers = [0u32; 4];
-    match line_at(bytes, 0, b"status=0\nratio=P/Q\ncore=K,C\n", &mut numbers) {
+    match line_at(
+        bytes,
+        0,
+        b"status=0\nratio=P/Q\ncore=K,C\n",
+        4,
+        &mut numbers,
+    ) {
         FoundLine::Malformed => refused_head(101),
         FoundLine::Line { next } => {
             let q = numbers[1] as usize;

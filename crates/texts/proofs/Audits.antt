@@ -7,8 +7,8 @@ use mathlib.Core.List.{List, [], _∷_}
 use Prim.Native.Nat.{ℕ, _≤_}
 use native.Mathlib.Omega.{arith}
 use Rattle.theory.proofs.Bounds.{size-bound}
-use Rattle.pairfile.specs.Outcomes.{Outcome, refused, taken}
-use Rattle.pairfile.specs.Lines.{filled}
+use Rattle.lines.specs.Outcomes.{Outcome, refused, taken}
+use Rattle.lines.specs.Lines.{filled}
 use Rattle.pairfile.proofs.Accepts.{accepted}
 use Rattle.verify.specs.declared.Verdict.{Verdict}
 use Rattle.sheetfile.specs.Sheet.{Sheet}

@@ -19,14 +19,13 @@ use Rattle.theory.proofs.Cases.{starred-cases}
 use Rattle.theory.proofs.Promises.{found-alone}
 use Rattle.pairs.specs.Held.{same-ends, is-held, insert-pair, smaller-first-pair}
 use Rattle.pairs.specs.Causes.{module-unknown, self-paired, pair-causes}
-use Rattle.pairfile.specs.Text.{text, between}
-use Rattle.pairfile.specs.Numbers.{is-digit, digits, is-number, value-on, value, number-of, spell, spelled}
-use Rattle.pairfile.specs.Lines.{modules-form, pairs-form, pair-form, is-place, first, second, with-numbers, after-number, after-byte, line-of, filled}
-use Rattle.pairfile.specs.Outcomes.{taken, _>>=_, _>>_, passed, judge}
+use Rattle.lines.specs.Text.{text, between}
+use Rattle.lines.specs.Numbers.{is-digit, digits, is-number, value-on, value, number-of, spell, spelled}
 use Rattle.pairfile.specs.File.{
-  line-or-1,
-  line-due,
-  count-line,
+  modules-form,
+  pairs-form,
+  pair-form,
+  head-line,
   modules-causes,
   modules-line,
   pairs-causes,
@@ -37,6 +36,8 @@ use Rattle.pairfile.specs.File.{
   read-pairs,
   read-file,
 }
+use Rattle.lines.specs.Lines.{is-place, first, second, with-numbers, after-number, after-byte, line-of, filled}
+use Rattle.lines.specs.Outcomes.{taken, _>>=_, _>>_, passed, judge, line-or, line-due}
 use Rattle.sheetfile.specs.Sheet.{head-form, member-form}
 use Rattle.sheetfile.specs.Writer.{member-lines}
 use Rattle.texts.specs.Texts.{group-text}
@@ -46,7 +47,7 @@ use Rattle.texts.specs.Example.{tail-file, tail-text, Tail-printed}
 tail-named : read-file 4096 tail-file ≡ taken tail
 unfolding tail-file tail of-modules pair stands-before cause refusal same-ends is-held insert-pair smaller-first-pair module-unknown self-paired pair-causes
     text between is-digit digits is-number value-on value number-of modules-form pairs-form pair-form is-place first second with-numbers after-number after-byte
-    line-of _>>=_ _>>_ passed judge line-or-1 line-due count-line modules-causes modules-line pairs-causes pairs-line pair-line-causes pair-line end-causes
+    line-of _>>=_ _>>_ passed judge line-or line-due head-line modules-causes modules-line pairs-causes pairs-line pair-line-causes pair-line end-causes
     read-pairs read-file
 tail-named = refl
 

@@ -2,36 +2,32 @@
 --   prints                                       a right text that has been written
 --   group-first                                  Group-first: a sheet's text begins with the group's
 --   refusal-due                                  a refused file
---   modules-few, group-spelled, group-length, group-due      the group of a file that names a list
---   pairs-few, sheet-spelled, sheet-length, sheet-due        and its sheet
+--   modules-few, answer-length, group-due        the group of a file that names a list
+--   pairs-few, lines-length, sheet-due           and its sheet
 -- Assumes nothing.
 use mathlib.Core.Path.{_≡_, refl, sym, ap, _∙_}
 use mathlib.Core.Bool.{true}
-use mathlib.Core.List.{List, [], _∷_, append-assoc}
+use mathlib.Core.List.{List, append-assoc}
 use Prim.Native.Nat.{ℕ, _≤_}
 use native.Mathlib.Omega.{arith}
-use lib.ListN.{length, take, length-append, length-take}
+use lib.ListN.{length, take}
 use lib.Seq.{length-take-le, take-at}
-use Rattle.theory.specs.Lists.{Pairs, ends-in-range, is-list}
+use Rattle.theory.specs.Lists.{Pairs, is-list}
 use Rattle.theory.specs.Groups.{inside, size, Found}
 use Rattle.theory.specs.Cores.{core-number, core-numbers}
 use Rattle.theory.specs.Promise.{Optimal, Split-there}
 use Rattle.theory.specs.Words.{laid-pairs}
-use Rattle.theory.proofs.Bounds.{size-bound}
 use Rattle.theory.proofs.Lists.{Listed, listed}
 use Rattle.theory.proofs.Tables.{length-table}
-use Rattle.theory.proofs.Tests.{tests}
-use Rattle.theory.proofs.Words.{length-laid}
 use Rattle.theory.proofs.Duality.{optimal}
 use Rattle.theory.proofs.Promises.{split-there}
-use Rattle.pairs.proofs.General.{all-weaker}
-use Rattle.pairfile.specs.Outcomes.{Outcome, refused, taken}
+use Rattle.lines.specs.Outcomes.{Outcome, refused, taken}
 use Rattle.pairfile.specs.File.{read-file}
 use Rattle.pairfile.proofs.Accepts.{accepted}
-use Rattle.pairfile.proofs.Readings.{file-numbered}
+use Rattle.pairfile.proofs.Readings.{file-numbers}
 use Rattle.kandurzo.specs.Buffers.{in-front}
-use Rattle.writing.specs.Putting.{Puts}
-use Rattle.writing.proofs.Putting.{puts-length, puts-front}
+use Rattle.lines.specs.Putting.{Puts}
+use Rattle.lines.proofs.Putting.{puts-length, puts-front}
 use Rattle.sheetfile.specs.Writer.{sheet-file, Writable, Accepts-back}
 use Rattle.sheetfile.specs.Audit.{audit}
 use Rattle.sheetfile.proofs.BestSheets.{best-writable}
@@ -40,8 +36,8 @@ use Rattle.answer.specs.declared.Answer.{Answer}
 use Rattle.answer.specs.Answers.{refusal-of, solved-of, Sheeted, Answers}
 use Rattle.answer.proofs.Answering.{answers}
 use Rattle.texts.specs.Texts.{refusal-text, group-text, certificate, Group-first}
-use Rattle.texts.specs.Contracts.{Prints, Of-file, Group-due, Sheet-due, answer-lines, sheet-lines, Spelled, Sheet-spelled}
-use Rattle.texts.proofs.Lengths.{head-length, members-length, numbers-length, shares-length}
+use Rattle.texts.specs.Contracts.{Prints, Of-file, Group-due, Sheet-due, answer-lines, sheet-lines}
+use Rattle.texts.proofs.Lengths.{group-length, sheet-length}
 
 pub prints : {Right : List ℕ → Type 0} {text out out′ : List ℕ} {r : ℕ} → Right text → Puts text out 0 out′ r → length text ≤ length out →
     Prints Right out out′ r
@@ -88,7 +84,7 @@ module _ {file members : List ℕ} {r : Answer} {members′ : List ℕ} (a : Ans
   named z = go (read-file 4096 file) refl
     where
       go : (o : Outcome Pairs) → read-file 4096 file ≡ o → (g : Pairs) × (read-file 4096 file ≡ taken g)
-      go (refused k) e = absurd (file-numbered 4096 file k e (sym (refused-by k e) ∙ z))
+      go (refused k) e = absurd (omega (arith, file-numbers 4096 file k e, refused-by k e, z))
       go (taken g) e = (g, e)
 
   pub refusal-due : {Due : Pairs → List ℕ → Type 0} → (r .number ≡ 0 → ⊥) → Of-file file Due (refusal-text (r .number))
@@ -112,35 +108,22 @@ module _ {file members : List ℕ} {r : Answer} {members′ : List ℕ} (a : Ans
         let b = a .taken g e in
         rw (b .modules-there, b .core-size, b .order, b .inside-count, b .modules)
 
-    spelled-as : Spelled r (take (r .n) members′)
-    unfolding certificate
-    spelled-as =
-        let b = a .taken g e in
-        let best = found-best g group list (b .found) in
+    text-length : length (answer-lines r (take (r .n) members′)) ≤ 6184
+    unfolding group-text certificate
+    text-length =
+        let best = found-best g group list (a .taken g e .found) in
         let w = certificate-writable file g group (best .0) e (best .1) in
-        record {
-          p = omega (arith, b .inside-count, w .head-digits .0);
-          q = omega (arith, b .modules, size-bound g group list (b .found .group));
-          k = rw (b .order, b .inside-count, b .modules) (w .head-digits .1);
-          coresize = rw (b .core-size, b .order, b .inside-count, b .modules) (w .head-digits .2);
-          few = simp length-take (omega (arith, n-few));
-        }
+        rw lines-as (omega (arith, group-length g (certificate g group (best .0)) list w, listed g list .few))
 
   module _ (z : r .number ≡ 0) where
     pub modules-few : r .n ≤ 512
     modules-few = let g = named z in n-few (g .0) (g .1)
 
-    pub group-spelled : Spelled r (take (r .n) members′)
-    group-spelled = let g = named z in spelled-as (g .0) (g .1)
-
-    pub group-length : length (answer-lines r (take (r .n) members′)) ≤ 6184
-    unfolding answer-lines
-    group-length =
-        simp length-append
-        (omega (arith, head-length (r .p ∷ r .q ∷ r .k ∷ r .coresize ∷ []), members-length 0 (take (r .n) members′), group-spelled .few))
+    pub answer-length : length (answer-lines r (take (r .n) members′)) ≤ 6184
+    answer-length = let g = named z in text-length (g .0) (g .1)
 
     not-refused : (k : ℕ) → read-file 4096 file ≡ refused k → ⊥
-    not-refused k e = file-numbered 4096 file k e (sym (refused-by k e) ∙ z)
+    not-refused k e = omega (arith, file-numbers 4096 file k e, refused-by k e, z)
 
     pub group-due : Of-file file Group-due (answer-lines r (take (r .n) members′))
     group-due = record {
@@ -190,20 +173,6 @@ module _ {file members cores shares words : List ℕ} {r : Answer} {members′ c
     written : Writable g (certificate g members-of shares-of)
     written = certificate-writable file g members-of shares-of e own
 
-    sheet-spelled-as : Sheet-spelled r (take (r .n) members′) (take (r .n) cores′) words′ (take (r .m) shares′)
-    unfolding certificate ends-in-range
-    sheet-spelled-as = record {
-      group = spelled-as (answers s) g e;
-      numbers = rw cores-as (written .numbers-digits);
-      pairs = record {
-        long = omega (arith, shares-count, m-few, words-long);
-        ends-few = rw pairs-as
-            (all-weaker (ends-in-range (g .n)) (ends-in-range 512)
-            (λ p t. let u = simp tests at t in simp tests (omega (arith, u .0, held .few), omega (arith, u .1, held .few))) (g .pairs) (held .ends));
-        shares-digits = rw (s .taken g e .pairs) (written .shares-digits);
-      };
-    }
-
     due-of : Sheet-due file g (sheet-lines r (take (r .n) members′) (take (r .n) cores′) words′ (take (r .m) shares′))
     unfolding solved-of Accepts-back
     due-of =
@@ -222,27 +191,11 @@ module _ {file members cores shares words : List ℕ} {r : Answer} {members′ c
     pub pairs-few : r .m ≤ 4096
     pairs-few = let g = named (answers s) z in m-few (g .0) (g .1)
 
-    pub sheet-spelled : Sheet-spelled r (take (r .n) members′) (take (r .n) cores′) words′ (take (r .m) shares′)
-    sheet-spelled = let g = named (answers s) z in sheet-spelled-as (g .0) (g .1)
-
-    pub sheet-length : length (sheet-lines r (take (r .n) members′) (take (r .n) cores′) words′ (take (r .m) shares′)) ≤ 100000
-    unfolding sheet-lines
-    sheet-length =
-        let xs = take (r .m) shares′ in
-        let ps = laid-pairs (length xs) words′ in
+    pub lines-length : length (sheet-lines r (take (r .n) members′) (take (r .n) cores′) words′ (take (r .m) shares′)) ≤ 98344
+    lines-length =
         let g = named (answers s) z in
-        let cores-few : length (take (r .n) cores′) ≤ 512 = simp length-take (omega (arith, modules-few (answers s) z)) in
-        simp length-append
-        (omega (
-          arith,
-          group-length (answers s) z,
-          numbers-length (take (r .n) cores′),
-          cores-few,
-          shares-length ps xs,
-          length-laid (length xs) words′,
-          shares-count (g .0) (g .1),
-          pairs-few,
-        ))
+        let best = certificate (g .0) (members-of (g .0) (g .1)) (shares-of (g .0) (g .1)) in
+        rw (sheet-as (g .0) (g .1)) (sheet-length (g .0) best (accepted 4096 file (g .0) (g .1) .list) (written (g .0) (g .1)))
 
     pub sheet-due : Of-file file (Sheet-due file) (sheet-lines r (take (r .n) members′) (take (r .n) cores′) words′ (take (r .m) shares′))
     sheet-due = record { taken = due-of; refused = λ k e. absurd (not-refused (answers s) z k e) }

@@ -17,11 +17,11 @@ use lib.Seq.{drop-cons}
 use Rattle.theory.specs.Lists.{Pair, pair}
 use Rattle.theory.specs.Words.{laid-pairs}
 use Rattle.theory.proofs.Words.{length-laid, laid-at}
-use Rattle.pairfile.specs.Text.{text}
-use Rattle.pairfile.specs.Numbers.{spell}
-use Rattle.pairfile.specs.Lines.{filled}
-use Rattle.writing.specs.Putting.{Puts}
-use Rattle.writing.proofs.Parts.{Left, left-start, left-step}
+use Rattle.lines.specs.Text.{text}
+use Rattle.lines.specs.Numbers.{spelled}
+use Rattle.lines.specs.Lines.{filled}
+use Rattle.lines.specs.Putting.{Puts}
+use Rattle.lines.proofs.Parts.{Left, left-start, left-step}
 use Rattle.sheetfile.specs.Sheet.{head-form, member-form, number-form, share-form}
 use Rattle.sheetfile.specs.Writer.{member-lines, number-lines, share-lines}
 use Rattle.answer.specs.declared.Answer.{Answer}
@@ -71,12 +71,12 @@ module _ (words shares : List ℕ) (j : ℕ) where
 -- ---- a text's parts one behind the other
 
 module _ (k : ℕ) {out out₁ : List ℕ} {i : ℕ} (h : 18 ≤ length out) (p : Puts (text "status=") out 0 out₁ i) where
-  pub refusal-left : Left (refusal-text k) out 0 (spell 9 k ++ text "\n") out₁ i
+  pub refusal-left : Left (refusal-text k) out 0 (spelled k ++ text "\n") out₁ i
   unfolding refusal-text
   refusal-left = left-step (left-start (refusal-text k) out 0 (omega (arith, refusal-length k))) (text "status=") _ refl p
 
-  pub refusal-end : {out₂ : List ℕ} {j : ℕ} → Puts (spell 9 k) out₁ i out₂ j → Left (refusal-text k) out 0 (text "\n") out₂ j
-  refusal-end q = left-step refusal-left (spell 9 k) _ refl q
+  pub refusal-end : {out₂ : List ℕ} {j : ℕ} → Puts (spelled k) out₁ i out₂ j → Left (refusal-text k) out 0 (text "\n") out₂ j
+  refusal-end q = left-step refusal-left (spelled k) _ refl q
 
 pub members-left : (r : Answer) (s : List ℕ) {out out₁ : List ℕ} {i : ℕ} → length (answer-lines r s) ≤ length out →
     Puts (filled head-form (r .p ∷ r .q ∷ r .k ∷ r .coresize ∷ [])) out 0 out₁ i → Left (answer-lines r s) out 0 (member-lines 0 s) out₁ i

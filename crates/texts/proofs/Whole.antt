@@ -2,12 +2,11 @@
 --   group-read, sheet-read, audit-read     Group-read, Sheet-read, Audit-read, in a buffer that has room for every byte that decides
 --   sheet-answered                         Sheet-answered: `audit` accepts what `sheet` prints
 -- Assumes nothing.
-use mathlib.Core.Path.{_≡_, sym, ap, _∙_}
+use mathlib.Core.Path.{_≡_, ap, _∙_}
 use mathlib.Core.List.{List}
 use Prim.Native.Nat.{ℕ, _≤_}
 use lib.ListN.{length, take}
 use Rattle.theory.specs.Lists.{Pairs}
-use Rattle.pairfile.specs.Outcomes.{_>>=_}
 use Rattle.pairfile.specs.File.{read-file}
 use Rattle.pairfile.specs.Promise.{Read-first}
 use Rattle.pairfile.proofs.Promises.{reads-first}

@@ -8,26 +8,24 @@
 --   Group-read, Sheet-read, Audit-read    what is right of whatever files were read
 --   Sheet-answered             what `audit` prints of it; the theorem is `sheet-answered`
 --   answer-lines, sheet-lines  the lines by the answer to a pair file and the buffers beside it
---   Spelled, Pairs-spelled, Sheet-spelled    numbers that a line can hold
 -- Assumes nothing: these are definitions.
 use mathlib.Core.Path.{_≡_}
 use mathlib.Core.Bool.{true}
 use mathlib.Core.List.{List, [], _∷_, _++_}
-use Prim.Native.Nat.{ℕ, _*_, _≤_}
+use Prim.Native.Nat.{ℕ, _≤_}
 use lib.ListN.{length, take}
-use Rattle.theory.specs.Basics.{all}
-use Rattle.theory.specs.Lists.{Pairs, ends-in-range}
+use Rattle.theory.specs.Lists.{Pairs}
 use Rattle.theory.specs.Groups.{inside, size, Found}
 use Rattle.theory.specs.Splits.{core-order, outside-good}
 use Rattle.theory.specs.Promise.{Optimal}
 use Rattle.theory.specs.Words.{laid-pairs}
-use Rattle.pairfile.specs.Outcomes.{refused, taken}
+use Rattle.lines.specs.Outcomes.{refused, taken}
 use Rattle.pairfile.specs.File.{read-file}
-use Rattle.writing.specs.Putting.{Puts}
+use Rattle.lines.specs.Putting.{Puts}
 use Rattle.sheetfile.specs.Audit.{audit}
-use Rattle.pairfile.specs.Lines.{filled}
+use Rattle.lines.specs.Lines.{filled}
 use Rattle.sheetfile.specs.Sheet.{head-form}
-use Rattle.sheetfile.specs.Writer.{member-lines, number-lines, share-lines, sheet-file, four-digits}
+use Rattle.sheetfile.specs.Writer.{member-lines, number-lines, share-lines, sheet-file}
 use Rattle.answer.specs.declared.Answer.{Answer}
 use Rattle.texts.specs.Texts.{refusal-text, group-text, certificate, accepted-form, audit-text}
 
@@ -99,23 +97,3 @@ answer-lines r s = filled head-form (r .p ∷ r .q ∷ r .k ∷ r .coresize ∷ 
 -- and of the buffers beside it: the core numbers, the pairs in words, the shares
 unfoldable pub sheet-lines : Answer → (members cores words shares : List ℕ) → List ℕ
 sheet-lines r s cs ws xs = answer-lines r s ++ (number-lines cs ++ share-lines (laid-pairs (length xs) ws) xs)
-
--- the head's numbers have at most four digits, and so has each module's
-pub record Spelled (r : Answer) (members : List ℕ) : Type 0 where
-  pub p : r .p ≤ 9999
-  pub q : r .q ≤ 9999
-  pub k : r .k ≤ 9999
-  pub coresize : r .coresize ≤ 9999
-  pub few : length members ≤ 512
-
--- pairs in words, each end below 512, and shares of at most four digits
-pub record Pairs-spelled (words shares : List ℕ) : Type 0 where
-  pub long : 2 * length shares ≤ length words
-  pub ends-few : all (ends-in-range 512) (laid-pairs (length shares) words) ≡ true
-  pub shares-digits : four-digits shares
-
--- all of them
-pub record Sheet-spelled (r : Answer) (members cores words shares : List ℕ) : Type 0 where
-  pub group : Spelled r members
-  pub numbers : four-digits cores
-  pub pairs : Pairs-spelled words shares

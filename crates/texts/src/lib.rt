@@ -7,32 +7,21 @@
 ghost use mathlib.Core.Path.{_≡_};
 ghost use mathlib.Core.Bool.{cond};
 ghost use mathlib.Core.List.{[], _∷_};
-ghost use Prim.Native.Nat.{_+_, _≤_};
+ghost use Prim.Native.Nat.{_+_, _*_, _≤_, _<_};
 ghost use lib.Dec.{eqb};
 ghost use lib.ListN.{length};
 ghost use Rattle.theory.specs.Words.{laid-pairs};
-ghost use Rattle.pairfile.specs.Lines.{filled};
-ghost use Rattle.writing.specs.Putting.{Puts};
+ghost use Rattle.lines.specs.Lines.{filled};
+ghost use Rattle.lines.specs.Putting.{Puts};
 ghost use Rattle.sheetfile.specs.Sheet.{member-form};
-ghost use Rattle.sheetfile.specs.Writer.{member-lines, number-lines, share-lines, four-digits};
+ghost use Rattle.sheetfile.specs.Writer.{member-lines, number-lines, share-lines};
 ghost use Rattle.texts.specs.Texts.{refusal-text};
-ghost use Rattle.texts.specs.Contracts.{
-  Prints,
-  Room,
-  Group-read,
-  Sheet-read,
-  Audit-read,
-  Spelled,
-  Pairs-spelled,
-  Sheet-spelled,
-  answer-lines,
-  sheet-lines,
-};
+ghost use Rattle.texts.specs.Contracts.{Prints, Room, Group-read, Sheet-read, Audit-read, answer-lines, sheet-lines};
 use answer::Answer;
 use answer::sheet_file;
 use answer::solve_file;
-use writing::write_line;
-use writing::write_number;
+use lines::write_line;
+use lines::write_number;
 
 // The status line of a refusal.
 fn write_refusal(number: u32, out: &mut [u8]) -> usize
@@ -46,7 +35,7 @@ fn write_refusal(number: u32, out: &mut [u8]) -> usize
 
 // The line of module v, if its member byte is 1.
 fn write_member(v: usize, byte: u8, out: &mut [u8], at: usize) -> usize
-    requires { ⌜ v ≤ 9999 ⌝ }
+    requires { ⌜ v < 512 ⌝ }
     requires { ⌜ at + length (cond (eqb byte 1) (filled member-form (v ∷ [])) []) ≤ length (now out) ⌝ }
     ensures { λ r. ⌜ Puts (cond (eqb byte 1) (filled member-form (v ∷ [])) []) (now (out .entry)) at (now (out .exit)) r ⌝ }
 {
@@ -74,7 +63,6 @@ fn write_members(members: &[u8], out: &mut [u8], at: usize) -> usize
 
 // A line for each core number.
 fn write_numbers(cores: &[u16], out: &mut [u8], at: usize) -> usize
-    requires { ⌜ four-digits (now cores) ⌝ }
     requires { ⌜ at + length (number-lines (now cores)) ≤ length (now out) ⌝ }
     ensures { λ r. ⌜ Puts (number-lines (now (cores .entry))) (now (out .entry)) at (now (out .exit)) r ⌝ }
 {
@@ -90,7 +78,7 @@ fn write_numbers(cores: &[u16], out: &mut [u8], at: usize) -> usize
 
 // A line for each pair, with its share.
 fn write_shares(words: &[u32], shares: &[u16], out: &mut [u8], at: usize) -> usize
-    requires { ⌜ Pairs-spelled (now words) (now shares) ⌝ }
+    requires { ⌜ 2 * length (now shares) ≤ length (now words) ⌝ }
     requires { ⌜ at + length (share-lines (laid-pairs (length (now shares)) (now words)) (now shares)) ≤ length (now out) ⌝ }
     ensures { λ r. ⌜ Puts (share-lines (laid-pairs (length (now (shares .entry))) (now (words .entry))) (now (shares .entry))) (now (out .entry)) at
         (now (out .exit)) r ⌝ }
@@ -107,7 +95,7 @@ fn write_shares(words: &[u32], shares: &[u16], out: &mut [u8], at: usize) -> usi
 
 // The found group's lines.
 fn write_group(found: Answer, members: &[u8], out: &mut [u8]) -> usize
-    requires { ⌜ Spelled found (now members) ⌝ }
+    requires { ⌜ length (now members) ≤ 512 ⌝ }
     requires { ⌜ length (answer-lines found (now members)) ≤ length (now out) ⌝ }
     ensures { λ r. ⌜ Puts (answer-lines found (now (members .entry))) (now (out .entry)) 0 (now (out .exit)) r ⌝ }
 {
@@ -125,7 +113,8 @@ fn write_sheet(
     shares: &[u16],
     out: &mut [u8],
 ) -> usize
-    requires { ⌜ Sheet-spelled found (now members) (now cores) (now words) (now shares) ⌝ }
+    requires { ⌜ length (now members) ≤ 512 ⌝ }
+    requires { ⌜ 2 * length (now shares) ≤ length (now words) ⌝ }
     requires { ⌜ length (sheet-lines found (now members) (now cores) (now words) (now shares)) ≤ length (now out) ⌝ }
     ensures { λ r. ⌜ Puts (sheet-lines found (now (members .entry)) (now (cores .entry)) (now (words .entry)) (now (shares .entry))) (now (out .entry)) 0
         (now (out .exit)) r ⌝ }

@@ -2,7 +2,7 @@
 use native.Mathlib.Omega.{arith}
 use borrow.Author.Tests.{le-leb, lt-leb}
 use Rattle.theory.specs.Refusals.{cause, refusal, if-taken}
-use Rattle.pairfile.specs.Text.{between}
+use Rattle.lines.specs.Text.{between}
 use Rattle.pairfile.specs.File.{modules-causes}
 use Rattle.kandurzo.specs.Listing.{started, head-of}
 use Rattle.kandurzo.proofs.kandurzo_start.Statement.{statement}

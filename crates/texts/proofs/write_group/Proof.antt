@@ -1,10 +1,9 @@
 -- `write_group` meets its contract: the head, then the members. Assumes nothing.
 use native.Mathlib.Omega.{arith}
-use Rattle.pairfile.specs.Text.{text}
+use Rattle.lines.specs.Text.{text}
 use Rattle.sheetfile.specs.Sheet.{head-form}
 use Rattle.texts.specs.Contracts.{answer-lines}
 use lib.ListN.{length-append}
-use Rattle.texts.proofs.Lengths.{no-more, and-small}
 use Rattle.texts.proofs.Lines.{members-left}
 use borrow.Author.Needs.{needs}
 use Rattle.texts.proofs.write_group.Statement.{statement}
@@ -18,17 +17,14 @@ write-line-requires : tie.Need-write-line-requires
 unfolding answer-lines head-form text
 write-line-requires c κs =
     let start = c .before .before .before .before .before in
-    let s = start .pre .0 in (
-      and-small _ (s .p) (and-small _ (s .q) (and-small _ (s .k) (and-small _ (s .coresize) no-more))) .each,
-      omega (arith, simp length-append at (start .pre .1)),
-    )
+    omega (arith, simp length-append at (start .pre .1))
 
 write-members-requires : tie.Need-write-members-requires
 unfolding head-form text
 write-members-requires c κs =
     let w = c .before .before .before in
     let start = begin w in
-    (start .pre .0 .few, members-left (start .args .found) _ (start .pre .1) (w .write-line .ensures) .room)
+    (start .pre .0, members-left (start .args .found) _ (start .pre .1) (w .write-line .ensures) .room)
 
 returns : tie.Need-returns
 unfolding head-form text

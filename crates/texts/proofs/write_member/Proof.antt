@@ -1,9 +1,8 @@
 -- `write_member` meets its contract: a line, or nothing. Assumes nothing.
 use borrow.Author.Tests.{eq-eqb, ne-eqb}
-use Rattle.pairfile.specs.Text.{text}
-use Rattle.writing.proofs.Putting.{puts-none}
+use Rattle.lines.specs.Text.{text}
+use Rattle.lines.proofs.Putting.{puts-none}
 use Rattle.sheetfile.specs.Sheet.{member-form}
-use Rattle.texts.proofs.Lengths.{no-more, and-small}
 use borrow.Author.Needs.{needs}
 use Rattle.texts.proofs.write_member.Statement.{statement}
 use Rattle.texts.proofs.write_member.Tie as tie
@@ -15,7 +14,7 @@ write-line-requires : tie.Need-write-line-requires
 unfolding member-form text
 write-line-requires c κs =
     let start = c .before .before .before .before .before in
-    (and-small _ (start .pre .0) no-more .each, rw (eq-eqb _ _ (c .before .before .before .if1 .left)) at (start .pre .1))
+    rw (eq-eqb _ _ (c .before .before .before .if1 .left)) at (start .pre .1)
 
 returns-2 : tie.Need-returns-2
 unfolding member-form text

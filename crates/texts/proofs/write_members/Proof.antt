@@ -3,7 +3,7 @@ use Prim.Native.Nat.{_-_}
 use native.Mathlib.Omega.{arith}
 use lib.ListN.{length, drop, length-append}
 use Rattle.sheetfile.specs.Writer.{member-lines}
-use Rattle.writing.proofs.Parts.{Left, left-start, left-step, left-done}
+use Rattle.lines.proofs.Parts.{Left, left-start, left-step, left-done}
 use Rattle.texts.proofs.Lines.{next-member, no-member}
 use borrow.Author.Needs.{needs}
 use Rattle.texts.proofs.write_members.Statement.{statement}

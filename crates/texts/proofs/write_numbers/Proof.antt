@@ -2,11 +2,10 @@
 use Prim.Native.Nat.{_-_}
 use native.Mathlib.Omega.{arith}
 use lib.ListN.{length, drop, length-append}
-use Rattle.pairfile.specs.Text.{text}
+use Rattle.lines.specs.Text.{text}
 use Rattle.sheetfile.specs.Sheet.{number-form}
 use Rattle.sheetfile.specs.Writer.{number-lines}
-use Rattle.texts.proofs.Lengths.{no-more, and-small, small-at}
-use Rattle.writing.proofs.Parts.{Left, left-start, left-step, left-done}
+use Rattle.lines.proofs.Parts.{Left, left-start, left-step, left-done}
 use Rattle.texts.proofs.Lines.{next-number, no-number}
 use borrow.Author.Needs.{needs}
 use Rattle.texts.proofs.write_numbers.Statement.{statement}
@@ -19,20 +18,18 @@ abbrev μ-loop : tie.MeasureT-loop
 μ-loop cores out₀ at i₀ v₀ t7 out i v = length cores - v
 
 loop-holds : tie.Need-loop-holds Inv-loop μ-loop
-loop-holds c = left-start _ _ _ (c .before .before .pre .1)
+loop-holds c = left-start _ _ _ (c .before .before .pre)
 
 cast-t12 : tie.Need-cast-t12 Inv-loop μ-loop
-cast-t12 c = omega (arith, small-at _ (c .before .before .before .before .before .pre .0) (c .before .before .loop .v))
+cast-t12 c = omega (arith, c .shared-slice-known2 .given (c .before .before .loop .v))
 
 write-line-requires : tie.Need-write-line-requires Inv-loop μ-loop
 unfolding number-form text
 write-line-requires c κs =
     let l = c .before .before .before .before in
     let start = l .before .before .before .before in
-    let next = next-number (start .args .cores .now) (l .before .loop .v) (l .loop-test .taken) in (
-      and-small _ (small-at _ (start .pre .0) (l .before .loop .v)) no-more .each,
-      omega (arith, simp length-append at (rw next at (l .before .loop .inv .room))),
-    )
+    let next = next-number (start .args .cores .now) (l .before .loop .v) (l .loop-test .taken) in
+    omega (arith, simp length-append at (rw next at (l .before .loop .inv .room)))
 
 loop-again : tie.Need-loop-again Inv-loop μ-loop
 unfolding number-form text

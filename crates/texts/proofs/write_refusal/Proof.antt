@@ -1,9 +1,8 @@
 -- `write_refusal` meets its contract: what stands before the number, the number, the end of the line. Assumes nothing.
 use native.Mathlib.Omega.{arith}
 use lib.ListN.{length-append}
-use Rattle.pairfile.specs.Text.{text, between}
-use Rattle.pairfile.specs.Lines.{is-place, filled}
-use Rattle.texts.proofs.Lengths.{no-more}
+use Rattle.lines.specs.Text.{text, between}
+use Rattle.lines.specs.Lines.{is-place, filled}
 use Rattle.texts.proofs.Lines.{refusal-left, refusal-end}
 use borrow.Author.Needs.{needs}
 use Rattle.texts.proofs.write_refusal.Statement.{statement}
@@ -15,7 +14,7 @@ begin c = c .before .before .before .before .before
 
 write-line-requires : tie.Need-write-line-requires
 unfolding filled is-place between
-write-line-requires c κs = (no-more .each, omega arith)
+write-line-requires c κs = omega arith
 
 write-number-requires : tie.Need-write-number-requires
 unfolding filled is-place between text
@@ -30,7 +29,7 @@ write-line-requires-2 c κs =
     let n = c .before .before .before .before .before in
     let w = n .before .before .before .before in
     let start = begin w in
-    (no-more .each, refusal-end (start .args .number) (start .pre) (w .write-line .ensures) (n .write-number .ensures) .room)
+    refusal-end (start .args .number) (start .pre) (w .write-line .ensures) (n .write-number .ensures) .room
 
 returns : tie.Need-returns
 unfolding filled is-place between text

@@ -3,11 +3,10 @@ use Prim.Native.Nat.{_-_}
 use native.Mathlib.Omega.{arith}
 use lib.ListN.{length, drop, length-append}
 use Rattle.theory.specs.Words.{laid-pairs}
-use Rattle.pairfile.specs.Text.{text}
+use Rattle.lines.specs.Text.{text}
 use Rattle.sheetfile.specs.Sheet.{share-form}
 use Rattle.sheetfile.specs.Writer.{share-lines}
-use Rattle.texts.proofs.Lengths.{no-more, and-small, small-at, ends-small}
-use Rattle.writing.proofs.Parts.{Left, left-start, left-step, left-done}
+use Rattle.lines.proofs.Parts.{Left, left-start, left-step, left-done}
 use Rattle.texts.proofs.Lines.{next-share, no-share}
 use borrow.Author.Needs.{needs}
 use Rattle.texts.proofs.write_shares.Statement.{statement}
@@ -26,18 +25,15 @@ loop-holds c = left-start _ _ _ (c .before .before .before .pre .1)
 cast-t22 : tie.Need-cast-t22 Inv-loop μ-loop
 cast-t22 c =
     let l = c .before .before .before .before in
-    omega (arith, small-at _ (l .before .before .before .before .pre .0 .shares-digits) (l .loop .j))
+    omega (arith, c .shared-slice-known5 .given (l .loop .j))
 
 write-line-requires : tie.Need-write-line-requires Inv-loop μ-loop
 unfolding share-form text
 write-line-requires c κs =
     let l = c .before .before .before .before .before .before in
     let start = l .before .before .before .before .before in
-    let small = ends-small (start .pre .0) _ (l .loop-test .taken) in
-    let next = next-share (start .args .words .now) (start .args .shares .now) (l .before .loop .j) (l .loop-test .taken) in (
-      and-small _ (small .0) (and-small _ (small .1) (and-small _ (small-at _ (start .pre .0 .shares-digits) (l .before .loop .j)) no-more)) .each,
-      omega (arith, simp length-append at (rw next at (l .before .loop .inv .room))),
-    )
+    let next = next-share (start .args .words .now) (start .args .shares .now) (l .before .loop .j) (l .loop-test .taken) in
+    omega (arith, simp length-append at (rw next at (l .before .loop .inv .room)))
 
 loop-again : tie.Need-loop-again Inv-loop μ-loop
 unfolding share-form text

@@ -2,9 +2,9 @@
 use mathlib.Core.Logic.{⊎-elim, inl, inr}
 use native.Mathlib.Omega.{arith}
 use Rattle.theory.specs.Basics.{mark}
-use Rattle.pairfile.specs.Text.{text, between}
-use Rattle.pairfile.specs.Lines.{is-place, places}
-use Rattle.pairfile.proofs.Judged.{LineHas, line-has}
+use Rattle.lines.specs.Text.{text, between}
+use Rattle.lines.specs.Lines.{is-place, places}
+use Rattle.lines.proofs.Found.{LineHas, line-has}
 use Rattle.sheetfile.specs.Sheet.{share-form}
 use Rattle.sheetfile.proofs.Judging.{share-none, share-unfit, share-fit}
 use borrow.Author.Needs.{needs}
@@ -20,7 +20,7 @@ line-at-requires c κs = (c .before .before .before .pre, omega arith)
 numbers : (c : tie.After-known-told) →
     let l = c .before .before .before .before in
     let start = l .before .before .before .before in
-    LineHas share-form 3 (start .args .bytes .now) (start .args .at) (l .line-at .last .1 .1 .1 .0) (c .before .next .given .0 .0)
+    LineHas 4 share-form 3 (start .args .bytes .now) (start .args .at) (l .line-at .last .1 .1 .1 .1 .0) (c .before .next .given .0 .0)
 unfolding share-form text places is-place between mark
 numbers c = line-has (c .before .before .before .before .line-at .ensures) (c .before .next .given .1)
 
