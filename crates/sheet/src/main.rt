@@ -6,9 +6,9 @@ use libc::STDIN_FILENO;
 use libc::STDOUT_FILENO;
 
 fn main() {
-    let mut file = io::large_buffer();
+    let mut file = [0u8; 65536];
     let mut out = [0u8; 100000];
-    let n = io::read_full(STDIN_FILENO, &mut file);
-    let r = texts::sheet_text(&file[..n], &mut out);
+    let n = input::read_open(STDIN_FILENO, &mut file);
+    let r = texts::sheet_text(&file, n, &mut out);
     io::write_all(STDOUT_FILENO, &out[..r]);
 }

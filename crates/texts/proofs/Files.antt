@@ -4,7 +4,6 @@
 --   refusal-due                                  a refused file
 --   modules-few, answer-length, group-due        the group of a file that names a list
 --   pairs-few, lines-length, sheet-due           and its sheet
---   sheet-answered                               Sheet-answered: `audit` accepts it
 -- Assumes nothing.
 use mathlib.Core.Path.{_≡_, refl, sym, ap, _∙_}
 use mathlib.Core.Bool.{true}
@@ -36,8 +35,8 @@ use Rattle.sheetfile.proofs.ReadsBack.{accepts-back}
 use Rattle.answer.specs.declared.Answer.{Answer}
 use Rattle.answer.specs.Answers.{refusal-of, solved-of, Sheeted, Answers}
 use Rattle.answer.proofs.Answering.{answers}
-use Rattle.texts.specs.Texts.{refusal-text, group-text, certificate, audit-text, Group-first}
-use Rattle.texts.specs.Contracts.{Prints, Of-file, Group-due, Sheet-due, Sheet-answered, answer-lines, sheet-lines}
+use Rattle.texts.specs.Texts.{refusal-text, group-text, certificate, Group-first}
+use Rattle.texts.specs.Contracts.{Prints, Of-file, Group-due, Sheet-due, answer-lines, sheet-lines}
 use Rattle.texts.proofs.Lengths.{group-length, sheet-length}
 
 pub prints : {Right : List ℕ → Type 0} {text out out′ : List ℕ} {r : ℕ} → Right text → Puts text out 0 out′ r → length text ≤ length out →
@@ -200,9 +199,3 @@ module _ {file members cores shares words : List ℕ} {r : Answer} {members′ c
 
     pub sheet-due : Of-file file (Sheet-due file) (sheet-lines r (take (r .n) members′) (take (r .n) cores′) words′ (take (r .m) shares′))
     sheet-due = record { taken = due-of; refused = λ k e. absurd (not-refused (answers s) z k e) }
-
-pub sheet-answered : Sheet-answered
-unfolding Sheet-answered audit-text certificate
-sheet-answered file out out′ r p g e =
-    let d = p .right .taken g e in
-    (d .members, d .found, rw (p .front, d .accepted))

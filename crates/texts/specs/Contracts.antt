@@ -3,6 +3,9 @@
 --   Of-file                    what is due of the list that a pair file names, or the refusal's text
 --   Group-due                  what `group` prints of a list
 --   Sheet-due                  what `sheet` prints of a list, and that `audit` accepts it
+--   Room                       a buffer with room for every byte that decides, and how many bytes were read into it
+--   Read-of                    these bytes are a file's, to its end or the buffer's
+--   Group-read, Sheet-read, Audit-read    what is right of whatever files were read
 --   Sheet-answered             what `audit` prints of it; the theorem is `sheet-answered`
 --   answer-lines, sheet-lines  the lines by the answer to a pair file and the buffers beside it
 -- Assumes nothing: these are definitions.
@@ -60,10 +63,31 @@ pub record Sheet-due (file : List ℕ) (g : Pairs) (text : List ℕ) : Type 0 wh
   -- beside the same pair file the text is accepted
   pub accepted : audit file text ≡ taken (certificate g members shares)
 
+-- n bytes were read into a buffer that has room for the first `decide` bytes of a file
+abbrev pub Room : (decide : ℕ) (buffer : List ℕ) (n : ℕ) → Type 0
+Room decide buffer n = (decide ≤ length buffer) × (n ≤ length buffer)
+
+-- the n bytes in front are the file's, to its end or as many as the buffer holds: so a file is read
+pub record Read-of (buffer : List ℕ) (n : ℕ) (file : List ℕ) : Type 0 where
+  pub front : take n buffer ≡ take (length buffer) file
+
+-- WHATEVER PAIR FILE WAS READ, the text of `group` is the one due of the whole file,
+pub record Group-read (buffer : List ℕ) (n : ℕ) (text : List ℕ) : Type 0 where
+  pub due : (file : List ℕ) → Read-of buffer n file → Of-file file Group-due text
+
+-- so is that of `sheet`,
+pub record Sheet-read (buffer : List ℕ) (n : ℕ) (text : List ℕ) : Type 0 where
+  pub due : (file : List ℕ) → Read-of buffer n file → Of-file file (Sheet-due file) text
+
+-- and that of `audit`, of both files
+pub record Audit-read (buffer : List ℕ) (n : ℕ) (buffer′ : List ℕ) (k : ℕ) (text : List ℕ) : Type 0 where
+  pub due : (file sheet : List ℕ) → Read-of buffer n file → Read-of buffer′ k sheet → text ≡ audit-text (audit file sheet)
+
 -- WHAT `sheet` PRINTS, `audit` ANSWERS by 0 and the found group's ratio
 unfoldable pub Sheet-answered : Type 0
 Sheet-answered =
-    (file out out′ : List ℕ) (r : ℕ) → Prints (Of-file file (Sheet-due file)) out out′ r → (g : Pairs) → read-file 4096 file ≡ taken g →
+    (buffer : List ℕ) (n : ℕ) (out out′ : List ℕ) (r : ℕ) → Prints (Sheet-read buffer n) out out′ r →
+    (file : List ℕ) → Read-of buffer n file → (g : Pairs) → read-file 4096 file ≡ taken g →
     (s : List ℕ) × Found g s × (audit-text (audit file (take r out′)) ≡ filled accepted-form (inside g s ∷ size s ∷ []))
 
 -- the lines of an answer and of member bytes

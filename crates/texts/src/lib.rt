@@ -2,7 +2,8 @@
 //
 // A program reads its input, calls one of the three public functions, and writes the first bytes of the buffer out, as many as the function answers.
 // A text is written once, from front to back, line by line, at the cost of its bytes. 8,192 bytes hold the text of any group, 100,000 that of any
-// sheet, 64 that of any audit; a file is refused by its number on the status line.
+// sheet, 64 that of any audit; a file is refused by its number on the status line. Of an input a caller lends the whole buffer, which has room for
+// every byte that decides (65,536 of a pair file, 100,000 of a sheet), and says how many bytes were read: the text is that of the whole file.
 ghost use mathlib.Core.Path.{_≡_};
 ghost use mathlib.Core.Bool.{cond};
 ghost use mathlib.Core.List.{[], _∷_};
@@ -14,9 +15,8 @@ ghost use Rattle.lines.specs.Lines.{filled};
 ghost use Rattle.lines.specs.Putting.{Puts};
 ghost use Rattle.sheetfile.specs.Sheet.{member-form};
 ghost use Rattle.sheetfile.specs.Writer.{member-lines, number-lines, share-lines};
-ghost use Rattle.sheetfile.specs.Audit.{audit};
-ghost use Rattle.texts.specs.Texts.{refusal-text, audit-text};
-ghost use Rattle.texts.specs.Contracts.{Prints, Of-file, Group-due, Sheet-due, answer-lines, sheet-lines};
+ghost use Rattle.texts.specs.Texts.{refusal-text};
+ghost use Rattle.texts.specs.Contracts.{Prints, Room, Group-read, Sheet-read, Audit-read, answer-lines, sheet-lines};
 use answer::Answer;
 use answer::sheet_file;
 use answer::solve_file;
@@ -124,44 +124,61 @@ fn write_sheet(
     write_shares(words, shares, out, j)
 }
 
-// The text of `group`, of a pair file's bytes; answers how long it is.
-pub fn group_text(file: &[u8], out: &mut [u8]) -> usize
+// The text of `group`, of the n bytes that were read of a pair file; answers how long it is.
+pub fn group_text(file: &[u8], n: usize, out: &mut [u8]) -> usize
+    requires { ⌜ Room 65536 (now file) n ⌝ }
     requires { ⌜ 8192 ≤ length (now out) ⌝ }
-    ensures { λ r. ⌜ Prints (Of-file (now (file .entry)) Group-due) (now (out .entry)) (now (out .exit)) r ⌝ }
+    ensures { λ r. ⌜ Prints (Group-read (now (file .entry)) n) (now (out .entry)) (now (out .exit)) r ⌝ }
 {
     let mut members = [0u8; 512];
-    let found = solve_file(file, &mut members);
+    let found = solve_file(&file[..n], &mut members);
     if found.number != 0 {
         return write_refusal(found.number, out);
     }
-    let n = found.n as usize;
-    write_group(found, &members[..n], out)
+    let modules = found.n as usize;
+    write_group(found, &members[..modules], out)
 }
 
-// The text of `sheet`, of a pair file's bytes; answers how long it is.
-pub fn sheet_text(file: &[u8], out: &mut [u8]) -> usize
+// The text of `sheet`, of the n bytes that were read of a pair file; answers how long it is.
+pub fn sheet_text(file: &[u8], n: usize, out: &mut [u8]) -> usize
+    requires { ⌜ Room 65536 (now file) n ⌝ }
     requires { ⌜ 100000 ≤ length (now out) ⌝ }
-    ensures { λ r. ⌜ Prints (Of-file (now (file .entry)) (Sheet-due (now (file .entry)))) (now (out .entry)) (now (out .exit)) r ⌝ }
+    ensures { λ r. ⌜ Prints (Sheet-read (now (file .entry)) n) (now (out .entry)) (now (out .exit)) r ⌝ }
 {
     let mut members = [0u8; 512];
     let mut cores = [0u16; 512];
     let mut shares = [0u16; 4096];
     let mut words = [0u32; 12288];
-    let found = sheet_file(file, &mut members, &mut cores, &mut shares, &mut words);
+    let found = sheet_file(
+        &file[..n],
+        &mut members,
+        &mut cores,
+        &mut shares,
+        &mut words,
+    );
     if found.number != 0 {
         return write_refusal(found.number, out);
     }
-    let n = found.n as usize;
-    let m = found.m as usize;
-    write_sheet(found, &members[..n], &cores[..n], &words, &shares[..m], out)
+    let modules = found.n as usize;
+    let pairs = found.m as usize;
+    write_sheet(
+        found,
+        &members[..modules],
+        &cores[..modules],
+        &words,
+        &shares[..pairs],
+        out,
+    )
 }
 
-// The text of `audit`, of the bytes of a pair file and of a sheet; answers how long it is.
-pub fn audit_text(file: &[u8], sheet: &[u8], out: &mut [u8]) -> usize
+// The text of `audit`, of the n bytes that were read of a pair file and the k of a sheet; answers how long it is.
+pub fn audit_text(file: &[u8], n: usize, sheet: &[u8], k: usize, out: &mut [u8]) -> usize
+    requires { ⌜ Room 65536 (now file) n ⌝ }
+    requires { ⌜ Room 100000 (now sheet) k ⌝ }
     requires { ⌜ 64 ≤ length (now out) ⌝ }
-    ensures { λ r. ⌜ Prints (λ text. text ≡ audit-text (audit (now (file .entry)) (now (sheet .entry)))) (now (out .entry)) (now (out .exit)) r ⌝ }
+    ensures { λ r. ⌜ Prints (Audit-read (now (file .entry)) n (now (sheet .entry)) k) (now (out .entry)) (now (out .exit)) r ⌝ }
 {
-    let verdict = sheetfile::audit(file, sheet);
+    let verdict = sheetfile::audit(&file[..n], &sheet[..k]);
     if verdict.number != 0 {
         return write_refusal(verdict.number, out);
     }

@@ -1,9 +1,9 @@
--- `cases::find` meets its contract. The place searched lies between the start and the end. Assumes nothing.
+-- `find` meets its contract. The place searched lies between the start and the end. Assumes nothing.
 use Prim.Native.Nat.{_≤_, _-_}
 use lib.ListN.{length}
 use borrow.Author.Needs.{needs}
-use Rattle.cases.proofs.find.Statement.{statement}
-use Rattle.cases.proofs.find.Tie as tie
+use Rattle.cases.proofs.text.find.Statement.{statement}
+use Rattle.cases.proofs.text.find.Tie as tie
 
 abbrev Inv-loop : tie.InvT-loop
 Inv-loop bytes from sought i₀ i = (from ≤ i) × (i ≤ length bytes)

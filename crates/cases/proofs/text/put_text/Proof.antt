@@ -1,19 +1,19 @@
--- `cases::put_ends` is safe and ends. The file keeps its length. Assumes nothing.
+-- `put_text` is safe and ends. The text keeps its length. Assumes nothing.
 use mathlib.Core.Path.{_≡_}
 use Prim.Native.Nat.{_-_}
 use lib.ListN.{length}
 use borrow.Author.Needs.{needs}
-use Rattle.cases.proofs.put_ends.Statement.{statement}
-use Rattle.cases.proofs.put_ends.Tie as tie
+use Rattle.cases.proofs.text.put_text.Statement.{statement}
+use Rattle.cases.proofs.text.put_text.Tie as tie
 
 abbrev Inv-loop : tie.InvT-loop
-Inv-loop file₀ at count end₀ i₀ t6 file end i = length file ≡ length file₀
+Inv-loop text₀ at bytes end₀ i₀ text end i = length text ≡ length text₀
 
 abbrev μ-loop : tie.MeasureT-loop
-μ-loop file₀ at count end₀ i₀ t6 file end i = count - i
+μ-loop text₀ at bytes end₀ i₀ text end i = length bytes - i
 
-pub put-ends-spec : {M : Type 1} → statement M
-put-ends-spec =
+pub put-text-spec : {M : Type 1} → statement M
+put-text-spec =
     tie.close
     (tie.spec
     Inv-loop

@@ -3,8 +3,8 @@ use mathlib.Core.Path.{_≡_}
 use Prim.Native.Nat.{_≤_, _-_}
 use lib.ListN.{length}
 use borrow.Author.Needs.{needs}
-use Rattle.cases.proofs.alter_bytes.Statement.{statement}
-use Rattle.cases.proofs.alter_bytes.Tie as tie
+use Rattle.cases.proofs.audited.alter_bytes.Statement.{statement}
+use Rattle.cases.proofs.audited.alter_bytes.Tie as tie
 
 abbrev Inv-loop : tie.InvT-loop
 Inv-loop file sheet₀ before fates₀ i₀ sheet fates i = length sheet ≡ length sheet₀

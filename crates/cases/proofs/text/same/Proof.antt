@@ -1,11 +1,11 @@
--- `cases::same` is safe and ends. The text is compared to its end. Assumes nothing.
-use Prim.Native.Nat.{_≤_, _-_}
+-- `same` is safe and ends. The text is compared to its end. Assumes nothing.
+use Prim.Native.Nat.{_≤_, _+_, _-_}
 use borrow.Author.Needs.{needs}
-use Rattle.cases.proofs.same.Statement.{statement}
-use Rattle.cases.proofs.same.Tie as tie
+use Rattle.cases.proofs.text.same.Statement.{statement}
+use Rattle.cases.proofs.text.same.Tie as tie
 
 abbrev Inv-loop : tie.InvT-loop
-Inv-loop line from text end i₀ j₀ i j = i ≤ end
+Inv-loop line from text end i₀ j₀ i j = i ≤ end + 1
 
 abbrev μ-loop : tie.MeasureT-loop
 μ-loop line from text end i₀ j₀ i j = end - i

@@ -1,10 +1,10 @@
--- `cases::put_runs` is safe and ends. The text keeps its length. Assumes nothing.
+-- `put_runs` is safe and ends. The text keeps its length. Assumes nothing.
 use mathlib.Core.Path.{_≡_}
 use Prim.Native.Nat.{_-_}
 use lib.ListN.{length}
 use borrow.Author.Needs.{needs}
-use Rattle.cases.proofs.put_runs.Statement.{statement}
-use Rattle.cases.proofs.put_runs.Tie as tie
+use Rattle.cases.proofs.solved.put_runs.Statement.{statement}
+use Rattle.cases.proofs.solved.put_runs.Tie as tie
 
 abbrev Inv-loop : tie.InvT-loop
 Inv-loop text₀ at bytes run₀ v₀ text run v = length text ≡ length text₀
