@@ -16,6 +16,7 @@ use crate::buffers::narrow;
 use densest::PHASES;
 use densest::Solution;
 use densest::solve;
+use numbers::ratio;
 use records::Head;
 
 pub(crate) fn solve_gate(
@@ -35,14 +36,6 @@ pub(crate) fn solve_gate(
         agreed,
         (members < n) | (cores < n) | (shares < m) | (work < 16384),
     )
-}
-
-// P divided by Q, rounded once: a float holds both numbers exactly.
-fn ratio(p: u32, q: u32) -> f64
-    requires { ⌜ 1 ≤ q ⌝ }
-    ensures { λ r. ⌜ r ≡ float-ratio p q ⌝ }
-{
-    (p as f64) / (q as f64)
 }
 
 // The record beside a refusal.

@@ -1,10 +1,11 @@
-// Small functions on numbers that several crates need: the lesser and the greater of two, a quotient rounded up, tests of numbers and of bytes,
+// Small functions on numbers: the lesser and the greater of two, a quotient rounded up or as a float, tests of numbers and of bytes,
 // and tests as numbers. Nothing here branches by more than one test, and nothing is refused.
 ghost use mathlib.Core.Path.{_≡_};
 ghost use mathlib.Core.Bool.{_&&_, cond};
 ghost use Prim.Native.Nat.{_≤_, min, max};
 ghost use lib.Dec.{leb, eqb};
 ghost use Rattle.theory.specs.Splits.{rounded-up};
+ghost use Rattle.theory.specs.Ratio.{float-ratio};
 
 // The lesser of two.
 pub fn lesser(a: u32, b: u32) -> u32
@@ -29,6 +30,14 @@ pub fn rounded_up(p: u32, q: u32) -> u32
         return 0;
     }
     (p - 1) / q + 1
+}
+
+// p over q as a float, rounded once: a float holds both numbers exactly.
+pub fn ratio(p: u32, q: u32) -> f64
+    requires { ⌜ 1 ≤ q ⌝ }
+    ensures { λ r. ⌜ r ≡ float-ratio p q ⌝ }
+{
+    (p as f64) / (q as f64)
 }
 
 // Whether a,b and c,d are the same two numbers.

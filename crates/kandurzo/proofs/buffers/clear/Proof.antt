@@ -25,7 +25,7 @@ loop-again : tie.Need-loop-again Inv-loop μ-loop
 unfolding work-words
 loop-again c =
     turning-step (replicate work-words 0) (c .before .before .args .work .now) (room (c .before .before)) (c .before .loop .inv)
-    (omega (arith, zeros-length, c .loop-test .taken)) (sym (getD-replicate 16384 _ 0 0 (c .loop-test .taken)))
+    (omega (arith, zeros-length, c .loop-test .taken)) (sym (getD-replicate 16384 (c .before .loop .j) 0 0 (omega arith)))
 
 same-length : tie.Need-same-length Inv-loop μ-loop
 same-length c = c .before .loop .inv .long

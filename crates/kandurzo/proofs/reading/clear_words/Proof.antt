@@ -1,8 +1,6 @@
 -- `clear_words` meets its contract. Assumes nothing.
 use mathlib.Core.Path.{sym, _∙_}
-use mathlib.Core.Bool.{or-true}
 use borrow.Author.Needs.{needs}
-use borrow.Author.Tests.{eq-eqb}
 use Rattle.kandurzo.specs.Buffers.{work-left}
 use Rattle.kandurzo.proofs.Filling.{work-zeros}
 use Rattle.kandurzo.proofs.reading.clear_words.Statement.{statement}
@@ -10,11 +8,11 @@ use Rattle.kandurzo.proofs.reading.clear_words.Tie as tie
 
 returns : tie.Need-returns
 unfolding work-left
-returns c = sym (rw (eq-eqb _ 12 (c .if1 .taken)))
+returns c = simp (c .if1 .taken)
 
 returns-2 : tie.Need-returns-2
 unfolding work-left
-returns-2 c = sym (rw (eq-eqb _ 13 (c .if2 .taken), or-true _))
+returns-2 c = simp (c .if2 .taken)
 
 clear-requires : tie.Need-clear-requires
 clear-requires c κs = c .before .before .before .before .pre (c .before .before .if1 .left) (c .before .if2 .left)

@@ -1,9 +1,9 @@
--- `ratio` meets its contract: a float holds every u32, and the division rounds once. Assumes nothing.
+-- `numbers::ratio` meets its contract: a float holds every u32, and the division rounds once. Assumes nothing.
 use borrow.Author.Needs.{needs}
 use lib.Ieee.{div}
 use Rattle.theory.specs.Ratio.{float-ratio}
-use Rattle.kandurzo.proofs.solving.ratio.Statement.{statement}
-use Rattle.kandurzo.proofs.solving.ratio.Tie as tie
+use Rattle.numbers.proofs.ratio.Statement.{statement}
+use Rattle.numbers.proofs.ratio.Tie as tie
 
 returns : tie.Need-returns
 unfolding div float-ratio
