@@ -26,6 +26,7 @@ struct Fates {
     other: u32,
 }
 
+// Opens the two files that a line begins with.
 fn open_both(line: &[u8]) -> Opened {
     let space = find(line, 0, b' ');
     if space == line.len() {
@@ -51,10 +52,12 @@ fn put_verdict(text: &mut [u8], at: usize, verdict: Verdict) -> usize {
     put_two(text, status, verdict.p, b'/', verdict.q)
 }
 
+// The next byte, after 255 the first.
 fn one_up(byte: u8) -> u8 {
     if byte < 255 { byte + 1 } else { 0 }
 }
 
+// The byte before, before 0 the last.
 fn one_down(byte: u8) -> u8 {
     if 0 < byte { byte - 1 } else { 255 }
 }
@@ -110,6 +113,7 @@ fn alter_at(fates: Fates, file: &[u8], sheet: &mut [u8], i: usize, before: Verdi
     alter_to(more, file, sheet, i, one_down(byte), before)
 }
 
+// Every byte in turn.
 fn alter_bytes(file: &[u8], sheet: &mut [u8]) -> Fates {
     let before = audit(file, sheet);
     let mut fates = Fates {
@@ -125,12 +129,14 @@ fn alter_bytes(file: &[u8], sheet: &mut [u8]) -> Fates {
     fates
 }
 
+// The three counts.
 fn put_fates(text: &mut [u8], fates: Fates) -> usize {
     let caught = put_number(text, 0, b' ', fates.caught as u64);
     let best = put_number(text, caught, b' ', fates.best as u64);
     put_number(text, best, b' ', fates.other as u64)
 }
 
+// What audit answers of the sheet, or of the altered ones.
 fn put_audit(text: &mut [u8], file: &[u8], sheet: &mut [u8], alters: bool) -> usize {
     if alters {
         return put_fates(text, alter_bytes(file, sheet));
@@ -138,6 +144,7 @@ fn put_audit(text: &mut [u8], file: &[u8], sheet: &mut [u8], alters: bool) -> us
     put_verdict(text, 0, audit(file, sheet))
 }
 
+// A sheet beside a pair file, both whole.
 pub(crate) fn try_audit(line: &[u8], text: &mut [u8], alters: bool) -> Given {
     let mut file = io::large_buffer();
     let mut sheet = io::large_buffer();
@@ -179,6 +186,7 @@ fn put_within(
     put_read(text, opened, &mut file[0..n], &mut sheet[0..k])
 }
 
+// A sheet beside a pair file, each as far as its buffer holds it.
 pub(crate) fn try_limits(line: &[u8], text: &mut [u8]) -> Given {
     let mut file = [0u8; 65537];
     let mut sheet = [0u8; 100001];

@@ -36,6 +36,7 @@ use text::find;
 use text::one_more;
 use text::same;
 
+// What is tried.
 enum Kind {
     Files,
     Large,
@@ -50,6 +51,7 @@ struct Tally {
     bad: u32,
 }
 
+// Tries what a line names, and puts the answer into the text.
 fn try_case(kind: Kind, line: &[u8], text: &mut [u8]) -> Given {
     match kind {
         Kind::Files => try_file(line, text),
@@ -76,6 +78,7 @@ fn print_bad(line: &[u8], text: &[u8], end: usize) {
     io::write_all(STDOUT_FILENO, b"\n");
 }
 
+// One case more.
 fn try_line(tally: Tally, kind: Kind, line: &[u8]) -> Tally {
     let mut text = [0u8; 128];
     let answer = try_case(kind, line, &mut text);
@@ -92,6 +95,7 @@ fn try_line(tally: Tally, kind: Kind, line: &[u8]) -> Tally {
     }
 }
 
+// The cases of a list.
 fn try_lines(kind: Kind, list: &[u8]) -> Tally {
     let mut tally = Tally { good: 0, bad: 0 };
     let mut at = 0;
@@ -103,6 +107,7 @@ fn try_lines(kind: Kind, list: &[u8]) -> Tally {
     tally
 }
 
+// The list of that name, and how many of its cases came out as due.
 fn try_list(kind: Kind, name: &[u8]) {
     let mut list = io::large_buffer();
     let n = input::read_named(name, &mut list);
@@ -115,6 +120,7 @@ fn try_list(kind: Kind, name: &[u8]) {
     io::write_all(STDOUT_FILENO, b"\n");
 }
 
+// All five lists.
 fn main() {
     try_list(Kind::Files, b"files");
     try_list(Kind::Large, b"large");

@@ -61,6 +61,7 @@ fn put_step(text: &mut [u8], run: Run, byte: u8, next: u8) -> Run {
     }
 }
 
+// A byte, and how often it stands there in a row.
 fn put_run(text: &mut [u8], at: usize, byte: u8, count: u32) -> usize {
     if byte == 2 {
         return at;
@@ -71,6 +72,7 @@ fn put_run(text: &mut [u8], at: usize, byte: u8, count: u32) -> usize {
 
 // ---- by name
 
+// A pair file that is there under its name.
 pub(crate) fn try_file(line: &[u8], text: &mut [u8]) -> Given {
     let mut file = io::large_buffer();
     let space = find(line, 0, b' ');
@@ -99,6 +101,7 @@ fn put_line(file: &mut [u8], at: usize, i: u32, pair: bool) -> usize {
     put(file, second, b'\n')
 }
 
+// So many lines, of pairs or empty.
 fn put_lines(file: &mut [u8], at: usize, count: u32, pair: bool) -> usize {
     let mut end = at;
     let mut i = 0;
@@ -134,6 +137,7 @@ fn put_file(file: &mut [u8], line: &[u8]) -> Given {
     }
 }
 
+// A pair file made from the line's numbers.
 pub(crate) fn try_large(line: &[u8], text: &mut [u8]) -> Given {
     let mut file = [0u8; 80000];
     let made = put_file(&mut file, line);

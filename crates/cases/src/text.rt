@@ -14,10 +14,12 @@ pub(crate) struct Number {
     pub(crate) next: usize,
 }
 
+// The place after i.
 pub(crate) fn after(i: usize) -> usize {
     std::num::wrapping_add_usize(i, 1)
 }
 
+// One more, for a count.
 pub(crate) fn one_more(x: u32) -> u32 {
     std::num::wrapping_add_u32(x, 1)
 }
@@ -36,6 +38,7 @@ pub(crate) fn put(text: &mut [u8], at: usize, byte: u8) -> usize {
     at
 }
 
+// Puts bytes into the text, one after the other.
 pub(crate) fn put_text(text: &mut [u8], at: usize, bytes: &[u8]) -> usize {
     let mut end = at;
     let mut i = 0;
