@@ -28,7 +28,7 @@ ghost use Rattle.flow.specs.Searches.{no-searches};
 ghost use Rattle.flow.specs.Searches.{together as Searches·together};
 
 // What searches did: chains along which units moved, the most slots that units moved along in one of them, and searches that reached no module loaded
-// below p. No contract speaks of these counts.
+// below p. In the answer of `flow` these counts are free.
 pub struct Searches {
     pub chains: u32,
     pub longest: u32,
