@@ -33,7 +33,7 @@ module _ (t : ℕ) where
       s .args .at < length (s .args .out .now)
   only-room c =
       let s = c .before .before in
-      omega (arith, ap length (spelled-one (s .args .value) (c .if1 .taken)), s .pre .1)
+      omega (arith, ap length (spelled-one (s .args .value) (omega (arith, c .if1 .taken))), s .pre .1)
 
   -- those of a tenth, and the last behind them
   more : (c : lts.Else1 (below t, reads.Post) (given t) reads.Post) →
