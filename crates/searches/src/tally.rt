@@ -1,0 +1,116 @@
+// What was seen: lists and their pairs, lists that the reader refused, answers that differ, how often each of four answers was given, and what the
+// searches for chains did; and the random state.
+use crate::entries::more;
+use numbers::greater;
+use std::num::wrapping_add_u32;
+
+pub struct Searches {
+    pub chains: u32,
+    pub longest: u32,
+    pub none: u32,
+}
+
+pub struct Tally {
+    pub lists: u32,
+    pub pairs: u32,
+    pub unread: u32,
+    pub differ: u32,
+    pub answers: [u32; 4],
+    pub chains: u32,
+    pub longest: u32,
+    pub none: u32,
+    pub state: u32,
+}
+
+impl Tally {
+    pub(crate) fn new() -> Tally {
+        Tally {
+            lists: 0,
+            pairs: 0,
+            unread: 0,
+            differ: 0,
+            answers: [0; 4],
+            chains: 0,
+            longest: 0,
+            none: 0,
+            state: 2463534242,
+        }
+    }
+
+    // One list more, of m pairs, with the random state after it.
+    pub(crate) fn made(mut self, m: u32, state: u32) -> Tally {
+        self.lists = more(self.lists);
+        self.pairs = wrapping_add_u32(self.pairs, m);
+        self.state = state;
+        self
+    }
+
+    pub(crate) fn not_read(mut self) -> Tally {
+        self.unread = more(self.unread);
+        self
+    }
+
+    // One comparison more.
+    pub(crate) fn compared(mut self, same: bool) -> Tally {
+        if !same {
+            self.differ = more(self.differ);
+        }
+        self
+    }
+
+    // Both computations gave this answer, or not the same one.
+    pub(crate) fn answered(self, same: bool, answer: usize) -> Tally {
+        let mut now = self.compared(same);
+        let mut answers = self.answers;
+        if same && answer < 4 {
+            answers[answer] = more(answers[answer]);
+        }
+        now.answers = answers;
+        now
+    }
+
+    pub(crate) fn searched(mut self, searches: Searches) -> Tally {
+        self.chains = wrapping_add_u32(self.chains, searches.chains);
+        self.longest = greater(self.longest, searches.longest);
+        self.none = wrapping_add_u32(self.none, searches.none);
+        self
+    }
+
+    // A line of a search: its name, and what was seen.
+    pub(crate) fn print_searches(self, name: &[u8]) {
+        io::write_all(1, name);
+        field(b": lists=", self.lists);
+        field(b" pairs=", self.pairs);
+        field(b" unread=", self.unread);
+        field(b" differ=", self.differ);
+        field(b" chains=", self.chains);
+        field(b" longest=", self.longest);
+        field(b" none=", self.none);
+        io::write_all(1, b"\n");
+    }
+
+    // A line of verdicts: its name, and the count of each answer after the answer's own.
+    pub(crate) fn print_answers(
+        self,
+        name: &[u8],
+        first: &[u8],
+        second: &[u8],
+        third: &[u8],
+        fourth: &[u8],
+    ) {
+        let answers = self.answers;
+        io::write_all(1, name);
+        field(first, answers[0]);
+        field(second, answers[1]);
+        field(third, answers[2]);
+        field(fourth, answers[3]);
+        field(b" unread=", self.unread);
+        field(b" differ=", self.differ);
+        io::write_all(1, b"\n");
+    }
+}
+
+fn field(label: &[u8], value: u32) {
+    io::write_all(1, label);
+    io::print_decimal(1, value as u64);
+}

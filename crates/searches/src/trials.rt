@@ -1,0 +1,105 @@
+// Trials: lists are made, read and asked for something, one after the other.
+ghost use Rattle.theory.specs.Words.{Holds-list};
+use crate::checks::Changed;
+use crate::checks::sheet_codes;
+use crate::checks::try_change;
+use crate::checks::try_sheet;
+use crate::entries::more;
+use crate::files::put_file;
+use crate::lists::Listed;
+use crate::lists::Lists;
+use crate::lists::list_at;
+use crate::search::Altered;
+use crate::search::search;
+use crate::sheets::places;
+use crate::surpluses::try_firsts;
+use crate::surpluses::try_sets;
+use crate::tally::Tally;
+use pairfile::Reading;
+use pairfile::read_words;
+use std::num::wrapping_add_u32;
+
+// What is asked of a list, once for each number below a count.
+pub enum Asked {
+    // Peel and solve.
+    Searches(Altered),
+    // Check of a sheet, changed in one place.
+    Changes(Changed),
+    // Check of every sheet of 4 modules: member bytes of 0 to 2, and shares of 0 to 5 where the list has up to 4 pairs.
+    Sheets,
+    // Surplus of every two sets of 4 bytes of 0 to 2.
+    Sets,
+    // Surplus of groups of 512 modules against the first so many.
+    Firsts(u32),
+}
+
+// How many numbers there are.
+fn codes(asked: Asked, list: Reading) -> u32 {
+    match asked {
+        Asked::Searches(altered) => 1,
+        Asked::Changes(changed) => places(changed.change, list.n, list.m),
+        Asked::Sheets => sheet_codes(list.m),
+        Asked::Sets => 6561,
+        Asked::Firsts(second) => 67,
+    }
+}
+
+// What is asked, for one number.
+fn ask(asked: Asked, code: u32, list: Reading, words: &[u32], seen: Tally) -> Tally
+    requires { ⌜ Holds-list (list .n) (list .m) (now words) ⌝ }
+{
+    match asked {
+        Asked::Searches(altered) => search(altered, list, words, seen),
+        Asked::Changes(changed) => try_change(changed, code, list, words, seen),
+        Asked::Sheets => try_sheet(code, list, words, seen),
+        Asked::Sets => try_sets(code, list, words, seen),
+        Asked::Firsts(second) => try_firsts(code, second, list, words, seen),
+    }
+}
+
+// What is asked, for every number.
+fn ask_all(asked: Asked, list: Reading, words: &[u32], seen: Tally) -> Tally
+    requires { ⌜ Holds-list (list .n) (list .m) (now words) ⌝ }
+{
+    let count = codes(asked, list);
+    let mut now = seen;
+    let mut code = 0;
+    while code < count {
+        now = ask(asked, code, list, words, now);
+        code += 1;
+    }
+    now
+}
+
+// Makes a list, and reads it.
+fn try_list(asked: Asked, list: Listed, seen: Tally) -> Tally {
+    let mut text = [0u8; 65536];
+    let mut words = [0u32; 12288];
+    let file = put_file(list, seen.state, &mut text);
+    let made = seen.made(file.taken, file.state);
+    let end = file.end as usize;
+    if 65536 < end {
+        return made.not_read();
+    }
+    let reading = read_words(&text[..end], 4096, &mut words);
+    if reading.number != 0 {
+        return made.not_read();
+    }
+    ask_all(asked, reading, &words, made)
+}
+
+// The lists one after the other, after what was seen before.
+pub(crate) fn go_on(asked: Asked, lists: Lists, seen: Tally) -> Tally {
+    let count = lists.count;
+    let mut now = seen;
+    let mut i = 0;
+    while i < count {
+        now = try_list(
+            asked,
+            list_at(lists.source, wrapping_add_u32(lists.first, i)),
+            now,
+        );
+        i += 1;
+    }
+    now
+}
