@@ -70,6 +70,7 @@ fn scatter(n: usize, m: usize, ends: &[u32], scope: &[u8], units: &[u32], hold: 
 fn find_in_core(
     n: usize,
     m: usize,
+    effort: usize,
     p: u32,
     q: u32,
     ends: &[u32],
@@ -104,6 +105,7 @@ fn find_in_core(
     let best = find(
         n,
         r,
+        effort,
         p,
         q,
         &inner_ends,
@@ -121,6 +123,7 @@ fn find_in_core(
 pub(crate) fn find_best(
     n: usize,
     m: usize,
+    effort: usize,
     p: u32,
     q: u32,
     ends: &[u32],
@@ -137,7 +140,20 @@ pub(crate) fn find_best(
         (r .p) (r .q) true ⌝ }
 {
     if slots::wide(p) < m / 2 {
-        return find_in_core(n, m, p, q, ends, weights, cores, core, scope, hold, group);
+        return find_in_core(
+            n,
+            m,
+            effort,
+            p,
+            q,
+            ends,
+            weights,
+            cores,
+            core,
+            scope,
+            hold,
+            group,
+        );
     }
-    find(n, m, p, q, ends, weights, cores, scope, hold, group)
+    find(n, m, effort, p, q, ends, weights, cores, scope, hold, group)
 }

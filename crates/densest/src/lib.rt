@@ -16,22 +16,28 @@ ghost use lib.ListN.{length, drop};
 ghost use Rattle.theory.specs.Cores.{core-numbers};
 ghost use Rattle.theory.specs.Words.{list-in, Held-words};
 ghost use Rattle.densest.specs.Solve.{Is-solution, Solves};
+use flow::Searches;
 use gather::find_best;
 use sheet::Share;
 use sheet::write_shares;
 
-// The found group's inside count p and size q, k = p/q rounded up, and the size of the core of order k.
+// How many push phases are worth it before a search: hardly a list needs more.
+pub const PHASES: usize = 64;
+
+// The found group's inside count p and size q, k = p/q rounded up, and the size of the core of order k; and what the searches did.
 pub struct Solution {
     pub p: u32,
     pub q: u32,
     pub k: u32,
     pub core: u32,
+    pub searches: Searches,
 }
 
 // Solve, where the buffers are exactly as long as the list; `core` and `scope` are for its use.
 fn solve_in(
     n: usize,
     m: usize,
+    effort: usize,
     ends: &[u32],
     weights: &[u32],
     core: &mut [u8],
@@ -53,6 +59,7 @@ fn solve_in(
     let best = find_best(
         n,
         m,
+        effort,
         start.p,
         start.q,
         ends,
@@ -64,19 +71,22 @@ fn solve_in(
         members,
     );
     write_shares(n, m, best.q, ends, weights, scope, &place, &hold, shares);
+    let searches = best.searches;
     Solution {
         p: best.p,
         q: best.q,
         k: numbers::rounded_up(best.p, best.q),
         core: groups::group_size(n, scope),
+        searches,
     }
 }
 
 // The found group's member bytes, the core numbers, a share for each pair, and the numbers of solve's record. Entries past the first n and the first m
-// are as they were.
+// are as they were. At most `effort` push phases go before the searches of a round: any number of them gives such an answer.
 pub fn solve(
     n: usize,
     m: usize,
+    effort: usize,
     ends: &[u32],
     weights: &[u32],
     members: &mut [u8],
@@ -93,6 +103,7 @@ pub fn solve(
     solve_in(
         n,
         m,
+        effort,
         ends,
         weights,
         &mut core[..n],

@@ -6,19 +6,25 @@
 ghost use mathlib.Core.Path.{_≡_};
 ghost use mathlib.Core.Bool.{true};
 ghost use Rattle.densest.specs.Search.{Link-room, Searchable, Round, Group-found};
+use flow::Searches;
+use flow::Split;
+use flow::no_searches;
+use flow::together;
 
-// A group's inside count and size, and whether the last round made a split at that size.
+// A group's inside count and size, whether the last round made a split at that size, and what the searches of all rounds did.
 pub(crate) struct Ratio {
     pub(crate) p: u32,
     pub(crate) q: u32,
     pub(crate) settled: bool,
+    pub(crate) searches: Searches,
 }
 
 // One round: a split at share size q inside the core of p over q rounded up, near the one that hold has at share size `old`, and what `flow`
-// makes of it.
+// makes of it, with at most `effort` phases first.
 fn round(
     n: usize,
     m: usize,
+    effort: usize,
     p: u32,
     q: u32,
     old: u32,
@@ -30,22 +36,24 @@ fn round(
     scope: &mut [u8],
     hold: &mut [u32],
     group: &mut [u8],
-) -> bool
+) -> Split
     requires { ⌜ Searchable n m p q (now ends) (now weights) (now cores) (now scope) (now hold) (now group) ⌝ }
     requires { ⌜ Link-room n m (now first) (now next) ⌝ }
-    ensures { λ r. ⌜ Round n m p q (now (ends .entry)) (now (weights .entry)) (now (scope .exit)) (now (hold .exit)) (now (group .exit)) r ⌝ }
+    ensures { λ r. ⌜ Round n m p q (now (ends .entry)) (now (weights .entry)) (now (scope .exit)) (now (hold .exit)) (now (group .exit))
+        (r .settled) ⌝ }
 {
     let own = [0u32; 512];
     let k = numbers::rounded_up(p, q);
     groups::mark_at_least(n, k, cores, scope);
     slots::spread(n, m, q, old, ends, weights, scope, hold);
-    flow::flow(n, m, p, 64, &own, scope, ends, first, next, hold, group)
+    flow::flow(n, m, p, effort, &own, scope, ends, first, next, hold, group)
 }
 
 // Rounds from a group of inside count p0 and size q0 on, until one finds a split; the found group's inside count and size.
 fn search(
     n: usize,
     m: usize,
+    effort: usize,
     p0: u32,
     q0: u32,
     ends: &[u32],
@@ -67,10 +75,12 @@ fn search(
     let mut old = 0;
     let mut done = false;
     let mut settled = false;
+    let mut searches = no_searches();
     while !done {
-        done = round(
+        let split = round(
             n,
             m,
+            effort,
             p,
             q,
             old,
@@ -86,20 +96,26 @@ fn search(
         let inside = groups::inside_count(n, m, ends, weights, group);
         let size = groups::group_size(n, group);
         settled = numbers::same(inside, size, p, q);
+        searches = together(searches, split.searches);
+        done = split.settled;
         old = q;
         p = inside;
         q = size;
     }
-    Ratio { p, q, settled }
+    Ratio {
+        p,
+        q,
+        settled,
+        searches,
+    }
 }
 
 // A round at the found group's ratio, unless the last one was that round.
 fn last_round(
     n: usize,
     m: usize,
-    p: u32,
-    q: u32,
-    settled: bool,
+    effort: usize,
+    best: Ratio,
     ends: &[u32],
     weights: &[u32],
     cores: &[u32],
@@ -108,21 +124,23 @@ fn last_round(
     scope: &mut [u8],
     hold: &mut [u32],
     group: &mut [u8],
-) -> bool
-    requires { ⌜ Searchable n m p q (now ends) (now weights) (now cores) (now scope) (now hold) (now group) ⌝ }
+) -> Ratio
+    requires { ⌜ Searchable n m (best .p) (best .q) (now ends) (now weights) (now cores) (now scope) (now hold) (now group) ⌝ }
     requires { ⌜ Link-room n m (now first) (now next) ⌝ }
-    requires { ⌜ (settled ≡ true → Round n m p q (now ends) (now weights) (now scope) (now hold) (now group) true) ⌝ }
-    ensures { λ r. ⌜ Round n m p q (now (ends .entry)) (now (weights .entry)) (now (scope .exit)) (now (hold .exit)) (now (group .exit)) r ⌝ }
+    requires { ⌜ Group-found n m (now ends) (now weights) (now scope) (now hold) (now group) (best .p) (best .q) (best .settled) ⌝ }
+    ensures { λ r. ⌜ Group-found n m (now (ends .entry)) (now (weights .entry)) (now (scope .exit)) (now (hold .exit)) (now (group .exit))
+        (r .p) (r .q) true ⌝ }
 {
-    if settled {
-        return true;
+    if best.settled {
+        return best;
     }
-    round(
+    let split = round(
         n,
         m,
-        p,
-        q,
-        q,
+        effort,
+        best.p,
+        best.q,
+        best.q,
         ends,
         weights,
         cores,
@@ -131,13 +149,20 @@ fn last_round(
         scope,
         hold,
         group,
-    )
+    );
+    Ratio {
+        p: best.p,
+        q: best.q,
+        settled: split.settled,
+        searches: together(best.searches, split.searches),
+    }
 }
 
 // Rounds from p over q on, and a split at the found group's size.
 pub(crate) fn find(
     n: usize,
     m: usize,
+    effort: usize,
     p: u32,
     q: u32,
     ends: &[u32],
@@ -157,6 +182,7 @@ pub(crate) fn find(
     let best = search(
         n,
         m,
+        effort,
         p,
         q,
         ends,
@@ -171,9 +197,8 @@ pub(crate) fn find(
     last_round(
         n,
         m,
-        best.p,
-        best.q,
-        best.settled,
+        effort,
+        best,
         ends,
         weights,
         cores,
@@ -182,6 +207,5 @@ pub(crate) fn find(
         scope,
         hold,
         group,
-    );
-    best
+    )
 }

@@ -246,22 +246,23 @@ drained-largest {n} {m} {p} {own} {scope} {ends} {hold} {load} {rank} {t} e l mo
 
 module _ {n m p : ℕ} {own scope ends hold load hold' load' rank t : List ℕ} (e : Ends n m ends) (kept : Kept n m ends hold load hold' load')
     (l : Loads n m own ends hold' load') (k : Marked n rank t) where
-  pub flowed-good : ((v : ℕ) → v < n → getD load' v 0 ≤ p) → Drained n m p scope ends hold' load' rank → Flowed n m p own scope ends hold hold' t true
-  flowed-good most d = record {
+  pub flowed-good : {r : Bool} → r ≡ true → ((v : ℕ) → v < n → getD load' v 0 ≤ p) → Drained n m p scope ends hold' load' rank →
+      Flowed n m p own scope ends hold hold' t r
+  flowed-good so most d = record {
     long = kept .hold-long;
     units = kept .units;
     rest = kept .rest;
     good = λ z v h. omega (arith, most v h, l .same v h);
     largest = λ z. drained-largest e l most d k;
-    denser = λ z. no (sym z);
+    denser = λ z. no (sym z ∙ so);
   }
 
-  pub flowed-bad : Stuck n m p ends hold' load' rank → Flowed n m p own scope ends hold hold' t false
-  flowed-bad s = record {
+  pub flowed-bad : {r : Bool} → r ≡ false → Stuck n m p ends hold' load' rank → Flowed n m p own scope ends hold hold' t r
+  flowed-bad so s = record {
     long = kept .hold-long;
     units = kept .units;
     rest = kept .rest;
-    good = λ z. no z;
-    largest = λ z. no z;
+    good = λ z. no (sym so ∙ z);
+    largest = λ z. no (sym so ∙ z);
     denser = λ z. stuck-denser e l s k;
   }

@@ -13,15 +13,59 @@ mod exits;
 mod search;
 
 use drain::drain;
+use numbers::greater;
 use push::phases;
 use search::settle;
 use slots::loads;
+use std::num::wrapping_add_u32;
 ghost use mathlib.Core.Path.{_≡_};
 ghost use Prim.Native.Nat.{_*_, _≤_, _<_};
 ghost use lib.ListN.{length};
 ghost use Rattle.slots.specs.Slots.{Ends, Room, Own};
 ghost use Rattle.flow.specs.Flow.{Flowed};
 ghost use Rattle.flow.specs.Search.{Marked};
+
+// What searches did: chains along which units moved, the most slots that units moved along in one of them, and searches that reached no module loaded
+// below p. No contract speaks of these counts.
+pub struct Searches {
+    pub chains: u32,
+    pub longest: u32,
+    pub none: u32,
+}
+
+// What the split search answers: whether no load is above p, and what its searches did.
+pub struct Split {
+    pub settled: bool,
+    pub searches: Searches,
+}
+
+// No search.
+pub fn no_searches() -> Searches {
+    Searches {
+        chains: 0,
+        longest: 0,
+        none: 0,
+    }
+}
+
+// Searches and further searches, together.
+pub fn together(a: Searches, b: Searches) -> Searches {
+    Searches {
+        chains: wrapping_add_u32(a.chains, b.chains),
+        longest: greater(a.longest, b.longest),
+        none: wrapping_add_u32(a.none, b.none),
+    }
+}
+
+// One chain more, along so many slots.
+pub(crate) fn with_chain(a: Searches, slots: u32) -> Searches {
+    let one = Searches {
+        chains: 1,
+        longest: slots,
+        none: 0,
+    };
+    together(a, one)
+}
 
 // 1 where x is above 0.
 fn bit(x: u32) -> u8
@@ -41,8 +85,8 @@ fn mark(n: usize, rank: &[u32], group: &mut [u8])
     }
 }
 
-// True: units lie in hold so that no load is above p, and `group` is the largest tight set inside the scope.
-// False: more than p a module stays in `group`. At most `effort` phases balance the loads first: any number of them keeps the promise.
+// Settled: units lie in hold so that no load is above p, and `group` is the largest tight set inside the scope. Else more than p a module stays in
+// `group`. At most `effort` phases balance the loads first: any number of them keeps the promise.
 pub fn flow(
     n: usize,
     m: usize,
@@ -55,7 +99,7 @@ pub fn flow(
     next: &[u32],
     hold: &mut [u32],
     group: &mut [u8],
-) -> bool
+) -> Split
     requires { ⌜ n ≤ 512 ⌝ }
     requires { ⌜ Ends n m (now ends) ⌝ }
     requires { ⌜ Own n (now own) ⌝ }
@@ -63,17 +107,18 @@ pub fn flow(
     requires { ⌜ (n ≤ length (now first)) × (2 * m ≤ length (now next)) ⌝ }
     requires { ⌜ (length (now scope) ≡ n) × (length (now group) ≡ n) ⌝ }
     ensures { λ r. ⌜ Flowed n m p (now (own .entry)) (now (scope .entry)) (now (ends .entry)) (now (hold .entry)) (now (hold .exit))
-        (now (group .exit)) r ⌝ }
+        (now (group .exit)) (r .settled) ⌝ }
 {
     let mut load = [0u32; 512];
     let mut rank = [0u32; 512];
     loads(n, m, own, ends, hold, &mut load);
     phases(n, m, p, effort, scope, ends, first, next, hold, &mut load);
-    if settle(n, m, p, ends, first, next, hold, &mut load, &mut rank) {
+    let split = settle(n, m, p, ends, first, next, hold, &mut load, &mut rank);
+    if split.settled {
         drain(n, m, p, scope, ends, first, next, hold, &load, &mut rank);
         mark(n, &rank, group);
-        return true;
+        return split;
     }
     mark(n, &rank, group);
-    false
+    split
 }

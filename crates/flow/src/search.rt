@@ -1,13 +1,17 @@
 // Searches for chains (augmenting paths): breadth first from a module loaded above p along slots that hold units, to the first module loaded below p;
 // then units are pulled along the chain.
+use crate::Split;
 use crate::exits::exit;
 use crate::exits::leading;
+use crate::no_searches;
+use crate::with_chain;
 use numbers::lesser;
 use slots::capped;
 use slots::clear;
 use slots::other;
 use slots::shift;
 use slots::wide;
+use std::num::wrapping_add_u32;
 ghost use mathlib.Core.Path.{_≡_};
 ghost use Prim.Native.Nat.{_*_, _≤_, _<_};
 ghost use lib.ListN.{length, getD};
@@ -102,7 +106,8 @@ fn search(
     found
 }
 
-// Units move towards `found` along the chain by which it was reached, from its end backward, until a module on it keeps p or more.
+// Units move towards `found` along the chain by which it was reached, from its end backward, until a module on it keeps p or more. How many slots
+// they moved along.
 fn pull(
     n: usize,
     m: usize,
@@ -114,7 +119,7 @@ fn pull(
     from: &[u32],
     hold: &mut [u32],
     load: &mut [u32],
-)
+) -> u32
     requires { ⌜ Ends n m (now ends) ⌝ }
     requires { ⌜ Room m (now hold) ⌝ }
     requires { ⌜ Covers n m (now ends) (now hold) (now load) ⌝ }
@@ -124,22 +129,24 @@ fn pull(
     ensures { λ r. ⌜ Pulled n m p (now (ends .entry)) (now (hold .entry)) (now (load .entry)) (now (hold .exit)) (now (load .exit)) ⌝ }
 {
     let mut c = found;
+    let mut moved = 1;
     loop {
         let k = wide(from[c]);
         let u = wide(ends[k]);
         let d = lesser(p - load[c], hold[k]);
         shift(n, m, k, d, ends, hold, load);
         if p <= load[u] {
-            return;
+            return moved;
         }
         if u == root {
-            return;
+            return moved;
         }
         c = u;
+        moved = wrapping_add_u32(moved, 1);
     }
 }
 
-// Searches and pulls until no load is above p. False: the last search reached a set that no unit can leave.
+// Searches and pulls until no load is above p. Not settled: the last search reached a set that no unit can leave.
 pub(crate) fn settle(
     n: usize,
     m: usize,
@@ -150,16 +157,17 @@ pub(crate) fn settle(
     hold: &mut [u32],
     load: &mut [u32],
     rank: &mut [u32],
-) -> bool
+) -> Split
     requires { ⌜ n ≤ 512 ⌝ }
     requires { ⌜ Ends n m (now ends) ⌝ }
     requires { ⌜ Room m (now hold) ⌝ }
     requires { ⌜ Covers n m (now ends) (now hold) (now load) ⌝ }
     requires { ⌜ (n ≤ length (now first)) × (2 * m ≤ length (now next)) × (n ≤ length (now rank)) ⌝ }
     ensures { λ r. ⌜ Settled n m p (now (ends .entry)) (now (hold .entry)) (now (load .entry)) (now (hold .exit)) (now (load .exit))
-        (now (rank .exit)) r ⌝ }
+        (now (rank .exit)) (r .settled) ⌝ }
 {
     let mut from = [0u32; 512];
+    let mut searches = no_searches();
     let mut root = 0;
     while root < n {
         if load[root] <= p {
@@ -179,10 +187,18 @@ pub(crate) fn settle(
                 &mut from,
             );
             if v == n {
-                return false;
+                searches.none = 1;
+                return Split {
+                    settled: false,
+                    searches,
+                };
             }
-            pull(n, m, p, root, v, ends, rank, &from, hold, load);
+            let moved = pull(n, m, p, root, v, ends, rank, &from, hold, load);
+            searches = with_chain(searches, moved);
         }
     }
-    true
+    Split {
+        settled: true,
+        searches,
+    }
 }

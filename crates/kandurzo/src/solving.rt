@@ -13,6 +13,7 @@ use crate::Solved;
 use crate::buffers::clear;
 use crate::buffers::gate;
 use crate::buffers::narrow;
+use densest::PHASES;
 use densest::Solution;
 use densest::solve;
 use records::Head;
@@ -82,6 +83,7 @@ fn sheet_in(
     let found = solve(
         n,
         m,
+        PHASES,
         &work[0..ends],
         &work[8192..weights],
         members,

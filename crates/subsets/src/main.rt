@@ -267,6 +267,7 @@ fn compare(n: u32, m: usize, ends: &[u32], weights: &[u32], altered: Altered) ->
     let solution = densest::solve(
         size,
         m,
+        densest::PHASES,
         ends,
         weights,
         &mut members,

@@ -51,9 +51,9 @@ returns c =
     let s = k .before .before .before .before .before .before .before .before .before .before .before in
     let i = k .solve-in in
     let a = s .args in
-    solves-of (a .n) (a .m) (a .ends .now) (a .weights .now) (a .members .now) (a .cores .now) (a .shares .now) (i .last .1 .1 .1 .1 .1 .1 .0) _
-    (i .last .1 .1 .1 .1 .1 .1 .1 .1 .0) _ (s .pre .1 .0) (s .pre .1 .2) (i .kept .1 .1 .1 .1 .1 .1 .0 ∙ members-long s)
-    (i .kept .1 .1 .1 .1 .1 .1 .1 .1 .0 ∙ shares-long s) (i .ensures .0) (i .ensures .1)
+    solves-of (a .n) (a .m) (a .ends .now) (a .weights .now) (a .members .now) (a .cores .now) (a .shares .now) (i .last .1 .1 .1 .1 .1 .1 .1 .0) _
+    (i .last .1 .1 .1 .1 .1 .1 .1 .1 .1 .0) _ (s .pre .1 .0) (s .pre .1 .2) (i .kept .1 .1 .1 .1 .1 .1 .1 .0 ∙ members-long s)
+    (i .kept .1 .1 .1 .1 .1 .1 .1 .1 .1 .0 ∙ shares-long s) (i .ensures .0) (i .ensures .1)
 
 pub solve-spec : {M : Type 1} → statement M
 solve-spec =

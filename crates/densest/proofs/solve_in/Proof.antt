@@ -44,8 +44,8 @@ bounded c =
     let s = start c in
     found-bounded (s .args .n) (s .args .m) (s .args .ends .now) (s .args .weights .now) (s .pre .0) _ _ _ _ _ _ (c .find-best .ensures)
 
-scope-long : (c : tie.After-find-best) → length (c .find-best .last .1 .1 .1 .1 .1 .1 .1 .1 .0) ≡ start c .args .n
-scope-long c = c .find-best .kept .1 .1 .1 .1 .1 .1 .1 .1 .0 ∙ start c .pre .1 .0 .1
+scope-long : (c : tie.After-find-best) → length (c .find-best .last .1 .1 .1 .1 .1 .1 .1 .1 .1 .0) ≡ start c .args .n
+scope-long c = c .find-best .kept .1 .1 .1 .1 .1 .1 .1 .1 .1 .0 ∙ start c .pre .1 .0 .1
 
 peel-requires : tie.Need-peel-requires
 peel-requires c κs =
@@ -85,19 +85,19 @@ write-shares-requires c κs =
     )
 
 rounded-up-requires : tie.Need-rounded-up-requires
-rounded-up-requires c κs = bounded (found (c .before .before)) .some
+rounded-up-requires c κs = bounded (found (c .before .before .before)) .some
 
 group-size-requires : tie.Need-group-size-requires
-group-size-requires c κs = let f = found (c .before .before .before .before) in (few (start f), scope-long f)
+group-size-requires c κs = let f = found (c .before .before .before .before .before) in (few (start f), scope-long f)
 
 same-length-4 : tie.Need-same-length-4
-same-length-4 c = peeled (found (c .before .before .before .before .before)) .peel .kept .1 .1 .1 .1 .1 .1 .0
+same-length-4 c = peeled (found (c .before .before .before .before .before .before)) .peel .kept .1 .1 .1 .1 .1 .1 .0
 
 returns : tie.Need-returns
 unfolding list-in
 returns c =
-    let w = c .before .before .before .before .before .write-shares in
-    let f = found (c .before .before .before .before .before) in
+    let w = c .before .before .before .before .before .before .write-shares in
+    let f = found (c .before .before .before .before .before .before) in
     let p = peeled f in
     let s = begin p in (
       p .peel .ensures .cores-are,

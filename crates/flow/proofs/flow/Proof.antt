@@ -116,11 +116,12 @@ returns : tie.Need-returns
 returns c =
     let s =
     c .before .before .before .before .before .before .before .before .before .before .before .before .before .before .before .settle .ensures in
+    let so = c .before .before .before .before .before .before .before .before .before .before .if1 .taken in
     flowed-good
     (begin (c .before .before .before .before .before .before .before .before .before .before .before .before .before .before .before) .pre .1 .0)
     (all-kept (c .before .before .before .before .before .before .before .before .before .before .before .before .before .before .before))
     (all-loads (c .before .before .before .before .before .before .before .before .before .before .before .before .before .before .before))
-    (c .before .before .mark .ensures) (s .good (c .before .before .before .before .before .before .before .before .before .before .if1 .taken))
+    (c .before .before .mark .ensures) so (s .good so)
     (c .before .before .before .before .before .before .drain .ensures)
 
 slice-aggregate-mark-2 : tie.Need-slice-aggregate-mark-2
@@ -140,10 +141,11 @@ same-length-4 c = c .before .before .mark2 .kept .1 .1 .0
 returns-2 : tie.Need-returns-2
 returns-2 c =
     let s = c .before .before .before .before .before .before .before .before .before .before .settle .ensures in
+    let so = c .before .before .before .before .before .if1 .left in
     flowed-bad (begin (c .before .before .before .before .before .before .before .before .before .before) .pre .1 .0)
     (all-kept (c .before .before .before .before .before .before .before .before .before .before))
     (all-loads (c .before .before .before .before .before .before .before .before .before .before)) (c .before .before .mark2 .ensures)
-    (s .bad (c .before .before .before .before .before .if1 .left))
+    so (s .bad so)
 
 pub flow-spec : {M : Type 1} → statement M
 flow-spec =

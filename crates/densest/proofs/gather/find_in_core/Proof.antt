@@ -102,7 +102,7 @@ scatter-requires c κs =
     let t = gathered (kept f) in
     let s = start t in (
       list-ends _ _ _ _ (s .pre .0 .held .listed) (s .pre .0 .held .ends-long),
-      (core-long (marked t), (omega (arith, short s, f .find .kept .1 .1 .1 .1 .1 .1 .1 .1 .0), s .pre .0 .room .long)),
+      (core-long (marked t), (omega (arith, short s, f .find .kept .1 .1 .1 .1 .1 .1 .1 .1 .1 .0), s .pre .0 .room .long)),
     )
 
 same-length : tie.Need-same-length

@@ -4,7 +4,7 @@ use mathlib.Core.Path.{_∙_}
 use Prim.Native.Nat.{_*_, _≤_}
 use Rattle.slots.proofs.Words.{few-modules, few-pairs, list-ends}
 use Rattle.densest.specs.Search.{Link-room}
-use Rattle.densest.proofs.Solving.{found-candidate, found-settled}
+use Rattle.densest.proofs.Solving.{found-candidate}
 use borrow.Author.Needs.{needs}
 use Rattle.densest.proofs.search.find.Statement.{statement}
 use Rattle.densest.proofs.search.find.Tie as tie
@@ -43,7 +43,7 @@ last-round-requires c κs =
     let s = begin l in
     let q = s .pre in
     let e = f .search in
-    let k = e .kept .1 .1 .1 .1 .1 .1 .1 .1 .1 in (
+    let k = e .kept .1 .1 .1 .1 .1 .1 .1 .1 .1 .1 in (
       record {
         held = q .held;
         at-hand = found-candidate (s .args .n) (s .args .m) (s .args .ends .now) (s .args .weights .now) (q .held) _ _ _ _ _ _ (e .ensures);
@@ -52,16 +52,8 @@ last-round-requires c κs =
         group-long = k .1 .1 .0 ∙ q .group-long;
         room = e .ensures .room;
       },
-      (links-long l, e .ensures .last),
+      (links-long l, e .ensures),
     )
-
-returns : tie.Need-returns
-returns c =
-    let l = c .before .before .before .before .before .before in
-    let f = l .before .before .before .before .before .before .before .before .before .before .before .before in
-    let s = begin (linked f) in
-    found-settled (s .args .n) (s .args .m) (s .args .ends .now) (s .args .weights .now) (s .pre .held) _ _ _ _ _ _ (f .search .ensures) _ _ _ _
-    (l .last-round .ensures)
 
 pub find-spec : {M : Type 1} → statement M
 find-spec =
@@ -79,4 +71,4 @@ find-spec =
     (λ c. search needs)
     (λ c. search needs)
     (λ c. search needs)
-    returns)
+    (λ c. search needs))

@@ -9,27 +9,29 @@ use Rattle.densest.proofs.search.search.Statement.{statement}
 use Rattle.densest.proofs.search.search.Tie as tie
 
 abbrev Inv-loop : tie.InvT-loop
-Inv-loop n m p0 q0 ends weights cores first next scope₀ hold₀ group₀ p₀ q₀ old₀ done₀ settled₀ scope hold group p q old done settled =
+Inv-loop n m effort p0 q0 ends weights cores first next scope₀ hold₀ group₀ p₀ q₀ old₀ done₀ settled₀ searches₀ scope hold group p q old done settled
+    searches =
     Going n m ends weights cores first next scope hold group p q done settled × (length scope ≡ length scope₀) × (length hold ≡ length hold₀)
     × (length group ≡ length group₀)
 
 abbrev μ-loop : tie.MeasureT-loop
-μ-loop n m p0 q0 ends weights cores first next scope₀ hold₀ group₀ p₀ q₀ old₀ done₀ settled₀ scope hold group p q old done settled = steps n p q done
+μ-loop n m effort p0 q0 ends weights cores first next scope₀ hold₀ group₀ p₀ q₀ old₀ done₀ settled₀ searches₀ scope hold group p q old done settled
+    searches = steps n p q done
 
 -- from a round back to the loop, and to the function's entry
 abbrev turn : tie.After-round Inv-loop μ-loop → tie.At-loop Inv-loop μ-loop
 turn c = c .before .before .before .before .before
 
 abbrev begin : tie.At-loop Inv-loop μ-loop → tie.Start Inv-loop μ-loop
-begin c = c .before .before .before .before .before .before .before .before .before
+begin c = c .before .before .before .before .before .before .before .before .before .before
 
 -- the group's buffer keeps its length
-group-long : (c : tie.After-round Inv-loop μ-loop) → length (c .round .last .1 .1 .1 .1 .1 .1 .1 .1 .1 .1 .1 .1 .0) ≡ begin (turn c) .args .n
-group-long c = c .round .kept .1 .1 .1 .1 .1 .1 .1 .1 .1 .1 .1 .1 .0 ∙ turn c .loop .inv .0 .asks .group-long
+group-long : (c : tie.After-round Inv-loop μ-loop) → length (c .round .last .1 .1 .1 .1 .1 .1 .1 .1 .1 .1 .1 .1 .1 .0) ≡ begin (turn c) .args .n
+group-long c = c .round .kept .1 .1 .1 .1 .1 .1 .1 .1 .1 .1 .1 .1 .1 .0 ∙ turn c .loop .inv .0 .asks .group-long
 
 loop-holds : tie.Need-loop-holds Inv-loop μ-loop
 loop-holds c =
-    let k = c .before .before .before .before .before .before .before .before .pre in (
+    let k = c .before .before .before .before .before .before .before .before .before .pre in (
       record { asks = k .0; linked = k .1; ended = λ e. no e },
       refl,
       refl,
@@ -51,24 +53,24 @@ group-size-requires c κs =
 
 loop-less : tie.Need-loop-less Inv-loop μ-loop
 loop-less c =
-    let r = c .before .before .before .before .before .before .before .before .before .before .before in
+    let r = c .before .before .before .before .before .before .before .before .before .before .before .before in
     let a = begin (turn r) .args in
     let l = turn r .loop in
     steps-fall (a .n) (a .m) (a .ends .now) (a .weights .now) (a .cores .now) (a .first .now) (a .next .now) (l .scope) (l .hold) (l .group) _ _ _
-    (l .p) (l .q) _ _ (l .done) (l .settled) _ (c .same .result) (l .inv .0) (r .round .ensures) (c .before .before .before .inside-count .ensures)
-    (c .before .group-size .ensures) (not-true (l .done) (r .before .before .before .before .loop-test .taken))
+    (l .p) (l .q) _ _ (l .done) (l .settled) _ (c .before .same .result) (l .inv .0) (r .round .ensures) (c .before .before .before .before .inside-count .ensures)
+    (c .before .before .group-size .ensures) (not-true (l .done) (r .before .before .before .before .loop-test .taken))
 
 loop-again : tie.Need-loop-again Inv-loop μ-loop
 loop-again c =
-    let r = c .before .before .before .before .before .before .before .before .before .before .before in
+    let r = c .before .before .before .before .before .before .before .before .before .before .before .before in
     let a = begin (turn r) .args in
     let l = turn r .loop in (
       going-on (a .n) (a .m) (a .ends .now) (a .weights .now) (a .cores .now) (a .first .now) (a .next .now) (l .scope) (l .hold) (l .group) _ _ _
-          (l .p) (l .q) _ _ (l .done) (l .settled) _ (c .same .result) (l .inv .0) (r .round .ensures) (c .before .before .before .inside-count .ensures)
-          (c .before .group-size .ensures) (c .same .ensures) (r .round .kept .1 .1 .1 .1 .1 .1 .1 .1 .1 .1 .0 ∙ l .inv .0 .asks .scope-long) (group-long r),
-      r .round .kept .1 .1 .1 .1 .1 .1 .1 .1 .1 .1 .0 ∙ l .inv .1,
-      r .round .kept .1 .1 .1 .1 .1 .1 .1 .1 .1 .1 .1 .0 ∙ l .inv .2,
-      r .round .kept .1 .1 .1 .1 .1 .1 .1 .1 .1 .1 .1 .1 .0 ∙ l .inv .3,
+          (l .p) (l .q) _ _ (l .done) (l .settled) _ (c .before .same .result) (l .inv .0) (r .round .ensures) (c .before .before .before .before .inside-count .ensures)
+          (c .before .before .group-size .ensures) (c .before .same .ensures) (r .round .kept .1 .1 .1 .1 .1 .1 .1 .1 .1 .1 .1 .0 ∙ l .inv .0 .asks .scope-long) (group-long r),
+      r .round .kept .1 .1 .1 .1 .1 .1 .1 .1 .1 .1 .1 .0 ∙ l .inv .1,
+      r .round .kept .1 .1 .1 .1 .1 .1 .1 .1 .1 .1 .1 .1 .0 ∙ l .inv .2,
+      r .round .kept .1 .1 .1 .1 .1 .1 .1 .1 .1 .1 .1 .1 .1 .0 ∙ l .inv .3,
     )
 
 same-length : tie.Need-same-length Inv-loop μ-loop
@@ -89,10 +91,12 @@ search-spec =
     (tie.spec
     Inv-loop
     μ-loop
+    (λ c κs. tt)
     loop-holds
     round-requires
     inside-count-requires
     group-size-requires
+    (λ c κs. tt)
     (λ c κs. tt)
     loop-less
     loop-again

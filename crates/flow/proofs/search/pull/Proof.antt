@@ -10,10 +10,10 @@ use Rattle.flow.proofs.search.pull.Statement.{statement}
 use Rattle.flow.proofs.search.pull.Tie as tie
 
 abbrev Inv-loop : tie.InvT-loop
-Inv-loop n m p root found ends rank from hold₀ load₀ c₀ hold load c = Chain n m p root ends rank from hold₀ load₀ hold load c
+Inv-loop n m p root found ends rank from hold₀ load₀ c₀ moved₀ hold load c moved = Chain n m p root ends rank from hold₀ load₀ hold load c
 
 abbrev μ-loop : tie.MeasureT-loop
-μ-loop n m p root found ends rank from hold₀ load₀ c₀ hold load c = getD rank c 0
+μ-loop n m p root found ends rank from hold₀ load₀ c₀ moved₀ hold load c moved = getD rank c 0
 
 -- the function's entry
 abbrev begin : tie.At-loop Inv-loop μ-loop → tie.Start Inv-loop μ-loop
@@ -98,13 +98,13 @@ returns-2 : tie.Need-returns-2 Inv-loop μ-loop
 returns-2 c = chain-ends (c .before .before .before .before .before .before .before) (inr (c .if2 .taken))
 
 loop-less : tie.Need-loop-less Inv-loop μ-loop
-loop-less c = at-parent (wide-of (c .before .before .before .before .before .before .before)) .less
+loop-less c = at-parent (wide-of (c .before .before .before .before .before .before .before .before)) .less
 
 loop-again : tie.Need-loop-again Inv-loop μ-loop
 loop-again c =
-    let s = c .before .before .before .before .before .before .before in
+    let s = c .before .before .before .before .before .before .before .before in
     let d = s .before .before .before .lesser .ensures in
-    chain-next (loop-of s .loop .inv) (at-parent (wide-of s)) d (s .shift .ensures .0) (s .shift .ensures .1) (c .before .if1 .left) (c .if2 .left)
+    chain-next (loop-of s .loop .inv) (at-parent (wide-of s)) d (s .shift .ensures .0) (s .shift .ensures .1) (c .before .before .if1 .left) (c .before .if2 .left)
 
 pub pull-spec : {M : Type 1} → statement M
 pull-spec =
@@ -134,5 +134,6 @@ pull-spec =
     same-length-3
     same-length-4
     returns-2
+    (λ c κs. tt)
     loop-less
     loop-again)

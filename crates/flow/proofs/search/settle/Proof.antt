@@ -9,15 +9,15 @@ use Rattle.flow.proofs.search.settle.Statement.{statement}
 use Rattle.flow.proofs.search.settle.Tie as tie
 
 abbrev Inv-loop : tie.InvT-loop
-Inv-loop n m p ends first next hold₀ load₀ rank₀ from₀ root₀ hold load rank from root =
+Inv-loop n m p ends first next hold₀ load₀ rank₀ from₀ searches₀ root₀ hold load rank from searches root =
     Settling n m p root ends hold₀ load₀ hold load × (n ≤ 512) × (n ≤ length rank) × (length rank ≡ length rank₀) × (length from ≡ 512)
 
 abbrev μ-loop : tie.MeasureT-loop
-μ-loop n m p ends first next hold₀ load₀ rank₀ from₀ root₀ hold load rank from root = excess n p load + (n - root)
+μ-loop n m p ends first next hold₀ load₀ rank₀ from₀ searches₀ root₀ hold load rank from searches root = excess n p load + (n - root)
 
 -- the function's entry
 abbrev begin : tie.At-loop Inv-loop μ-loop → tie.Start Inv-loop μ-loop
-begin c = c .before .before .before .before .before .before .before
+begin c = c .before .before .before .before .before .before .before .before
 
 -- from a search back to the loop
 abbrev loop-of : tie.After-search Inv-loop μ-loop → tie.At-loop Inv-loop μ-loop
@@ -29,7 +29,7 @@ from-long c = c .search .kept .1 .1 .1 .1 .1 .1 .1 .1 .1 .1 .0 ∙ loop-of c .lo
 
 loop-holds : tie.Need-loop-holds Inv-loop μ-loop
 loop-holds c =
-    let q = c .before .before .before .before .before .before .pre in
+    let q = c .before .before .before .before .before .before .before .pre in
     (settling-start (q .1 .1 .0) (q .1 .1 .1 .0), q .0, q .1 .1 .1 .1 .2, refl, refl)
 
 loop-again : tie.Need-loop-again Inv-loop μ-loop
@@ -89,14 +89,14 @@ pull-requires c κs =
     (begin l .pre .1 .0, (g .room, (g .covers, (s .tree _, ((in-turn, over), (omega (arith, s .within), r .0, r .1))))))
 
 loop-less-2 : tie.Need-loop-less-2 Inv-loop μ-loop
-loop-less-2 c = omega (arith, c .before .before .before .before .pull .ensures .less-excess)
+loop-less-2 c = omega (arith, c .before .before .before .before .before .pull .ensures .less-excess)
 
 loop-again-2 : tie.Need-loop-again-2 Inv-loop μ-loop
 loop-again-2 c =
-    let s = c .before .before .before .before .before .before .before .before .before .before .before .before .before in
+    let s = c .before .before .before .before .before .before .before .before .before .before .before .before .before .before in
     let i = loop-of s .loop .inv in
     let k = s .search .kept .1 .1 .1 .1 .1 .1 .1 .1 .1 .0 in
-    (settling-pulled (i .0) (c .before .before .before .before .pull .ensures), i .1, omega arith, k ∙ i .3, from-long s)
+    (settling-pulled (i .0) (c .before .before .before .before .before .pull .ensures), i .1, omega arith, k ∙ i .3, from-long s)
 
 same-length-4 : tie.Need-same-length-4 Inv-loop μ-loop
 same-length-4 c = c .before .loop .inv .0 .kept .hold-long
@@ -116,6 +116,7 @@ settle-spec =
     (tie.spec
     Inv-loop
     μ-loop
+    (λ c κs. tt)
     loop-holds
     (λ c. omega arith)
     (λ c. omega arith)
@@ -130,6 +131,7 @@ settle-spec =
     returns
     slice-aggregate-pull
     pull-requires
+    (λ c κs. tt)
     loop-less-2
     loop-again-2
     same-length-4

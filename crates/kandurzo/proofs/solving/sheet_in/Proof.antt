@@ -28,8 +28,8 @@ pairs-m s = length-laid (s .args .m) (now (s .args .work))
 
 -- what solve left, of that list
 done : (c : tie.After-solve) →
-    Solves (list-of (begin c)) (now (begin c .args .members)) (replicate {A = ℕ} 512 0) (replicate {A = ℕ} 4096 0) (c .solve .last .1 .1 .1 .1 .0)
-    (c .solve .last .1 .1 .1 .1 .1 .0) (c .solve .last .1 .1 .1 .1 .1 .1 .0) (c .solve .result)
+    Solves (list-of (begin c)) (now (begin c .args .members)) (replicate {A = ℕ} 512 0) (replicate {A = ℕ} 4096 0) (c .solve .last .1 .1 .1 .1 .1 .0)
+    (c .solve .last .1 .1 .1 .1 .1 .1 .0) (c .solve .last .1 .1 .1 .1 .1 .1 .1 .0) (c .solve .result)
 done c = let a = begin c .args in rw (cut-list (a .n) (a .m) (now (a .work))) at (c .solve .ensures)
 
 -- n is at most 512, m at most 4,096
