@@ -1,10 +1,9 @@
 // The product's calls, on words that hold a list.
-ghost use Rattle.theory.specs.Words.{Holds-list};
-use crate::entries::as_word;
 use densest::Solution;
 use pairfile::Reading;
 use verify::Difference;
 use verify::Verdict;
+ghost use Rattle.theory.specs.Words.{Holds-list};
 
 // What peel answers: leaving order, core numbers, places, and the densest remainder.
 pub struct Peeled {
@@ -22,15 +21,17 @@ pub struct Solved {
     pub record: Solution,
 }
 
-pub(crate) fn peel_words(list: Reading, words: &[u32]) -> Peeled
+pub(crate) fn peel(list: Reading, words: &[u32]) -> Peeled
     requires { ⌜ Holds-list (list .n) (list .m) (now words) ⌝ }
 {
     let mut order = [0u32; 512];
     let mut cores = [0u32; 512];
     let mut place = [0u32; 512];
+    let n = list.n as usize;
+    let m = list.m as usize;
     let best = peel::peel(
-        list.n as usize,
-        list.m as usize,
+        n,
+        m,
         1,
         words,
         &words[8192..],
@@ -47,15 +48,18 @@ pub(crate) fn peel_words(list: Reading, words: &[u32]) -> Peeled
 }
 
 // Solve with at most `effort` push phases before each search.
-pub(crate) fn solve_words(list: Reading, effort: usize, words: &[u32]) -> Solved
+pub(crate) fn solve(list: Reading, effort: usize, words: &[u32]) -> Solved
     requires { ⌜ Holds-list (list .n) (list .m) (now words) ⌝ }
 {
     let mut members = [0u8; 512];
     let mut cores = [0u32; 512];
     let mut shares = [0u32; 4096];
+    let n = list.n as usize;
+    let m = list.m as usize;
     let record = densest::solve(
-        list.n as usize,
-        list.m as usize,
+        n,
+        m,
+        effort,
         words,
         &words[8192..],
         &mut members,
@@ -70,20 +74,29 @@ pub(crate) fn solve_words(list: Reading, effort: usize, words: &[u32]) -> Solved
     }
 }
 
+// A verdict with a refusal number.
+pub(crate) fn refused(number: u32) -> Verdict {
+    Verdict { number, p: 0, q: 0 }
+}
+
 // Check; refused by 12 where a buffer is too short.
 pub(crate) fn check(list: Reading, words: &[u32], members: &[u8], shares: &[u16]) -> Verdict
     requires { ⌜ Holds-list (list .n) (list .m) (now words) ⌝ }
 {
     let n = list.n as usize;
     let m = list.m as usize;
-    if members.len() < n || shares.len() < m {
-        return Verdict {
-            number: 12,
-            p: 0,
-            q: 0,
-        };
+    if members.len() < n {
+        return refused(12);
+    }
+    if shares.len() < m {
+        return refused(12);
     }
     verify::check_words(n, m, words, &words[8192..], members, shares)
+}
+
+// A difference with a refusal number.
+fn no_difference(number: u32) -> Difference {
+    Difference { number, value: 0 }
 }
 
 // Surplus; refused by 12 where a buffer is too short.
@@ -91,11 +104,12 @@ pub(crate) fn surplus(list: Reading, words: &[u32], first: &[u8], second: &[u8])
     requires { ⌜ Holds-list (list .n) (list .m) (now words) ⌝ }
 {
     let n = list.n as usize;
-    if first.len() < n || second.len() < n {
-        return Difference {
-            number: 12,
-            value: 0,
-        };
+    let m = list.m as usize;
+    if first.len() < n {
+        return no_difference(12);
     }
-    verify::surplus_words(n, list.m as usize, words, &words[8192..], first, second)
+    if second.len() < n {
+        return no_difference(12);
+    }
+    verify::surplus_words(n, m, words, &words[8192..], first, second)
 }

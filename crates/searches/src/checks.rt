@@ -1,24 +1,31 @@
-// Check of a sheet by both computations: accepted sheets changed in one place each, and every sheet of a small list.
-ghost use Rattle.theory.specs.Words.{Holds-list};
-use crate::calls::check;
+// Check of a sheet by both computations: sheets of solve changed in one place each, and every sheet of a small list.
+use crate::calls;
+use crate::entries::byte_at;
+use crate::entries::mark;
+use crate::entries::more;
 use crate::entries::put_byte;
 use crate::entries::put_share;
-use crate::lists::Kind;
-use crate::sheets::Change;
-use crate::sheets::alter;
-use crate::sheets::mark;
-use crate::sheets::share_out;
+use crate::entries::share_at;
+use crate::solves::narrow_shares;
 use crate::tally::Tally;
 use crate::verdicts::check_plainly;
 use crate::verdicts::same_verdict;
 use pairfile::Reading;
+ghost use Rattle.theory.specs.Words.{Holds-list};
 
-// A sheet of a list of a kind, with the first `group` modules as members, changed at the places that are multiples of `step`.
-pub struct Changed {
-    pub kind: Kind,
-    pub group: u32,
-    pub change: Change,
-    pub step: u32,
+// What is changed in a sheet: nothing, a share or a member byte in one place, or all bytes.
+pub enum Change {
+    Nothing,
+    Raised,
+    Lowered,
+    // A unit goes from a share to the next.
+    Moved,
+    // The share becomes Q + 1.
+    Past,
+    Added,
+    Dropped,
+    Two,
+    Emptied,
 }
 
 // The answers are counted as accepted, refused by 7, by 8, by 9.
@@ -35,19 +42,93 @@ fn answer(number: u32) -> usize {
 fn judge(list: Reading, words: &[u32], members: &[u8], shares: &[u16], seen: Tally) -> Tally
     requires { ⌜ Holds-list (list .n) (list .m) (now words) ⌝ }
 {
-    let verdict = check(list, words, members, shares);
+    let verdict = calls::check(list, words, members, shares);
     let plain = check_plainly(list, words, members, shares);
-    seen.answered(same_verdict(verdict, plain), answer(verdict.number))
+    seen.compared(same_verdict(verdict, plain))
+        .answered(answer(verdict.number))
 }
 
-// Whether a place is one of those to change.
-fn is_due(at: u32, step: u32) -> bool {
-    if step == 0 { false } else { at % step == 0 }
+// How many places a change has in a list of n modules and m pairs.
+pub(crate) fn places(change: Change, n: u32, m: u32) -> u32 {
+    match change {
+        Change::Nothing | Change::Emptied => 1,
+        Change::Added | Change::Dropped | Change::Two => n,
+        _ => m,
+    }
 }
 
-// Makes a sheet, changes it at a place, and tries it.
-pub(crate) fn try_change(
-    changed: Changed,
+// One less, where there is one.
+fn less(x: u32) -> u32 {
+    if x == 0 { 0 } else { x - 1 }
+}
+
+// A share x of q units, changed.
+fn new_share(change: Change, q: u32, x: u32) -> u32 {
+    match change {
+        Change::Raised => more(x),
+        Change::Lowered | Change::Moved => less(x),
+        Change::Past => more(q),
+        _ => x,
+    }
+}
+
+// The share y after a share x that is changed.
+fn next_share(change: Change, x: u32, y: u32) -> u32 {
+    match change {
+        Change::Moved => if x == 0 { y } else { more(y) },
+        _ => y,
+    }
+}
+
+fn change_shares(change: Change, at: u32, q: u32, shares: &mut [u16]) {
+    let x = share_at(shares, at);
+    let y = share_at(shares, more(at));
+    put_share(shares, at, new_share(change, q, x));
+    put_share(shares, more(at), next_share(change, x, y));
+}
+
+// A member byte, changed.
+fn new_byte(change: Change, x: u8) -> u8 {
+    match change {
+        Change::Added => 1,
+        Change::Dropped => 0,
+        Change::Two => 2,
+        _ => x,
+    }
+}
+
+// How many bytes become 0.
+fn emptied(change: Change) -> u32 {
+    match change {
+        Change::Emptied => 512,
+        _ => 0,
+    }
+}
+
+fn change_bytes(change: Change, at: u32, members: &mut [u8]) {
+    let x = byte_at(members, at);
+    put_byte(members, at, new_byte(change, x));
+    mark(emptied(change), 0, members);
+}
+
+// Solves the list, changes the sheet at a place, and tries it.
+fn try_change(change: Change, at: u32, list: Reading, words: &[u32], seen: Tally) -> Tally
+    requires { ⌜ Holds-list (list .n) (list .m) (now words) ⌝ }
+{
+    let solved = calls::solve(list, densest::PHASES, words);
+    let record = solved.record;
+    let mut members = solved.members;
+    let mut shares = [0u16; 4096];
+    narrow_shares(list.m, &solved.shares, &mut shares);
+    change_shares(change, at, record.q, &mut shares);
+    change_bytes(change, at, &mut members);
+    judge(list, words, &members, &shares, seen)
+}
+
+// A change at a place that is a multiple of `step`.
+pub(crate) fn try_place(
+    change: Change,
+    step: u32,
     at: u32,
     list: Reading,
     words: &[u32],
@@ -55,18 +136,14 @@ pub(crate) fn try_change(
 ) -> Tally
     requires { ⌜ Holds-list (list .n) (list .m) (now words) ⌝ }
 {
-    let mut members = [0u8; 512];
-    let mut shares = [0u16; 4096];
-    let group = changed.group;
-    if !is_due(at, changed.step) {
+    if step == 0 {
         return seen;
     }
-    mark(group, 1, &mut members);
-    share_out(changed.kind, group, list.m, words, &mut shares);
-    if !alter(changed.change, at, group, &mut members, &mut shares) {
-        return seen;
+    if at % step == 0 {
+        try_change(change, at, list, words, seen)
+    } else {
+        seen
     }
-    judge(list, words, &members, &shares, seen)
 }
 
 fn digit(x: u32) -> u8 {

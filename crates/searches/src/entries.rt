@@ -7,14 +7,8 @@ pub struct Ends {
     pub b: u32,
 }
 
-// One more.
 pub(crate) fn more(x: u32) -> u32 {
     wrapping_add_u32(x, 1)
-}
-
-// A length as a word, and 65,536 in the place of any above it.
-pub(crate) fn as_word(x: usize) -> u32 {
-    if x < 65536 { x as u32 } else { 65536 }
 }
 
 pub(crate) fn word_at(words: &[u32], i: u32) -> u32 {
@@ -86,6 +80,10 @@ pub(crate) fn same_words(n: u32, xs: &[u32], ys: &[u32]) -> bool {
     true
 }
 
+fn wide_byte(x: u8) -> u32 {
+    x as u32
+}
+
 // The first n member bytes as words, and how many are 1; 0 where one is above 1, as where none is 1.
 pub(crate) fn read_set(n: u32, members: &[u8], set: &mut [u32]) -> u32 {
     let mut count = 0;
@@ -102,6 +100,11 @@ pub(crate) fn read_set(n: u32, members: &[u8], set: &mut [u32]) -> u32 {
     count
 }
 
-fn wide_byte(x: u8) -> u32 {
-    x as u32
+// The first `count` bytes become x.
+pub(crate) fn mark(count: u32, x: u8, members: &mut [u8]) {
+    let mut i = 0;
+    while i < count {
+        put_byte(members, i, x);
+        i += 1;
+    }
 }

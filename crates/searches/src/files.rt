@@ -1,10 +1,9 @@
-// The pair file of a list, written into a text: what the product's own reader takes, so that the words hold a list where it accepts.
-use crate::entries::as_word;
+// The pair file of a list, written into a text: the product's own reader takes it, and the words hold a list where it accepts. A walk goes over all pairs
+// a,b of n modules, a below b, in rising order, and takes each or not.
 use crate::entries::byte_at;
 use crate::entries::more;
 use crate::entries::put_byte;
 use crate::lists::Listed;
-use crate::lists::next;
 use crate::lists::takes;
 use std::num::wrapping_add_u32;
 
@@ -18,6 +17,11 @@ pub struct Walk {
     pub end: u32,
 }
 
+// A length as a word, and 65,536 in the place of any above it.
+fn as_word(x: usize) -> u32 {
+    if x < 65536 { x as u32 } else { 65536 }
+}
+
 // Writes bytes at `end`; where they end.
 fn put_bytes(bytes: &[u8], end: u32, text: &mut [u8]) -> u32 {
     let count = as_word(bytes.len());
@@ -29,21 +33,38 @@ fn put_bytes(bytes: &[u8], end: u32, text: &mut [u8]) -> u32 {
     wrapping_add_u32(end, i)
 }
 
-// Writes a name and a number.
-fn put_number(name: &[u8], x: u32, end: u32, text: &mut [u8]) -> u32 {
+// Writes bytes and a number.
+fn put_number(bytes: &[u8], x: u32, end: u32, text: &mut [u8]) -> u32 {
     let mut digits = [0u8; 20];
-    let named = put_bytes(name, end, text);
+    let named = put_bytes(bytes, end, text);
     let count = io::decimal(x as u64, &mut digits);
     put_bytes(&digits[..count], named, text)
 }
 
 fn put_pair(a: u32, b: u32, end: u32, text: &mut [u8]) -> u32 {
-    let first = put_number(b"pair=", a, end, text);
-    let second = put_number(b",", b, first, text);
-    put_bytes(b"\n", second, text)
+    let first = put_number(b"\npair=", a, end, text);
+    put_number(b",", b, first, text)
 }
 
-// The pair after a,b.
+// The next random state, never 0 after one that is not (xorshift of Marsaglia, 32 bits).
+fn next(state: u32) -> u32 {
+    let x = state ^ (state << 13);
+    let y = x ^ (x >> 17);
+    y ^ (y << 5)
+}
+
+// One pair of the walk. No more than 4,096 are taken.
+fn step(list: Listed, walk: Walk, text: &mut [u8]) -> Walk {
+    let mut now = walk;
+    now.state = next(walk.state);
+    if walk.taken < 4096 && takes(list, walk.a, walk.b, walk.passed, now.state / 65536) {
+        now.taken = more(walk.taken);
+        now.end = put_pair(walk.a, walk.b, walk.end, text);
+    }
+    now
+}
+
+// The pair after the next one.
 fn passed(n: u32, walk: Walk) -> Walk {
     let mut now = walk;
     now.passed = more(walk.passed);
@@ -55,18 +76,7 @@ fn passed(n: u32, walk: Walk) -> Walk {
     now
 }
 
-// One pair of the walk. No more than 4,096 are taken.
-fn step(list: Listed, walk: Walk, text: &mut [u8]) -> Walk {
-    let mut now = walk;
-    now.state = next(walk.state);
-    if walk.taken < 4096 && takes(list, walk.a, walk.b, walk.passed, now.state / 65536) {
-        now.taken = more(walk.taken);
-        now.end = put_pair(walk.a, walk.b, walk.end, text);
-    }
-    passed(list.n, now)
-}
-
-// Writes the lines of a list's pairs; 512 modules have 130,816 pairs.
+// Writes the lines of a list's pairs, each with the line end before it; 512 modules have 130,816 pairs.
 fn put_pairs(list: Listed, state: u32, end: u32, text: &mut [u8]) -> Walk {
     let mut walk = Walk {
         a: 0,
@@ -76,12 +86,12 @@ fn put_pairs(list: Listed, state: u32, end: u32, text: &mut [u8]) -> Walk {
         state,
         end,
     };
-    let mut i = 0;
+    let mut i: u32 = 0;
     while i < 130816 {
         if list.n <= walk.b {
             return walk;
         }
-        walk = step(list, walk, text);
+        walk = passed(list.n, step(list, walk, text));
         i += 1;
     }
     walk
@@ -92,5 +102,7 @@ pub(crate) fn put_file(list: Listed, state: u32, text: &mut [u8]) -> Walk {
     let counted = put_pairs(list, state, 0, text);
     let first = put_number(b"modules=", list.n, 0, text);
     let second = put_number(b"\npairs=", counted.taken, first, text);
-    put_pairs(list, state, put_bytes(b"\n", second, text), text)
+    let mut walk = put_pairs(list, state, second, text);
+    walk.end = put_bytes(b"\n", walk.end, text);
+    walk
 }

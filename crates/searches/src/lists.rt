@@ -1,12 +1,11 @@
-// Which lists are tried: their kinds, and the pairs that a kind takes. A walk goes over all pairs a,b of n modules, a below b, in rising order, and takes
-// each or not; so the pairs taken rise, and each is taken once.
+// Which lists are tried: their kinds, and the pairs that a kind takes.
 use crate::entries::more;
 use std::num::wrapping_add_u32;
 use std::num::wrapping_sub_u32;
 
 // The kinds of lists.
 pub enum Kind {
-    // The pairs of the mask's bits: bit 0 for the first pair of the walk.
+    // The pairs of the mask's bits: bit 0 for the first pair of all.
     Mask(u32),
     // Each pair so many times of 65,536.
     Chance(u32),
@@ -34,53 +33,12 @@ pub struct Listed {
 pub enum Source {
     // Every list of 1 to 5 modules: 1, 2, 8, 64 and 1,024 of them.
     Masks,
+    // Every list of 4 modules: 64 of them.
+    Fours,
     // Lists of 6 to 12 modules, each pair taken 1, 2, .. 15 times of 16: 40 of each.
     Draws,
     // Lists of one kind: `each` of every number of modules from `least` on.
     Alike { kind: Kind, least: u32, each: u32 },
-}
-
-// `count` lists of a source, from number `first` on.
-pub struct Lists {
-    pub source: Source,
-    pub first: u32,
-    pub count: u32,
-}
-
-// Every list of 1 to 5 modules.
-pub(crate) fn every() -> Lists {
-    Lists {
-        source: Source::Masks,
-        first: 0,
-        count: 1099,
-    }
-}
-
-// Every list of 4 modules.
-pub(crate) fn every_of_4() -> Lists {
-    Lists {
-        source: Source::Masks,
-        first: 11,
-        count: 64,
-    }
-}
-
-// All lists of 6 to 12 modules that are drawn.
-pub(crate) fn drawn() -> Lists {
-    Lists {
-        source: Source::Draws,
-        first: 0,
-        count: 4200,
-    }
-}
-
-// `count` lists of one kind: `each` of every number of modules from `least` on.
-pub(crate) fn alike(kind: Kind, least: u32, each: u32, count: u32) -> Lists {
-    Lists {
-        source: Source::Alike { kind, least, each },
-        first: 0,
-        count,
-    }
 }
 
 fn masked(mask: u32, n: u32) -> Listed {
@@ -116,6 +74,7 @@ fn parted(i: u32, each: u32) -> u32 {
 pub(crate) fn list_at(source: Source, i: u32) -> Listed {
     match source {
         Source::Masks => mask_at(i),
+        Source::Fours => masked(i, 4),
         Source::Draws => Listed {
             kind: Kind::Chance(4096 * (1 + i / 40 % 15)),
             n: 6 + i / 600,
@@ -125,13 +84,6 @@ pub(crate) fn list_at(source: Source, i: u32) -> Listed {
             n: wrapping_add_u32(least, parted(i, each)),
         },
     }
-}
-
-// The next random state, never 0 after one that is not (xorshift of Marsaglia, 32 bits).
-pub(crate) fn next(state: u32) -> u32 {
-    let x = state ^ (state << 13);
-    let y = x ^ (x >> 17);
-    y ^ (y << 5)
 }
 
 // Bit i of a mask.
@@ -153,7 +105,7 @@ fn neighbours(n: u32, a: u32, b: u32) -> bool {
     more(a) == b || wrapping_sub_u32(b, a) == wrapping_sub_u32(n, 1)
 }
 
-// Whether a list takes the pair a,b, the one after `passed` others, with a draw of 0 to 65,535.
+// Whether a list takes the pair a,b, a below b, the one after `passed` others in rising order, with a draw of 0 to 65,535.
 pub(crate) fn takes(list: Listed, a: u32, b: u32, passed: u32, draw: u32) -> bool {
     let kind = list.kind;
     match kind {

@@ -1,19 +1,12 @@
 // Peel's answer beside that of the plain computation.
+use crate::altered;
+use crate::altered::raised;
 use crate::calls::Peeled;
-use crate::entries::more;
 use crate::entries::same_words;
 use crate::plain::leave;
 use crate::plain::number_cores;
 use pairfile::Reading;
-
-// What is altered in peel's answer before it is compared.
-pub enum AlteredPeel {
-    Nothing,
-    Order,
-    Cores,
-    Place,
-    Remainder,
-}
+use peel::Remainder;
 
 // The plain answer.
 pub(crate) fn peel_plainly(list: Reading, words: &[u32]) -> Peeled {
@@ -30,19 +23,16 @@ pub(crate) fn peel_plainly(list: Reading, words: &[u32]) -> Peeled {
     }
 }
 
-// Alters the first entry of a buffer, or where the remainder begins.
-pub(crate) fn alter_peel(altered: AlteredPeel, peeled: Peeled) -> Peeled {
+// Peel's answer with one thing altered.
+pub(crate) fn alter_peel(thing: u32, peeled: Peeled) -> Peeled {
     let mut order = peeled.order;
     let mut cores = peeled.cores;
     let mut place = peeled.place;
     let mut best = peeled.best;
-    match altered {
-        AlteredPeel::Nothing => {}
-        AlteredPeel::Order => order[0] = more(order[0]),
-        AlteredPeel::Cores => cores[0] = more(cores[0]),
-        AlteredPeel::Place => place[0] = more(place[0]),
-        AlteredPeel::Remainder => best.at = more(best.at),
-    }
+    order[0] = raised(thing, altered::ORDER, order[0]);
+    cores[0] = raised(thing, altered::CORES, cores[0]);
+    place[0] = raised(thing, altered::PLACE, place[0]);
+    best.at = raised(thing, altered::REMAINDER, best.at);
     Peeled {
         order,
         cores,
@@ -51,20 +41,20 @@ pub(crate) fn alter_peel(altered: AlteredPeel, peeled: Peeled) -> Peeled {
     }
 }
 
-fn same_remainder(x: peel::Remainder, y: peel::Remainder) -> bool {
+fn same_remainder(x: Remainder, y: Remainder) -> bool {
     x.p == y.p && x.q == y.q && x.at == y.at
 }
 
 // Whether two answers for n modules are the same.
 pub(crate) fn same_peel(n: u32, x: Peeled, y: Peeled) -> bool {
-    let x_order = x.order;
-    let y_order = y.order;
-    let x_cores = x.cores;
-    let y_cores = y.cores;
-    let x_place = x.place;
-    let y_place = y.place;
-    same_words(n, &x_order, &y_order)
-        && same_words(n, &x_cores, &y_cores)
-        && same_words(n, &x_place, &y_place)
-        && same_remainder(x.best, y.best)
+    if !same_words(n, &x.order, &y.order) {
+        return false;
+    }
+    if !same_words(n, &x.cores, &y.cores) {
+        return false;
+    }
+    if !same_words(n, &x.place, &y.place) {
+        return false;
+    }
+    same_remainder(x.best, y.best)
 }

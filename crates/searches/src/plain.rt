@@ -11,18 +11,22 @@ use peel::Remainder;
 use std::num::wrapping_add_u32;
 use std::num::wrapping_sub_u32;
 
+// One pair more for module v.
+fn bump(v: u32, degrees: &mut [u32]) {
+    let degree = more(word_at(degrees, v));
+    put_word(degrees, v, degree);
+}
+
 // Counts a pair of modules present for each of them; 1, or 0 where one is not.
 fn count_pair(k: u32, pair: Ends, levels: &[u32], degrees: &mut [u32]) -> u32 {
-    let a = pair.a;
-    let b = pair.b;
-    if word_at(levels, a) < k {
+    if word_at(levels, pair.a) < k {
         return 0;
     }
-    if word_at(levels, b) < k {
+    if word_at(levels, pair.b) < k {
         return 0;
     }
-    put_word(degrees, a, more(word_at(degrees, a)));
-    put_word(degrees, b, more(word_at(degrees, b)));
+    bump(pair.a, degrees);
+    bump(pair.b, degrees);
     1
 }
 

@@ -1,6 +1,7 @@
 // Solve's answer beside the plain computations, its sheet put to check, and one answer beside another.
-ghost use Rattle.theory.specs.Words.{Holds-list};
-use crate::calls::Peeled;
+use crate::altered;
+use crate::altered::chosen;
+use crate::altered::raised;
 use crate::calls::Solved;
 use crate::calls::check;
 use crate::entries::more;
@@ -14,54 +15,48 @@ use crate::sets::same_set;
 use densest::Solution;
 use pairfile::Reading;
 use std::num::wrapping_add_u32;
+ghost use Rattle.theory.specs.Words.{Holds-list};
 
-// What is altered in solve's answer before it is compared.
-pub enum AlteredSolve {
-    Nothing,
-    Member,
-    Inside,
-    Size,
-    Order,
-    Core,
-    Number,
-    Share,
+// A record with one number altered.
+fn alter_record(thing: u32, record: Solution) -> Solution {
+    let mut now = record;
+    now.p = raised(thing, altered::INSIDE, record.p);
+    now.q = raised(thing, altered::SIZE, record.q);
+    now.k = raised(thing, altered::K, record.k);
+    now.core = raised(thing, altered::CORE_SIZE, record.core);
+    now
 }
 
-fn other_byte(x: u8) -> u8 {
-    if x == 0 { 1 } else { 0 }
+fn other_byte(thing: u32, x: u8) -> u8 {
+    if thing == altered::MEMBER {
+        if x == 0 { 1 } else { 0 }
+    } else {
+        x
+    }
 }
 
-// Alters a member byte, a number of the record, a core number, or the first share, which passes Q.
-pub(crate) fn alter_solve(altered: AlteredSolve, solved: Solved) -> Solved {
+// Solve's answer with one thing altered.
+pub(crate) fn alter_solve(thing: u32, solved: Solved) -> Solved {
     let mut members = solved.members;
     let mut cores = solved.cores;
     let mut shares = solved.shares;
-    let mut record = solved.record;
-    match altered {
-        AlteredSolve::Nothing => {}
-        AlteredSolve::Member => members[0] = other_byte(members[0]),
-        AlteredSolve::Inside => record.p = more(record.p),
-        AlteredSolve::Size => record.q = more(record.q),
-        AlteredSolve::Order => record.k = more(record.k),
-        AlteredSolve::Core => record.core = more(record.core),
-        AlteredSolve::Number => cores[0] = more(cores[0]),
-        AlteredSolve::Share => shares[0] = more(record.q),
-    }
+    let record = solved.record;
+    members[0] = other_byte(thing, members[0]);
+    cores[0] = raised(thing, altered::CORE_NUMBER, cores[0]);
+    shares[0] = chosen(thing, altered::SHARE, shares[0], more(record.q));
     Solved {
         members,
         cores,
         shares,
-        record,
+        record: alter_record(thing, record),
     }
 }
 
 // Whether the group is the densest of all sets, of equals the largest, with its inside count and size. Sets are tried of up to 12 modules.
 fn group_right(n: u32, solved: Solved, best: Best) -> bool {
     let mut set = [0u32; 512];
-    let members = solved.members;
     let record = solved.record;
-    let size = read_set(n, &members, &mut set);
-    if size != record.q {
+    if read_set(n, &solved.members, &mut set) != record.q {
         return false;
     }
     if 12 < n {
@@ -80,17 +75,16 @@ fn rounded_up(p: u32, q: u32) -> u32 {
 }
 
 // Whether the core numbers are the plain ones, K is P over Q rounded up, and the core's size that of the core of order K.
-fn cores_right(n: u32, solved: Solved, plain: Peeled) -> bool {
-    let cores = solved.cores;
-    let plain_cores = plain.cores;
+fn cores_right(n: u32, solved: Solved, cores: &[u32]) -> bool {
     let record = solved.record;
-    same_words(n, &cores, &plain_cores)
-        && record.k == rounded_up(record.p, record.q)
-        && record.core == core_size(record.k, n, &plain_cores)
+    if !same_words(n, &solved.cores, cores) {
+        return false;
+    }
+    record.k == rounded_up(record.p, record.q) && record.core == core_size(record.k, n, cores)
 }
 
 // The first m shares as check takes them.
-fn narrow_shares(m: u32, shares: &[u32], sheet: &mut [u16]) {
+pub(crate) fn narrow_shares(m: u32, shares: &[u32], sheet: &mut [u16]) {
     let mut j = 0;
     while j < m {
         put_share(sheet, j, word_at(shares, j));
@@ -103,26 +97,24 @@ fn sheet_right(list: Reading, words: &[u32], solved: Solved) -> bool
     requires { ⌜ Holds-list (list .n) (list .m) (now words) ⌝ }
 {
     let mut sheet = [0u16; 4096];
-    let members = solved.members;
-    let shares = solved.shares;
     let record = solved.record;
-    narrow_shares(list.m, &shares, &mut sheet);
-    let verdict = check(list, words, &members, &sheet);
+    narrow_shares(list.m, &solved.shares, &mut sheet);
+    let verdict = check(list, words, &solved.members, &sheet);
     verdict.number == 0 && verdict.p == record.p && verdict.q == record.q
 }
 
-// Whether solve's answer is right.
+// Whether solve's answer is right, beside the densest set and the core numbers.
 pub(crate) fn solve_right(
     list: Reading,
     words: &[u32],
     solved: Solved,
     best: Best,
-    plain: Peeled,
+    cores: &[u32],
 ) -> bool
     requires { ⌜ Holds-list (list .n) (list .m) (now words) ⌝ }
 {
     group_right(list.n, solved, best)
-        && cores_right(list.n, solved, plain)
+        && cores_right(list.n, solved, cores)
         && sheet_right(list, words, solved)
 }
 
@@ -134,13 +126,10 @@ fn same_record(x: Solution, y: Solution) -> bool {
 pub(crate) fn same_solve(n: u32, x: Solved, y: Solved) -> bool {
     let mut x_set = [0u32; 512];
     let mut y_set = [0u32; 512];
-    let x_members = x.members;
-    let y_members = y.members;
-    let x_cores = x.cores;
-    let y_cores = y.cores;
-    read_set(n, &x_members, &mut x_set);
-    read_set(n, &y_members, &mut y_set);
-    same_words(n, &x_set, &y_set)
-        && same_words(n, &x_cores, &y_cores)
-        && same_record(x.record, y.record)
+    read_set(n, &x.members, &mut x_set);
+    read_set(n, &y.members, &mut y_set);
+    if !same_words(n, &x_set, &y_set) {
+        return false;
+    }
+    same_words(n, &x.cores, &y.cores) && same_record(x.record, y.record)
 }

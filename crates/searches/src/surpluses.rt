@@ -1,12 +1,12 @@
 // Surplus by both computations: of two sets of bytes of a small list, and of large groups around equal ratios.
-ghost use Rattle.theory.specs.Words.{Holds-list};
 use crate::calls::surplus;
 use crate::checks::spell_bytes;
-use crate::sheets::mark;
+use crate::entries::mark;
 use crate::tally::Tally;
 use crate::verdicts::surplus_right;
 use pairfile::Reading;
 use verify::Difference;
+ghost use Rattle.theory.specs.Words.{Holds-list};
 
 // The answers are counted as above zero, zero, below zero, refused by 7.
 fn answer(difference: Difference) -> usize {
@@ -24,8 +24,8 @@ fn weigh(list: Reading, words: &[u32], first: &[u8], second: &[u8], seen: Tally)
     requires { ⌜ Holds-list (list .n) (list .m) (now words) ⌝ }
 {
     let difference = surplus(list, words, first, second);
-    let right = surplus_right(list, words, first, second, difference);
-    seen.answered(right, answer(difference))
+    seen.compared(surplus_right(list, words, first, second, difference))
+        .answered(answer(difference))
 }
 
 // The two sets of bytes of a number below 6,561: 81 for each set.

@@ -1,14 +1,9 @@
-// What was seen: lists and their pairs, lists that the reader refused, answers that differ, how often each of four answers was given, and what the
-// searches for chains did; and the random state.
+// What was seen: lists and their pairs, lists that the reader refused, comparisons that differ, how often each of four answers was given, what the
+// searches for chains did, and the random state.
 use crate::entries::more;
+use flow::Searches;
 use numbers::greater;
 use std::num::wrapping_add_u32;
-
-pub struct Searches {
-    pub chains: u32,
-    pub longest: u32,
-    pub none: u32,
-}
 
 pub struct Tally {
     pub lists: u32,
@@ -20,6 +15,11 @@ pub struct Tally {
     pub longest: u32,
     pub none: u32,
     pub state: u32,
+}
+
+fn field(label: &[u8], value: u32) {
+    io::write_all(1, label);
+    io::print_decimal(1, value as u64);
 }
 
 impl Tally {
@@ -58,15 +58,14 @@ impl Tally {
         self
     }
 
-    // Both computations gave this answer, or not the same one.
-    pub(crate) fn answered(self, same: bool, answer: usize) -> Tally {
-        let mut now = self.compared(same);
+    // One answer more of one of the four kinds.
+    pub(crate) fn answered(mut self, kind: usize) -> Tally {
         let mut answers = self.answers;
-        if same && answer < 4 {
-            answers[answer] = more(answers[answer]);
+        if kind < 4 {
+            answers[kind] = more(answers[kind]);
         }
-        now.answers = answers;
-        now
+        self.answers = answers;
+        self
     }
 
     pub(crate) fn searched(mut self, searches: Searches) -> Tally {
@@ -76,41 +75,40 @@ impl Tally {
         self
     }
 
-    // A line of a search: its name, and what was seen.
+    // What ends a line: of what went wrong.
+    fn print_faults(self) {
+        field(b" unread=", self.unread);
+        field(b" differ=", self.differ);
+        io::write_all(1, b"\n");
+    }
+
     pub(crate) fn print_searches(self, name: &[u8]) {
         io::write_all(1, name);
         field(b": lists=", self.lists);
         field(b" pairs=", self.pairs);
-        field(b" unread=", self.unread);
-        field(b" differ=", self.differ);
         field(b" chains=", self.chains);
         field(b" longest=", self.longest);
         field(b" none=", self.none);
-        io::write_all(1, b"\n");
+        self.print_faults();
     }
 
-    // A line of verdicts: its name, and the count of each answer after the answer's own.
-    pub(crate) fn print_answers(
-        self,
-        name: &[u8],
-        first: &[u8],
-        second: &[u8],
-        third: &[u8],
-        fourth: &[u8],
-    ) {
+    pub(crate) fn print_checks(self, name: &[u8]) {
         let answers = self.answers;
         io::write_all(1, name);
-        field(first, answers[0]);
-        field(second, answers[1]);
-        field(third, answers[2]);
-        field(fourth, answers[3]);
-        field(b" unread=", self.unread);
-        field(b" differ=", self.differ);
-        io::write_all(1, b"\n");
+        field(b": accepted=", answers[0]);
+        field(b" by7=", answers[1]);
+        field(b" by8=", answers[2]);
+        field(b" by9=", answers[3]);
+        self.print_faults();
     }
-}
 
-fn field(label: &[u8], value: u32) {
-    io::write_all(1, label);
-    io::print_decimal(1, value as u64);
+    pub(crate) fn print_surpluses(self, name: &[u8]) {
+        let answers = self.answers;
+        io::write_all(1, name);
+        field(b": above=", answers[0]);
+        field(b" zero=", answers[1]);
+        field(b" below=", answers[2]);
+        field(b" by7=", answers[3]);
+        self.print_faults();
+    }
 }

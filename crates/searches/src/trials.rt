@@ -1,30 +1,27 @@
 // Trials: lists are made, read and asked for something, one after the other.
-ghost use Rattle.theory.specs.Words.{Holds-list};
-use crate::checks::Changed;
+use crate::checks::Change;
+use crate::checks::places;
 use crate::checks::sheet_codes;
-use crate::checks::try_change;
+use crate::checks::try_place;
 use crate::checks::try_sheet;
-use crate::entries::more;
 use crate::files::put_file;
 use crate::lists::Listed;
-use crate::lists::Lists;
+use crate::lists::Source;
 use crate::lists::list_at;
-use crate::search::Altered;
 use crate::search::search;
-use crate::sheets::places;
 use crate::surpluses::try_firsts;
 use crate::surpluses::try_sets;
 use crate::tally::Tally;
 use pairfile::Reading;
 use pairfile::read_words;
-use std::num::wrapping_add_u32;
+ghost use Rattle.theory.specs.Words.{Holds-list};
 
 // What is asked of a list, once for each number below a count.
 pub enum Asked {
-    // Peel and solve.
-    Searches(Altered),
-    // Check of a sheet, changed in one place.
-    Changes(Changed),
+    // Peel and solve, with one thing altered.
+    Searches(u32),
+    // Check of solve's sheet, changed at each multiple of `step`.
+    Changes { change: Change, step: u32 },
     // Check of every sheet of 4 modules: member bytes of 0 to 2, and shares of 0 to 5 where the list has up to 4 pairs.
     Sheets,
     // Surplus of every two sets of 4 bytes of 0 to 2.
@@ -36,8 +33,8 @@ pub enum Asked {
 // How many numbers there are.
 fn codes(asked: Asked, list: Reading) -> u32 {
     match asked {
-        Asked::Searches(altered) => 1,
-        Asked::Changes(changed) => places(changed.change, list.n, list.m),
+        Asked::Searches(thing) => 1,
+        Asked::Changes { change, step } => places(change, list.n, list.m),
         Asked::Sheets => sheet_codes(list.m),
         Asked::Sets => 6561,
         Asked::Firsts(second) => 67,
@@ -49,8 +46,8 @@ fn ask(asked: Asked, code: u32, list: Reading, words: &[u32], seen: Tally) -> Ta
     requires { ⌜ Holds-list (list .n) (list .m) (now words) ⌝ }
 {
     match asked {
-        Asked::Searches(altered) => search(altered, list, words, seen),
-        Asked::Changes(changed) => try_change(changed, code, list, words, seen),
+        Asked::Searches(thing) => search(thing, list, words, seen),
+        Asked::Changes { change, step } => try_place(change, step, code, list, words, seen),
         Asked::Sheets => try_sheet(code, list, words, seen),
         Asked::Sets => try_sets(code, list, words, seen),
         Asked::Firsts(second) => try_firsts(code, second, list, words, seen),
@@ -88,17 +85,12 @@ fn try_list(asked: Asked, list: Listed, seen: Tally) -> Tally {
     ask_all(asked, reading, &words, made)
 }
 
-// The lists one after the other, after what was seen before.
-pub(crate) fn go_on(asked: Asked, lists: Lists, seen: Tally) -> Tally {
-    let count = lists.count;
+// The first `count` lists of a source, after what was seen before.
+pub(crate) fn go_on(asked: Asked, source: Source, count: u32, seen: Tally) -> Tally {
     let mut now = seen;
     let mut i = 0;
     while i < count {
-        now = try_list(
-            asked,
-            list_at(lists.source, wrapping_add_u32(lists.first, i)),
-            now,
-        );
+        now = try_list(asked, list_at(source, i), now);
         i += 1;
     }
     now

@@ -1,5 +1,6 @@
 // Check and surplus as document 01 states them and as plainly as can be: a pass over the bytes for the size, one over the pairs for the inside count,
 // and one over the pairs for each module's load.
+use crate::calls::refused;
 use crate::entries::Ends;
 use crate::entries::pair_at;
 use crate::entries::read_set;
@@ -75,10 +76,6 @@ fn overloaded(group: Group, list: Reading, words: &[u32], shares: &[u16]) -> boo
         v += 1;
     }
     false
-}
-
-fn refused(number: u32) -> Verdict {
-    Verdict { number, p: 0, q: 0 }
 }
 
 // Check's answer: refused by 7, 8, 9, or accepted.
