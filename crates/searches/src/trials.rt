@@ -68,21 +68,25 @@ fn ask_all(asked: Asked, list: Reading, words: &[u32], seen: Tally) -> Tally
     now
 }
 
+// Reads a list's file, the first `end` bytes of a text.
+fn read_list(asked: Asked, text: &[u8], end: u32, seen: Tally) -> Tally {
+    let mut words = [0u32; 12288];
+    let size = end as usize;
+    if text.len() < size {
+        return seen.not_read();
+    }
+    let list = read_words(&text[..size], 4096, &mut words);
+    if list.number != 0 {
+        return seen.not_read();
+    }
+    ask_all(asked, list, &words, seen)
+}
+
 // Makes a list, and reads it.
 fn try_list(asked: Asked, list: Listed, seen: Tally) -> Tally {
     let mut text = [0u8; 65536];
-    let mut words = [0u32; 12288];
     let file = put_file(list, seen.state, &mut text);
-    let made = seen.made(file.taken, file.state);
-    let end = file.end as usize;
-    if 65536 < end {
-        return made.not_read();
-    }
-    let reading = read_words(&text[..end], 4096, &mut words);
-    if reading.number != 0 {
-        return made.not_read();
-    }
-    ask_all(asked, reading, &words, made)
+    read_list(asked, &text, file.end, seen.made(file.taken, file.state))
 }
 
 // The first `count` lists of a source, after what was seen before.

@@ -8,7 +8,7 @@ solve-requires : tie.Need-solve-requires
 solve-requires c κs =
     let h = c .before .before .before .before .before .before .before .pre in
     let s = sizes h in
-    (held h, (s .1 .0, (s .1 .0, s .1 .1)))
+    (held h, (s .1 .0, s .1 .0, s .1 .1))
 
 pub solve-spec : {M : Type 1} → statement M
 solve-spec =
