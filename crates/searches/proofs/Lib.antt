@@ -1,0 +1,2 @@
+-- The laws that functions' proofs cite.
+pub mod Held

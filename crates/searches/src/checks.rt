@@ -1,0 +1,190 @@
+// Check of a sheet by both computations: sheets of solve changed in one place each, and every sheet of a small list.
+use crate::calls;
+use crate::entries::byte_at;
+use crate::entries::mark;
+use crate::entries::more;
+use crate::entries::put_byte;
+use crate::entries::put_share;
+use crate::entries::share_at;
+use crate::solves::narrow_shares;
+use crate::tally::Tally;
+use crate::verdicts::check_plainly;
+use crate::verdicts::same_verdict;
+use pairfile::Reading;
+ghost use Rattle.theory.specs.Words.{Holds-list};
+
+// What is changed in a sheet: nothing, a share or a member byte in one place, or all bytes.
+pub enum Change {
+    Nothing,
+    Raised,
+    Lowered,
+    // A unit goes from a share to the next.
+    Moved,
+    // The share becomes Q + 1.
+    Past,
+    Added,
+    Dropped,
+    Two,
+    Emptied,
+}
+
+// The answers are counted as accepted, refused by 7, by 8, by 9.
+fn answer(number: u32) -> usize {
+    match number {
+        0 => 0,
+        7 => 1,
+        8 => 2,
+        _ => 3,
+    }
+}
+
+// Check of one sheet, by both.
+fn judge(list: Reading, words: &[u32], members: &[u8], shares: &[u16], seen: Tally) -> Tally
+    requires { ⌜ Holds-list (list .n) (list .m) (now words) ⌝ }
+{
+    let verdict = calls::check(list, words, members, shares);
+    let plain = check_plainly(list, words, members, shares);
+    seen.compared(same_verdict(verdict, plain))
+        .answered(answer(verdict.number))
+}
+
+// How many places a change has in a list of n modules and m pairs.
+pub(crate) fn places(change: Change, n: u32, m: u32) -> u32 {
+    match change {
+        Change::Nothing | Change::Emptied => 1,
+        Change::Added | Change::Dropped | Change::Two => n,
+        _ => m,
+    }
+}
+
+// One less, where there is one.
+fn less(x: u32) -> u32 {
+    if x == 0 { 0 } else { x - 1 }
+}
+
+// A share x of q units, changed.
+fn new_share(change: Change, q: u32, x: u32) -> u32 {
+    match change {
+        Change::Raised => more(x),
+        Change::Lowered | Change::Moved => less(x),
+        Change::Past => more(q),
+        _ => x,
+    }
+}
+
+// The share y after a share x that is changed.
+fn next_share(change: Change, x: u32, y: u32) -> u32 {
+    match change {
+        Change::Moved => if x == 0 { y } else { more(y) },
+        _ => y,
+    }
+}
+
+fn change_shares(change: Change, at: u32, q: u32, shares: &mut [u16]) {
+    let x = share_at(shares, at);
+    let y = share_at(shares, more(at));
+    put_share(shares, at, new_share(change, q, x));
+    put_share(shares, more(at), next_share(change, x, y));
+}
+
+// A member byte, changed.
+fn new_byte(change: Change, x: u8) -> u8 {
+    match change {
+        Change::Added => 1,
+        Change::Dropped => 0,
+        Change::Two => 2,
+        _ => x,
+    }
+}
+
+// How many bytes become 0.
+fn emptied(change: Change) -> u32 {
+    match change {
+        Change::Emptied => 512,
+        _ => 0,
+    }
+}
+
+fn change_bytes(change: Change, at: u32, members: &mut [u8]) {
+    let x = byte_at(members, at);
+    put_byte(members, at, new_byte(change, x));
+    mark(emptied(change), 0, members);
+}
+
+// Solves the list, changes the sheet at a place, and tries it.
+fn try_change(change: Change, at: u32, list: Reading, words: &[u32], seen: Tally) -> Tally
+    requires { ⌜ Holds-list (list .n) (list .m) (now words) ⌝ }
+{
+    let solved = calls::solve(list, densest::PHASES, words);
+    let record = solved.record;
+    let mut members = solved.members;
+    let mut shares = [0u16; 4096];
+    narrow_shares(list.m, &solved.shares, &mut shares);
+    change_shares(change, at, record.q, &mut shares);
+    change_bytes(change, at, &mut members);
+    judge(list, words, &members, &shares, seen)
+}
+
+// A change at a place that is a multiple of `step`.
+pub(crate) fn try_place(
+    change: Change,
+    step: u32,
+    at: u32,
+    list: Reading,
+    words: &[u32],
+    seen: Tally,
+) -> Tally
+    requires { ⌜ Holds-list (list .n) (list .m) (now words) ⌝ }
+{
+    if step == 0 {
+        return seen;
+    }
+    if at % step == 0 {
+        try_change(change, at, list, words, seen)
+    } else {
+        seen
+    }
+}
+
+fn digit(x: u32) -> u8 {
+    (x % 3) as u8
+}
+
+// Four bytes: the digits in base 3.
+pub(crate) fn spell_bytes(code: u32, bytes: &mut [u8]) {
+    put_byte(bytes, 0, digit(code));
+    put_byte(bytes, 1, digit(code / 3));
+    put_byte(bytes, 2, digit(code / 9));
+    put_byte(bytes, 3, digit(code / 27));
+}
+
+// Four shares: the digits in base 6.
+fn spell_shares(code: u32, shares: &mut [u16]) {
+    put_share(shares, 0, code % 6);
+    put_share(shares, 1, code / 6 % 6);
+    put_share(shares, 2, code / 36 % 6);
+    put_share(shares, 3, code / 216 % 6);
+}
+
+// How many numbers stand for a sheet of 4 modules and m pairs: 81 times 6 to the power of m, where m is at most 4, else 0.
+pub(crate) fn sheet_codes(m: u32) -> u32 {
+    match m {
+        0 => 81,
+        1 => 486,
+        2 => 2916,
+        3 => 17496,
+        4 => 104976,
+        _ => 0,
+    }
+}
+
+// The sheet of a number: the member bytes of 81, and the shares.
+pub(crate) fn try_sheet(code: u32, list: Reading, words: &[u32], seen: Tally) -> Tally
+    requires { ⌜ Holds-list (list .n) (list .m) (now words) ⌝ }
+{
+    let mut members = [0u8; 4];
+    let mut shares = [0u16; 4];
+    spell_bytes(code % 81, &mut members);
+    spell_shares(code / 81, &mut shares);
+    judge(list, words, &members, &shares, seen)
+}

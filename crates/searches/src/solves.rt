@@ -1,0 +1,135 @@
+// Solve's answer beside the plain computations, its sheet put to check, and one answer beside another.
+use crate::altered;
+use crate::altered::chosen;
+use crate::altered::raised;
+use crate::calls::Solved;
+use crate::calls::check;
+use crate::entries::more;
+use crate::entries::put_share;
+use crate::entries::read_set;
+use crate::entries::same_words;
+use crate::entries::word_at;
+use crate::plain::core_size;
+use crate::sets::Best;
+use crate::sets::same_set;
+use densest::Solution;
+use pairfile::Reading;
+use std::num::wrapping_add_u32;
+ghost use Rattle.theory.specs.Words.{Holds-list};
+
+// A record with one number altered.
+fn alter_record(thing: u32, record: Solution) -> Solution {
+    let mut now = record;
+    now.p = raised(thing, altered::INSIDE, record.p);
+    now.q = raised(thing, altered::SIZE, record.q);
+    now.k = raised(thing, altered::K, record.k);
+    now.core = raised(thing, altered::CORE_SIZE, record.core);
+    now
+}
+
+fn other_byte(thing: u32, x: u8) -> u8 {
+    if thing == altered::MEMBER {
+        if x == 0 { 1 } else { 0 }
+    } else {
+        x
+    }
+}
+
+// Solve's answer with one thing altered.
+pub(crate) fn alter_solve(thing: u32, solved: Solved) -> Solved {
+    let mut members = solved.members;
+    let mut cores = solved.cores;
+    let mut shares = solved.shares;
+    let record = solved.record;
+    members[0] = other_byte(thing, members[0]);
+    cores[0] = raised(thing, altered::CORE_NUMBER, cores[0]);
+    shares[0] = chosen(thing, altered::SHARE, shares[0], more(record.q));
+    Solved {
+        members,
+        cores,
+        shares,
+        record: alter_record(thing, record),
+    }
+}
+
+// Whether the group is the densest of all sets, of equals the largest, with its inside count and size. Sets are tried of up to 12 modules.
+fn group_right(n: u32, solved: Solved, best: Best) -> bool {
+    let mut set = [0u32; 512];
+    let record = solved.record;
+    if read_set(n, &solved.members, &mut set) != record.q {
+        return false;
+    }
+    if 12 < n {
+        return true;
+    }
+    record.p == best.p && record.q == best.q && same_set(n, best.mask, &set)
+}
+
+// p over q, rounded up.
+fn rounded_up(p: u32, q: u32) -> u32 {
+    if q == 0 {
+        0
+    } else {
+        wrapping_add_u32(p, q - 1) / q
+    }
+}
+
+// Whether the core numbers are the plain ones, K is P over Q rounded up, and the core's size that of the core of order K.
+fn cores_right(n: u32, solved: Solved, cores: &[u32]) -> bool {
+    let record = solved.record;
+    if !same_words(n, &solved.cores, cores) {
+        return false;
+    }
+    record.k == rounded_up(record.p, record.q) && record.core == core_size(record.k, n, cores)
+}
+
+// The first m shares as check takes them.
+pub(crate) fn narrow_shares(m: u32, shares: &[u32], sheet: &mut [u16]) {
+    let mut j = 0;
+    while j < m {
+        put_share(sheet, j, word_at(shares, j));
+        j += 1;
+    }
+}
+
+// Whether check accepts the sheet, and counts the same P and Q.
+fn sheet_right(list: Reading, words: &[u32], solved: Solved) -> bool
+    requires { ⌜ Holds-list (list .n) (list .m) (now words) ⌝ }
+{
+    let mut sheet = [0u16; 4096];
+    let record = solved.record;
+    narrow_shares(list.m, &solved.shares, &mut sheet);
+    let verdict = check(list, words, &solved.members, &sheet);
+    verdict.number == 0 && verdict.p == record.p && verdict.q == record.q
+}
+
+// Whether solve's answer is right, beside the densest set and the core numbers.
+pub(crate) fn solve_right(
+    list: Reading,
+    words: &[u32],
+    solved: Solved,
+    best: Best,
+    cores: &[u32],
+) -> bool
+    requires { ⌜ Holds-list (list .n) (list .m) (now words) ⌝ }
+{
+    group_right(list.n, solved, best)
+        && cores_right(list.n, solved, cores)
+        && sheet_right(list, words, solved)
+}
+
+fn same_record(x: Solution, y: Solution) -> bool {
+    x.p == y.p && x.q == y.q && x.k == y.k && x.core == y.core
+}
+
+// Whether two answers for n modules name the same group, record and core numbers; their sheets may differ.
+pub(crate) fn same_solve(n: u32, x: Solved, y: Solved) -> bool {
+    let mut x_set = [0u32; 512];
+    let mut y_set = [0u32; 512];
+    read_set(n, &x.members, &mut x_set);
+    read_set(n, &y.members, &mut y_set);
+    if !same_words(n, &x_set, &y_set) {
+        return false;
+    }
+    same_words(n, &x.cores, &y.cores) && same_record(x.record, y.record)
+}

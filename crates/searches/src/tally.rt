@@ -1,0 +1,114 @@
+// What was seen: lists and their pairs, lists that the reader refused, comparisons that differ, how often each of four answers was given, what the
+// searches for chains did, and the random state.
+use crate::entries::more;
+use flow::Searches;
+use numbers::greater;
+use std::num::wrapping_add_u32;
+
+pub struct Tally {
+    pub lists: u32,
+    pub pairs: u32,
+    pub unread: u32,
+    pub differ: u32,
+    pub answers: [u32; 4],
+    pub chains: u32,
+    pub longest: u32,
+    pub none: u32,
+    pub state: u32,
+}
+
+fn field(label: &[u8], value: u32) {
+    io::write_all(1, label);
+    io::print_decimal(1, value as u64);
+}
+
+impl Tally {
+    pub(crate) fn new() -> Tally {
+        Tally {
+            lists: 0,
+            pairs: 0,
+            unread: 0,
+            differ: 0,
+            answers: [0; 4],
+            chains: 0,
+            longest: 0,
+            none: 0,
+            state: 2463534242,
+        }
+    }
+
+    // One list more, of m pairs, with the random state after it.
+    pub(crate) fn made(mut self, m: u32, state: u32) -> Tally {
+        self.lists = more(self.lists);
+        self.pairs = wrapping_add_u32(self.pairs, m);
+        self.state = state;
+        self
+    }
+
+    pub(crate) fn not_read(mut self) -> Tally {
+        self.unread = more(self.unread);
+        self
+    }
+
+    // One comparison more.
+    pub(crate) fn compared(mut self, same: bool) -> Tally {
+        if !same {
+            self.differ = more(self.differ);
+        }
+        self
+    }
+
+    // One answer more of one of the four kinds.
+    pub(crate) fn answered(mut self, kind: usize) -> Tally {
+        let mut answers = self.answers;
+        if kind < 4 {
+            answers[kind] = more(answers[kind]);
+        }
+        self.answers = answers;
+        self
+    }
+
+    pub(crate) fn searched(mut self, searches: Searches) -> Tally {
+        self.chains = wrapping_add_u32(self.chains, searches.chains);
+        self.longest = greater(self.longest, searches.longest);
+        self.none = wrapping_add_u32(self.none, searches.none);
+        self
+    }
+
+    // What ends a line: of what went wrong.
+    fn print_faults(self) {
+        field(b" unread=", self.unread);
+        field(b" differ=", self.differ);
+        io::write_all(1, b"\n");
+    }
+
+    pub(crate) fn print_searches(self, name: &[u8]) {
+        io::write_all(1, name);
+        field(b": lists=", self.lists);
+        field(b" pairs=", self.pairs);
+        field(b" chains=", self.chains);
+        field(b" longest=", self.longest);
+        field(b" none=", self.none);
+        self.print_faults();
+    }
+
+    pub(crate) fn print_checks(self, name: &[u8]) {
+        let answers = self.answers;
+        io::write_all(1, name);
+        field(b": accepted=", answers[0]);
+        field(b" by7=", answers[1]);
+        field(b" by8=", answers[2]);
+        field(b" by9=", answers[3]);
+        self.print_faults();
+    }
+
+    pub(crate) fn print_surpluses(self, name: &[u8]) {
+        let answers = self.answers;
+        io::write_all(1, name);
+        field(b": above=", answers[0]);
+        field(b" zero=", answers[1]);
+        field(b" below=", answers[2]);
+        field(b" by7=", answers[3]);
+        self.print_faults();
+    }
+}

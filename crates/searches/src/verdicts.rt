@@ -1,0 +1,125 @@
+// Check and surplus as document 01 states them and as plainly as can be: a pass over the bytes for the size, one over the pairs for the inside count,
+// and one over the pairs for each module's load.
+use crate::calls::refused;
+use crate::entries::Ends;
+use crate::entries::pair_at;
+use crate::entries::read_set;
+use crate::entries::share_at;
+use crate::plain::inside;
+use crate::plain::product;
+use pairfile::Reading;
+use std::num::nearest_i64_to_f64;
+use std::num::wrapping_add_u32;
+use std::num::wrapping_sub_u32;
+use verify::Difference;
+use verify::Verdict;
+
+// A group: its size and its inside count; both 0 where the set is no group.
+pub struct Group {
+    pub size: u32,
+    pub inside: u32,
+}
+
+// The group of member bytes.
+fn read_group(list: Reading, words: &[u32], members: &[u8]) -> Group {
+    let mut set = [0u32; 512];
+    let size = read_set(list.n, members, &mut set);
+    if size == 0 {
+        return Group { size, inside: 0 };
+    }
+    let inside = inside(1, list.m, words, &set);
+    Group { size, inside }
+}
+
+// Whether one of the first m shares is above q.
+fn past(m: u32, q: u32, shares: &[u16]) -> bool {
+    let mut j = 0;
+    while j < m {
+        if q < share_at(shares, j) {
+            return true;
+        }
+        j += 1;
+    }
+    false
+}
+
+// What module v receives of a pair, whose smaller end receives x of its q units.
+fn part(q: u32, v: u32, pair: Ends, x: u32) -> u32 {
+    if v == pair.a {
+        return x;
+    }
+    if v == pair.b {
+        wrapping_sub_u32(q, x)
+    } else {
+        0
+    }
+}
+
+// The load of module v: the sum over all pairs.
+fn load(q: u32, v: u32, m: u32, words: &[u32], shares: &[u16]) -> u32 {
+    let mut sum = 0;
+    let mut j = 0;
+    while j < m {
+        sum = wrapping_add_u32(sum, part(q, v, pair_at(words, j), share_at(shares, j)));
+        j += 1;
+    }
+    sum
+}
+
+// Whether one of the loads is above the group's inside count.
+fn overloaded(group: Group, list: Reading, words: &[u32], shares: &[u16]) -> bool {
+    let mut v = 0;
+    while v < list.n {
+        if group.inside < load(group.size, v, list.m, words, shares) {
+            return true;
+        }
+        v += 1;
+    }
+    false
+}
+
+// Check's answer: refused by 7, 8, 9, or accepted.
+pub(crate) fn check_plainly(
+    list: Reading,
+    words: &[u32],
+    members: &[u8],
+    shares: &[u16],
+) -> Verdict {
+    let group = read_group(list, words, members);
+    if group.size == 0 {
+        return refused(7);
+    }
+    if past(list.m, group.size, shares) {
+        return refused(8);
+    }
+    if overloaded(group, list, words, shares) {
+        return refused(9);
+    }
+    Verdict {
+        number: 0,
+        p: group.inside,
+        q: group.size,
+    }
+}
+
+pub(crate) fn same_verdict(x: Verdict, y: Verdict) -> bool {
+    x.number == y.number && x.p == y.p && x.q == y.q
+}
+
+// Whether surplus's answer is right: modules of the second group times inside count of the first, minus inside count of the second times modules of the
+// first; and 7 with the value 0 where one of the sets is no group.
+pub(crate) fn surplus_right(
+    list: Reading,
+    words: &[u32],
+    first: &[u8],
+    second: &[u8],
+    difference: Difference,
+) -> bool {
+    let one = read_group(list, words, first);
+    let other = read_group(list, words, second);
+    if one.size == 0 || other.size == 0 {
+        return difference.number == 7 && difference.value == 0;
+    }
+    let value = product(other.size, one.inside) - product(one.size, other.inside);
+    difference.number == 0 && nearest_i64_to_f64(difference.value) == value
+}
