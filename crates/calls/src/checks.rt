@@ -6,6 +6,7 @@ use crate::lists;
 use crate::lists::Damage;
 use crate::print;
 use records::Head;
+use verify::Verdict;
 
 // What is altered: the list; the first member byte and the first share; the lengths lent.
 pub(crate) struct Altered {
@@ -29,23 +30,34 @@ pub(crate) fn sound() -> Altered {
     }
 }
 
+// check with the first entries of the buffers.
+fn check_part(
+    a: Altered,
+    words: &mut [u32],
+    bytes: &[u8],
+    sheet: &[u16],
+    work: &mut [u32],
+) -> Verdict {
+    let first = lists::at_most(bytes.len(), a.members);
+    let second = lists::at_most(sheet.len(), a.shares);
+    let third = lists::at_most(work.len(), a.work);
+    lent::check_4096(
+        words,
+        lists::head(a.damage, 5),
+        &bytes[0..first],
+        &sheet[0..second],
+        &mut work[0..third],
+    )
+}
+
 // One line: what check says and leaves.
 pub(crate) fn tried(name: &[u8], due: u32, a: Altered) {
     let mut words = [0u32; 12288];
     let mut work = [7u32; 16400];
     let bytes = [a.byte, 1, 1, 1, 1, 2, 2, 2];
     let sheet = [a.share, 0, 5, 5, 5, 9, 9, 9];
-    let first = lists::at_most(8, a.members);
-    let second = lists::at_most(8, a.shares);
-    let third = lists::at_most(16400, a.work);
     lists::cycle(a.damage, &mut words);
-    let verdict = lent::check_4096(
-        &mut words,
-        lists::head(a.damage, 5),
-        &bytes[0..first],
-        &sheet[0..second],
-        &mut work[0..third],
-    );
+    let verdict = check_part(a, &mut words, &bytes, &sheet, &mut work);
     print::begin(b"check", name, due, verdict.number);
     print::field(b" p=", verdict.p);
     print::field(b" q=", verdict.q);

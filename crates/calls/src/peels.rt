@@ -22,23 +22,34 @@ pub(crate) fn sound() -> Altered {
     }
 }
 
+// peel with the first entries of the buffers.
+fn peel_part(
+    a: Altered,
+    words: &mut [u32],
+    order: &mut [u16],
+    cores: &mut [u16],
+    work: &mut [u32],
+) -> u32 {
+    let first = lists::at_most(order.len(), a.order);
+    let second = lists::at_most(cores.len(), a.cores);
+    let third = lists::at_most(work.len(), a.work);
+    lent::peel_4096(
+        words,
+        lists::head(a.damage, 7),
+        &mut order[0..first],
+        &mut cores[0..second],
+        &mut work[0..third],
+    )
+}
+
 // One line: what peel says and writes.
 pub(crate) fn tried(name: &[u8], due: u32, a: Altered) {
     let mut words = [0u32; 12288];
     let mut order = [9u16; 8];
     let mut cores = [9u16; 8];
     let mut work = [7u32; 16400];
-    let first = lists::at_most(8, a.order);
-    let second = lists::at_most(8, a.cores);
-    let third = lists::at_most(16400, a.work);
     lists::tail(a.damage, &mut words);
-    let number = lent::peel_4096(
-        &mut words,
-        lists::head(a.damage, 7),
-        &mut order[0..first],
-        &mut cores[0..second],
-        &mut work[0..third],
-    );
+    let number = peel_part(a, &mut words, &mut order, &mut cores, &mut work);
     print::begin(b"peel", name, due, number);
     print::halves(b" order=", &order);
     print::halves(b" cores=", &cores);

@@ -62,8 +62,16 @@ pub(crate) fn halves(label: &[u8], entries: &[u16]) {
     field(b",", half_at(entries, 7));
 }
 
+fn word_of(x: u8) -> u32 {
+    x as u32
+}
+
 fn byte_at(bytes: &[u8], i: usize) -> u32 {
-    if i < bytes.len() { bytes[i] as u32 } else { 0 }
+    if i < bytes.len() {
+        word_of(bytes[i])
+    } else {
+        0
+    }
 }
 
 // The first eight bytes.

@@ -5,6 +5,7 @@ use crate::desk;
 use crate::lent;
 use crate::lists;
 use crate::print;
+use kandurzo::Changed;
 
 // How a file is made.
 struct File {
@@ -15,18 +16,18 @@ struct File {
     more: u32,
 }
 
-fn put(file: &mut [u8], at: usize, byte: u8) -> usize {
+fn put_byte(file: &mut [u8], at: usize, byte: u8) {
     if at < file.len() {
         file[at] = byte;
     }
-    desk::plus(at, 1)
 }
 
 fn put_text(file: &mut [u8], at: usize, text: &[u8]) -> usize {
     let mut end = at;
     let mut i = 0;
     while i < text.len() {
-        end = put(file, end, text[i]);
+        put_byte(file, end, text[i]);
+        end = desk::plus(end, 1);
         i += 1;
     }
     end
@@ -93,14 +94,20 @@ fn print_record(words: &[u32], j: u32) {
     print::field(b",", desk::word_at(words, desk::plus(i, 1)));
 }
 
+// read of the first bytes of the file, with the first words of the work buffer.
+fn read_part(len: u32, size: usize, words: &mut [u32], file: &[u8], work: &mut [u32]) -> Changed {
+    let end = lists::at_most(file.len(), size);
+    let k = lists::at_most(work.len(), desk::wide(len));
+    lent::read_100(words, &file[0..end], &mut work[0..k])
+}
+
 // One line: what read makes of the file, of the list and of the work buffer.
 fn tried(due: u32, len: u32, made: File) {
     let mut file = [0u8; 80000];
     let mut words = [7u32; 12288];
     let mut work = [7u32; 16400];
-    let size = lists::at_most(80000, put_file(&mut file, made));
-    let k = lists::at_most(16400, desk::wide(len));
-    let answer = lent::read_100(&mut words, &file[0..size], &mut work[0..k]);
+    let size = put_file(&mut file, made);
+    let answer = read_part(len, size, &mut words, &file, &mut work);
     let head = answer.head;
     print_made(len, made);
     print::field(b": due=", due);

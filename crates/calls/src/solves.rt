@@ -78,23 +78,44 @@ fn print_solved(name: &[u8], due: u32, found: Solved) {
     io::write_all(1, b" ratio not as due");
 }
 
-// One line: what solve says and writes.
-fn tried_on(name: &[u8], due: u32, head: Head, a: Altered, words: &mut [u32]) {
-    let mut members = [9u8; 8];
-    let mut cores = [9u16; 8];
-    let mut shares = [9u16; 8];
-    let mut work = [7u32; 16400];
-    let first = lists::at_most(8, a.members);
-    let second = lists::at_most(8, a.cores);
-    let third = lists::at_most(8, a.shares);
-    let fourth = lists::at_most(16400, a.work);
-    let found = lent::solve_4096(
+// solve with the first entries of the buffers.
+fn solve_part(
+    a: Altered,
+    head: Head,
+    words: &mut [u32],
+    members: &mut [u8],
+    cores: &mut [u16],
+    shares: &mut [u16],
+    work: &mut [u32],
+) -> Solved {
+    let first = lists::at_most(members.len(), a.members);
+    let second = lists::at_most(cores.len(), a.cores);
+    let third = lists::at_most(shares.len(), a.shares);
+    let fourth = lists::at_most(work.len(), a.work);
+    lent::solve_4096(
         words,
         head,
         &mut members[0..first],
         &mut cores[0..second],
         &mut shares[0..third],
         &mut work[0..fourth],
+    )
+}
+
+// One line: what solve says and writes.
+fn tried_on(name: &[u8], due: u32, head: Head, a: Altered, words: &mut [u32]) {
+    let mut members = [9u8; 8];
+    let mut cores = [9u16; 8];
+    let mut shares = [9u16; 8];
+    let mut work = [7u32; 16400];
+    let found = solve_part(
+        a,
+        head,
+        words,
+        &mut members,
+        &mut cores,
+        &mut shares,
+        &mut work,
     );
     print_solved(name, due, found);
     print::bytes(b" members=", &members);

@@ -198,19 +198,29 @@ pub(crate) fn compare_all(plan: Plan, desk: &mut [u32]) {
     }
 }
 
+// Alters the records due where that is what is altered.
+fn alter_records(plan: Plan, desk: &mut [u32]) {
+    if plan.altered == 3 {
+        desk::bump(desk, desk::plus(DUE, 199));
+    }
+}
+
 // Compares the records with the model's, held ones and those past them.
 pub(crate) fn look(plan: Plan, count: u32, desk: &mut [u32]) {
     let held = model::put_list(desk, DUE, plan.n);
     note(held == count, desk);
-    if plan.altered == 3 {
-        desk::bump(desk, desk::plus(DUE, 199));
-    }
+    alter_records(plan, desk);
     compare_all(plan, desk);
 }
 
-// Whether i is a multiple.
-fn falls(i: u32, every: u32) -> bool {
-    if every == 0 { false } else { i % every == 0 }
+// Compares them at every so many steps.
+fn look_at(plan: Plan, i: u32, count: u32, desk: &mut [u32]) {
+    if plan.every == 0 {
+        return;
+    }
+    if i % plan.every == 0 {
+        look(plan, count, desk);
+    }
 }
 
 // Step i, on the model and on the list.
@@ -221,9 +231,7 @@ fn step(plan: Plan, i: u32, mixed: bool, run: Run, desk: &mut [u32]) -> Run {
     let number = due(plan, ask, run.count, desk);
     let m = modelled(number, ask, run.count, desk);
     let after = made(plan, ask, run, number, Head { n: plan.n, m }, desk);
-    if falls(i, plan.every) {
-        look(plan, m, desk);
-    }
+    look_at(plan, i, m, desk);
     after
 }
 
