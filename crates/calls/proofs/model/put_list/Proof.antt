@@ -13,4 +13,15 @@ abbrev μ-loop : tie.MeasureT-loop
 μ-loop desk₀ at n j₀ a₀ desk j a = n - a
 
 pub put-list-spec : {M : Type 1} → statement M
-put-list-spec = tie.close (tie.spec Inv-loop μ-loop (λ c. search needs) (λ c κs. search needs) (λ c. search needs) (λ c. search needs) (λ c. search needs) (λ c. search needs) (λ c. search needs))
+put-list-spec =
+    tie.close
+    (tie.spec
+    Inv-loop
+    μ-loop
+    (λ c. search needs)
+    (λ c κs. search needs)
+    (λ c. search needs)
+    (λ c. search needs)
+    (λ c. search needs)
+    (λ c. search needs)
+    (λ c. search needs))

@@ -13,4 +13,15 @@ abbrev μ-loop : tie.MeasureT-loop
 μ-loop plan many mixed desk₀ now₀ i₀ desk now i = many - i
 
 pub go-spec : {M : Type 1} → statement M
-go-spec = tie.close (tie.spec Inv-loop μ-loop (λ c. search needs) (λ c κs. search needs) (λ c. search needs) (λ c. search needs) (λ c. search needs) (λ c. search needs) (λ c. search needs))
+go-spec =
+    tie.close
+    (tie.spec
+    Inv-loop
+    μ-loop
+    (λ c. search needs)
+    (λ c κs. search needs)
+    (λ c. search needs)
+    (λ c. search needs)
+    (λ c. search needs)
+    (λ c. search needs)
+    (λ c. search needs))
