@@ -1,0 +1,3 @@
+-- Laws behind the calls on records kept in words; each file opens with what it gives.
+pub mod Walk
+pub mod Own

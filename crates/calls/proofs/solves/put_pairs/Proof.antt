@@ -1,0 +1,27 @@
+-- `solves::put_pairs` is safe and ends. The loop keeps: the slice keeps its length. Assumes nothing.
+use mathlib.Core.Path.{_≡_}
+use Prim.Native.Nat.{_-_}
+use lib.ListN.{length}
+use borrow.Author.Needs.{needs}
+use Rattle.calls.proofs.solves.put_pairs.Statement.{statement}
+use Rattle.calls.proofs.solves.put_pairs.Tie as tie
+
+abbrev Inv-loop : tie.InvT-loop
+Inv-loop kind many desk₀ i₀ desk i = length desk ≡ length desk₀
+
+abbrev μ-loop : tie.MeasureT-loop
+μ-loop kind many desk₀ i₀ desk i = many - i
+
+pub put-pairs-spec : {M : Type 1} → statement M
+put-pairs-spec =
+    tie.close
+    (tie.spec
+    Inv-loop
+    μ-loop
+    (λ c. search needs)
+    (λ c κs. search needs)
+    (λ c. search needs)
+    (λ c. search needs)
+    (λ c. search needs)
+    (λ c. search needs)
+    (λ c. search needs))

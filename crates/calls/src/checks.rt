@@ -1,0 +1,137 @@
+// check: a cycle of 5 modules, the group all of them, and each pair lies wholly with one end: P = 5, Q = 5, every load is 5. Then every two shares of a few
+// for a list of three modules with the pairs 0,1 and 1,2 and all three in the group.
+use crate::desk;
+use crate::lent;
+use crate::lists;
+use crate::lists::Damage;
+use crate::print;
+use records::Head;
+use verify::Verdict;
+
+// What is altered: the list; the first member byte and the first share; the lengths lent.
+pub(crate) struct Altered {
+    pub(crate) damage: Damage,
+    pub(crate) byte: u8,
+    pub(crate) share: u16,
+    pub(crate) members: usize,
+    pub(crate) shares: usize,
+    pub(crate) work: usize,
+}
+
+// Nothing is.
+pub(crate) fn sound() -> Altered {
+    Altered {
+        damage: lists::none(),
+        byte: 1,
+        share: 5,
+        members: 5,
+        shares: 5,
+        work: 16384,
+    }
+}
+
+// check with the first entries of the buffers.
+fn check_part(
+    a: Altered,
+    words: &mut [u32],
+    bytes: &[u8],
+    sheet: &[u16],
+    work: &mut [u32],
+) -> Verdict {
+    let first = lists::at_most(bytes.len(), a.members);
+    let second = lists::at_most(sheet.len(), a.shares);
+    let third = lists::at_most(work.len(), a.work);
+    lent::check_4096(
+        words,
+        lists::head(a.damage, 5),
+        &bytes[0..first],
+        &sheet[0..second],
+        &mut work[0..third],
+    )
+}
+
+// One line: what check says and leaves.
+pub(crate) fn tried(name: &[u8], due: u32, a: Altered) {
+    let mut words = [0u32; 12288];
+    let mut work = [7u32; 16400];
+    let bytes = [a.byte, 1, 1, 1, 1, 2, 2, 2];
+    let sheet = [a.share, 0, 5, 5, 5, 9, 9, 9];
+    lists::cycle(a.damage, &mut words);
+    let verdict = check_part(a, &mut words, &bytes, &sheet, &mut work);
+    print::begin(b"check", name, due, verdict.number);
+    print::field(b" p=", verdict.p);
+    print::field(b" q=", verdict.q);
+    print::end_work(&work);
+}
+
+// The answer to two shares of the three modules.
+fn put_shares(first: u16, second: u16) {
+    let mut words = [0u32; 12288];
+    let mut work = [0u32; 16384];
+    desk::put_record(&mut words, 0, 0, 0, 1);
+    desk::put_record(&mut words, 0, 1, 1, 2);
+    let verdict = lent::check_4096(
+        &mut words,
+        Head { n: 3, m: 2 },
+        &[1, 1, 1],
+        &[first, second],
+        &mut work,
+    );
+    print::field(b" ", verdict.number);
+    print::field(b":", verdict.p);
+    print::field(b"/", verdict.q);
+}
+
+// A line: the first share with each of a few.
+fn with_each(first: u16) {
+    print::field(b"check, shares ", first as u32);
+    io::write_all(1, b" and 0 to 4, 65,535:");
+    put_shares(first, 0);
+    put_shares(first, 1);
+    put_shares(first, 2);
+    put_shares(first, 3);
+    put_shares(first, 4);
+    put_shares(first, 65535);
+    print::line_end();
+}
+
+fn sheets() {
+    with_each(0);
+    with_each(1);
+    with_each(2);
+    with_each(3);
+    with_each(4);
+    with_each(65535);
+}
+
+pub(crate) fn run() {
+    let s = sound();
+    tried(b"as it is", 0, s);
+    tried(
+        b"longer buffers",
+        0,
+        Altered {
+            members: 7,
+            shares: 8,
+            work: 16390,
+            ..s
+        },
+    );
+    tried(b"short members", 12, Altered { members: 4, ..s });
+    tried(b"short shares", 12, Altered { shares: 4, ..s });
+    tried(b"short work", 12, Altered { work: 16383, ..s });
+    tried(b"byte of 2", 7, Altered { byte: 2, ..s });
+    tried(b"member dropped", 8, Altered { byte: 0, ..s });
+    tried(b"share past Q", 8, Altered { share: 6, ..s });
+    tried(b"unit moved", 9, Altered { share: 4, ..s });
+    tried(
+        b"no modules, and short members",
+        13,
+        Altered {
+            damage: Damage { n: 0, ..s.damage },
+            members: 4,
+            ..s
+        },
+    );
+    sheets();
+}

@@ -1,0 +1,282 @@
+// solve: the list *tail* of document 01, whose found group is 0 to 3 with P/Q = 6/4; two triangles, all six modules with 6/6; a list without pairs; and lists
+// of 512 modules, whose load sheet is put to check and whose core numbers are compared with those of peel. The float must be P/Q rounded once.
+use crate::desk;
+use crate::lent;
+use crate::lists;
+use crate::lists::Damage;
+use crate::model;
+use crate::print;
+use kandurzo::Solved;
+use records::Head;
+
+// What is altered: the list, and the lengths lent.
+pub(crate) struct Altered {
+    pub(crate) damage: Damage,
+    pub(crate) members: usize,
+    pub(crate) cores: usize,
+    pub(crate) shares: usize,
+    pub(crate) work: usize,
+}
+
+// Nothing is.
+pub(crate) fn sound() -> Altered {
+    Altered {
+        damage: lists::none(),
+        members: 5,
+        cores: 5,
+        shares: 7,
+        work: 16384,
+    }
+}
+
+// The next 32 binary digits of rest / q, which is below 1.
+fn digits(rest: u64, q: u64) -> u32 {
+    if q == 0 {
+        return 0;
+    }
+    (((rest << 32) / q) % 4294967296) as u32
+}
+
+// What is left of rest / q behind them.
+fn behind(rest: u64, q: u64) -> u64 {
+    if q == 0 { 0 } else { (rest << 32) % q }
+}
+
+// 1 where something is left, so that a sum of digits is rounded as the whole would be.
+fn sticky(rest: u64, last: u32) -> u32 {
+    if rest == 0 { last } else { last | 1 }
+}
+
+fn long(x: u32) -> u64 {
+    x as u64
+}
+
+// p / q by long division: the whole part, and 64 binary digits behind the point; the sum of the three is rounded once. 0 where q is 0.
+fn quotient(p: u32, q: u32) -> f64 {
+    if q == 0 {
+        return 0.0;
+    }
+    let by = long(q);
+    let rest = long(p % q);
+    let more = behind(rest, by);
+    let last = sticky(behind(more, by), digits(more, by));
+    let whole = (p / q) as f64 + digits(rest, by) as f64 / 4294967296.0;
+    whole + last as f64 / 18446744073709551616.0
+}
+
+// What solve answers.
+fn print_solved(name: &[u8], due: u32, found: Solved) {
+    print::begin(b"solve", name, due, found.number);
+    print::field(b" p=", found.p);
+    print::field(b" q=", found.q);
+    print::field(b" k=", found.k);
+    print::field(b" core=", found.coresize);
+    if found.ratio == quotient(found.p, found.q) {
+        io::write_all(1, b" ratio as due");
+        return;
+    }
+    io::write_all(1, b" ratio not as due");
+}
+
+// solve with the first entries of the buffers.
+fn solve_part(
+    a: Altered,
+    head: Head,
+    words: &mut [u32],
+    members: &mut [u8],
+    cores: &mut [u16],
+    shares: &mut [u16],
+    work: &mut [u32],
+) -> Solved {
+    let first = lists::at_most(members.len(), a.members);
+    let second = lists::at_most(cores.len(), a.cores);
+    let third = lists::at_most(shares.len(), a.shares);
+    let fourth = lists::at_most(work.len(), a.work);
+    lent::solve_4096(
+        words,
+        head,
+        &mut members[0..first],
+        &mut cores[0..second],
+        &mut shares[0..third],
+        &mut work[0..fourth],
+    )
+}
+
+// One line: what solve says and writes.
+fn tried_on(name: &[u8], due: u32, head: Head, a: Altered, words: &mut [u32]) {
+    let mut members = [9u8; 8];
+    let mut cores = [9u16; 8];
+    let mut shares = [9u16; 8];
+    let mut work = [7u32; 16400];
+    let found = solve_part(
+        a,
+        head,
+        words,
+        &mut members,
+        &mut cores,
+        &mut shares,
+        &mut work,
+    );
+    print_solved(name, due, found);
+    print::bytes(b" members=", &members);
+    print::halves(b" cores=", &cores);
+    print::halves(b" shares=", &shares);
+    print::end_work(&work);
+}
+
+// The list *tail*.
+pub(crate) fn tried(name: &[u8], due: u32, a: Altered) {
+    let mut words = [0u32; 12288];
+    lists::tail(a.damage, &mut words);
+    tried_on(name, due, lists::head(a.damage, 7), a, &mut words);
+}
+
+// ---- lists of 512 modules
+
+// The kinds of large lists: pairs by chance; each module with the next so many on a circle; a clique.
+enum Kind {
+    Chance,
+    Circle,
+    Clique(u32),
+}
+
+// Pair i of such a list.
+fn put_pair(kind: Kind, i: u32, desk: &mut [u32]) {
+    let state = desk::next(desk::next(std::num::wrapping_add_u32(i, 1)));
+    let step = std::num::wrapping_add_u32(i, i / 512);
+    match kind {
+        Kind::Chance => model::put_pair(
+            desk,
+            state / 65536 % 512,
+            desk::next(state) / 65536 % 512,
+            1,
+        ),
+        Kind::Circle => model::put_pair(
+            desk,
+            i % 512,
+            std::num::wrapping_add_u32(step, 1) % 512,
+            1,
+        ),
+        Kind::Clique(size) => put_in_clique(size, i, desk),
+    }
+}
+
+fn put_in_clique(size: u32, i: u32, desk: &mut [u32]) {
+    if size == 0 {
+        return;
+    }
+    model::put_pair(desk, i / size, i % size, 1);
+}
+
+// So many of them.
+fn put_pairs(kind: Kind, many: u32, desk: &mut [u32]) {
+    let mut i = 0;
+    while i < many {
+        put_pair(kind, i, desk);
+        i += 1;
+    }
+}
+
+// How many of the first 512 entries differ.
+fn differing(first: &[u16], second: &[u16]) -> u32 {
+    let mut found = 0;
+    let mut i = 0;
+    while i < 512 {
+        found = desk::one_more(print::half_at(first, i) == print::half_at(second, i), found);
+        i += 1;
+    }
+    found
+}
+
+// What check says of the sheet, and how many core numbers peel gives otherwise.
+fn confirm(head: Head, members: &[u8], cores: &[u16], shares: &[u16], desk: &mut [u32]) {
+    let mut order = [0u16; 512];
+    let mut others = [0u16; 512];
+    let mut work = [0u32; 16384];
+    let verdict = lent::check_4096(desk, head, members, shares, &mut work);
+    lent::peel_4096(desk, head, &mut order, &mut others, &mut work);
+    print::field(b" check=", verdict.number);
+    print::field(b":", verdict.p);
+    print::field(b"/", verdict.q);
+    print::field(b" cores differ=", differing(cores, &others));
+}
+
+// One line: a list of m pairs on the desk, with buffers longer than is named.
+fn solve_large(name: &[u8], m: u32, desk: &mut [u32]) {
+    let mut members = [9u8; 514];
+    let mut cores = [9u16; 514];
+    let mut shares = [9u16; 4100];
+    let mut work = [7u32; 16400];
+    let head = Head { n: 512, m };
+    let found = lent::solve_4096(desk, head, &mut members, &mut cores, &mut shares, &mut work);
+    print_solved(name, 0, found);
+    print::field(b" pairs=", m);
+    confirm(head, &members, &cores, &shares, desk);
+    print::bytes(b" members=", &members[506..514]);
+    print::halves(b" cores=", &cores[506..514]);
+    print::halves(b" shares=", &shares[4092..4100]);
+    print::end_work(&work);
+}
+
+fn large(name: &[u8], kind: Kind, many: u32) {
+    let mut desk = [0u32; 294928];
+    put_pairs(kind, many, &mut desk);
+    let m = model::put_list(&mut desk, 0, 512);
+    solve_large(name, m, &mut desk);
+}
+
+// ---- what is tried
+
+fn buffers() {
+    let s = sound();
+    tried(b"as it is", 0, s);
+    tried(
+        b"longer buffers",
+        0,
+        Altered {
+            members: 7,
+            cores: 6,
+            shares: 8,
+            work: 16390,
+            ..s
+        },
+    );
+    tried(b"short members", 12, Altered { members: 4, ..s });
+    tried(b"short core numbers", 12, Altered { cores: 4, ..s });
+    tried(b"short shares", 12, Altered { shares: 6, ..s });
+    tried(b"short work", 12, Altered { work: 16383, ..s });
+    tried(
+        b"no modules, and short members",
+        13,
+        Altered {
+            damage: Damage { n: 0, ..s.damage },
+            members: 4,
+            ..s
+        },
+    );
+}
+
+// Lists with other answers.
+fn others() {
+    let mut words = [0u32; 12288];
+    let s = Altered {
+        members: 8,
+        cores: 8,
+        shares: 8,
+        ..sound()
+    };
+    tried_on(b"one module", 0, Head { n: 1, m: 0 }, s, &mut words);
+    tried_on(b"no pairs", 0, Head { n: 4, m: 0 }, s, &mut words);
+    lists::triangles(&mut words);
+    tried_on(b"two triangles", 0, Head { n: 6, m: 6 }, s, &mut words);
+    tried_on(b"one of them", 0, Head { n: 6, m: 3 }, s, &mut words);
+}
+
+pub(crate) fn run() {
+    buffers();
+    others();
+    large(b"512 modules, pairs by chance", Kind::Chance, 4096);
+    large(b"512 modules, a circle", Kind::Circle, 512);
+    large(b"512 modules, a wide circle", Kind::Circle, 4096);
+    large(b"512 modules, a clique of 90", Kind::Clique(90), 8100);
+}

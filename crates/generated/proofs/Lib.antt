@@ -1,3 +1,0 @@
--- The facts that the proofs here cite.
-pub mod Generated
-pub mod Held

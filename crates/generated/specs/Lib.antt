@@ -1,4 +1,0 @@
--- What the contracts cite.
-pub mod Generated
-pub mod Held
-pub mod Words

@@ -1,4 +1,0 @@
--- Laws behind the calls on records kept in words; each file opens with what it gives.
-pub mod Lent
-pub mod Own
-pub mod Walk

@@ -1,4 +1,0 @@
--- What the contracts cite.
-pub mod Sweeps
-pub mod Turns
-pub mod Plain
