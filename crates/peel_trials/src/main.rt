@@ -241,3 +241,4 @@ fn main() {
     every(b"places altered", Altered::Place);
     every(b"remainder altered", Altered::Remainder);
 }
+// end
