@@ -175,11 +175,15 @@ fn small_sheets(change: Change) -> Tally {
     sheet(Kind::Hung(5), 14, change, 1, triangles)
 }
 
+fn print_checks(name: &[u8], seen: Tally) {
+    seen.print_answers(name, b": accepted, by 7, by 8, by 9 =");
+}
+
 // And of large ones, at some places.
 fn sheets(name: &[u8], change: Change) {
     let cycle = sheet(Kind::Cycle, 512, change, 50, small_sheets(change));
     let cliques = sheet(Kind::Cliques(16), 512, change, 350, cycle);
-    sheet(Kind::Hung(85), 512, change, 190, cliques).print_checks(name);
+    print_checks(name, sheet(Kind::Hung(85), 512, change, 190, cliques));
 }
 
 fn changed_shares() {
@@ -195,8 +199,9 @@ fn changed_bytes() {
     sheets(b"member dropped", Change::Dropped);
     sheets(b"byte of 2", Change::Two);
     sheets(b"no member", Change::Emptied);
-    go_on(Asked::Sheets, Source::Fours, 64, Tally::new()).print_checks(
+    print_checks(
         b"every sheet of 4 modules and up to 4 pairs",
+        go_on(Asked::Sheets, Source::Fours, 64, Tally::new()),
     );
 }
 
@@ -223,11 +228,16 @@ fn large_groups() -> Tally {
     firsts(clique, 91, drawn)
 }
 
+fn print_surpluses(name: &[u8], seen: Tally) {
+    seen.print_answers(name, b": above, zero, below, by 7 =");
+}
+
 fn surpluses_of_all() {
-    go_on(Asked::Sets, Source::Fours, 64, Tally::new()).print_surpluses(
+    print_surpluses(
         b"surplus, every two sets of 4 modules",
+        go_on(Asked::Sets, Source::Fours, 64, Tally::new()),
     );
-    large_groups().print_surpluses(b"surplus, large groups");
+    print_surpluses(b"surplus, large groups", large_groups());
 }
 
 fn main() {

@@ -75,7 +75,7 @@ impl Tally {
         self
     }
 
-    // What ends a line: of what went wrong.
+    // What ends a line: lists that the reader refused, and comparisons that differ.
     fn print_faults(self) {
         field(b" unread=", self.unread);
         field(b" differ=", self.differ);
@@ -92,23 +92,15 @@ impl Tally {
         self.print_faults();
     }
 
-    pub(crate) fn print_checks(self, name: &[u8]) {
+    // The four answers' kinds, and how often each was given.
+    pub(crate) fn print_answers(self, name: &[u8], kinds: &[u8]) {
         let answers = self.answers;
         io::write_all(1, name);
-        field(b": accepted=", answers[0]);
-        field(b" by7=", answers[1]);
-        field(b" by8=", answers[2]);
-        field(b" by9=", answers[3]);
-        self.print_faults();
-    }
-
-    pub(crate) fn print_surpluses(self, name: &[u8]) {
-        let answers = self.answers;
-        io::write_all(1, name);
-        field(b": above=", answers[0]);
-        field(b" zero=", answers[1]);
-        field(b" below=", answers[2]);
-        field(b" by7=", answers[3]);
+        io::write_all(1, kinds);
+        field(b" ", answers[0]);
+        field(b" ", answers[1]);
+        field(b" ", answers[2]);
+        field(b" ", answers[3]);
         self.print_faults();
     }
 }

@@ -9,4 +9,7 @@ check-words-requires c κs =
     (held (c .before .before .before .before .before .before .before .before .pre), (c .before .before .if1 .left, c .before .if2 .left))
 
 pub check-spec : {M : Type 1} → statement M
-check-spec = tie.close (tie.spec (λ c. search needs) (λ c. search needs) (λ c κs. search needs) (λ c. search needs) (λ c κs. search needs) (λ c. search needs) (λ c. search needs) (λ c. search needs) (λ c. search needs) check-words-requires (λ c. search needs))
+check-spec =
+    tie.close
+    (tie.spec (λ c. search needs) (λ c. search needs) (λ c κs. search needs) (λ c. search needs) (λ c κs. search needs) (λ c. search needs)
+    (λ c. search needs) (λ c. search needs) (λ c. search needs) check-words-requires (λ c. search needs))

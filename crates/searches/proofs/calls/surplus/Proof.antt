@@ -9,4 +9,7 @@ surplus-words-requires c κs =
     (held (c .before .before .before .before .before .before .before .before .pre), (c .before .before .if1 .left, c .before .if2 .left))
 
 pub surplus-spec : {M : Type 1} → statement M
-surplus-spec = tie.close (tie.spec (λ c. search needs) (λ c. search needs) (λ c κs. search needs) (λ c. search needs) (λ c κs. search needs) (λ c. search needs) (λ c. search needs) (λ c. search needs) (λ c. search needs) surplus-words-requires (λ c. search needs))
+surplus-spec =
+    tie.close
+    (tie.spec (λ c. search needs) (λ c. search needs) (λ c κs. search needs) (λ c. search needs) (λ c κs. search needs) (λ c. search needs)
+    (λ c. search needs) (λ c. search needs) (λ c. search needs) surplus-words-requires (λ c. search needs))
