@@ -10,7 +10,14 @@ fn read_argument(i: usize, file: &mut [u8]) -> usize
 {
     let mut path = io::buffer();
     let length = os::arg(i, &mut path);
-    input::read_named(&path[..length], file)
+    let fd = os::open_read(&path[..length]);
+    if fd < 0 {
+        os::fail(&path[..length]);
+        return 0;
+    }
+    let n = io::read_full(fd, file);
+    libc::close(fd);
+    n
 }
 
 fn main() {

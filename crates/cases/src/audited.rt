@@ -1,4 +1,5 @@
 // Sheets that are audited beside a pair file: whole, with each byte altered, and as far as a buffer holds them.
+use crate::files::read_open;
 use crate::text::Given;
 use crate::text::after;
 use crate::text::byte_at;
@@ -8,7 +9,6 @@ use crate::text::number_at;
 use crate::text::one_more;
 use crate::text::put_number;
 use crate::text::put_two;
-use input::read_open;
 use sheetfile::audit;
 use verify::Verdict;
 

@@ -23,11 +23,13 @@
 //
 // A line is printed for each list of cases, and one for each case that did not come out as due.
 mod audited;
+mod files;
 mod solved;
 mod text;
 
 use audited::try_audit;
 use audited::try_limits;
+use files::read_open;
 use libc::STDOUT_FILENO;
 use solved::try_file;
 use solved::try_large;
@@ -110,7 +112,7 @@ fn try_lines(kind: Kind, list: &[u8]) -> Tally {
 // The list of that name, and how many of its cases came out as due.
 fn try_list(kind: Kind, name: &[u8]) {
     let mut list = io::large_buffer();
-    let n = input::read_named(name, &mut list);
+    let n = read_open(os::open_read(name), &mut list);
     let tally = try_lines(kind, &list[..n]);
     io::write_all(STDOUT_FILENO, name);
     io::write_all(STDOUT_FILENO, b": as due=");

@@ -1,4 +1,5 @@
 // Pair files that are read and solved: by name, and made here.
+use crate::files::read_open;
 use crate::text::Given;
 use crate::text::after;
 use crate::text::byte_at;
@@ -80,7 +81,7 @@ pub(crate) fn try_file(line: &[u8], text: &mut [u8]) -> Given {
     if fd < 0 {
         return no_file(text, after(space));
     }
-    let n = input::read_open(fd, &mut file);
+    let n = read_open(fd, &mut file);
     Given {
         due: after(space),
         end: put_solved(text, &file[..n]),

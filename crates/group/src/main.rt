@@ -7,7 +7,7 @@ use libc::STDOUT_FILENO;
 fn main() {
     let mut file = [0u8; 65536];
     let mut out = [0u8; 8192];
-    let n = input::read_open(STDIN_FILENO, &mut file);
+    let n = io::read_full(STDIN_FILENO, &mut file);
     let r = texts::group_text(&file, n, &mut out);
     io::write_all(STDOUT_FILENO, &out[..r]);
 }
