@@ -264,10 +264,14 @@ fn compare(n: u32, m: usize, ends: &[u32], weights: &[u32], altered: Altered) ->
     if !generated::is_held(size, m, ends, weights) {
         return Outcome::Unheld;
     }
+    let effort = densest::Effort {
+        phases: densest::PHASES,
+        links: m,
+    };
     let solution = densest::solve(
         size,
         m,
-        densest::PHASES,
+        effort,
         ends,
         weights,
         &mut members,
