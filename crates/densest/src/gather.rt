@@ -9,6 +9,7 @@ ghost use Rattle.theory.specs.Words.{Held-words};
 ghost use Rattle.slots.specs.Slots.{Ends};
 ghost use Rattle.densest.specs.Search.{Searchable, Group-found};
 ghost use Rattle.densest.specs.Gather.{Gathered, Scattered};
+use crate::Effort;
 use crate::search::Ratio;
 use crate::search::find;
 
@@ -70,7 +71,7 @@ fn scatter(n: usize, m: usize, ends: &[u32], scope: &[u8], units: &[u32], hold: 
 fn find_in_core(
     n: usize,
     m: usize,
-    effort: usize,
+    effort: Effort,
     p: u32,
     q: u32,
     ends: &[u32],
@@ -123,7 +124,7 @@ fn find_in_core(
 pub(crate) fn find_best(
     n: usize,
     m: usize,
-    effort: usize,
+    effort: Effort,
     p: u32,
     q: u32,
     ends: &[u32],

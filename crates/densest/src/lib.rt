@@ -24,6 +24,12 @@ use sheet::write_shares;
 // At most so many push phases before the searches of a round: enough to leave these next to nothing to do.
 pub const PHASES: usize = 64;
 
+// What goes before the searches to make them short: at most so many push phases, and links of at most so many pairs.
+pub struct Effort {
+    pub phases: usize,
+    pub links: usize,
+}
+
 // The found group's inside count p and size q, k = p/q rounded up, and the size of the core of order k; and what the searches did.
 pub struct Solution {
     pub p: u32,
@@ -37,7 +43,7 @@ pub struct Solution {
 fn solve_in(
     n: usize,
     m: usize,
-    effort: usize,
+    effort: Effort,
     ends: &[u32],
     weights: &[u32],
     core: &mut [u8],
@@ -82,11 +88,11 @@ fn solve_in(
 }
 
 // The found group's member bytes, the core numbers, a share for each pair, and the numbers of solve's record. Entries past the first n and the first m
-// are as they were. At most `effort` push phases go before the searches of a round: any number of them gives such an answer.
+// are as they were. Any effort gives such an answer.
 pub fn solve(
     n: usize,
     m: usize,
-    effort: usize,
+    effort: Effort,
     ends: &[u32],
     weights: &[u32],
     members: &mut [u8],

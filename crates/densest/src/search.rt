@@ -5,7 +5,9 @@
 // at the found group's size makes the split that the load sheet is written from; mostly it is the last one. (The Dinkelbach iteration.)
 ghost use mathlib.Core.Path.{_≡_};
 ghost use mathlib.Core.Bool.{true};
+ghost use Prim.Native.Nat.{_≤_};
 ghost use Rattle.densest.specs.Search.{Link-room, Searchable, Round, Group-found};
+use crate::Effort;
 use flow::Searches;
 use flow::Split;
 use flow::no_searches;
@@ -20,11 +22,11 @@ pub(crate) struct Ratio {
 }
 
 // One round: a split at share size q inside the core of p over q rounded up, near the one that hold has at share size `old`, and what `flow`
-// makes of it, with at most `effort` phases first.
+// makes of it, with at most so many push phases first.
 fn round(
     n: usize,
     m: usize,
-    effort: usize,
+    phases: usize,
     p: u32,
     q: u32,
     old: u32,
@@ -46,14 +48,14 @@ fn round(
     let k = numbers::rounded_up(p, q);
     groups::mark_at_least(n, k, cores, scope);
     slots::spread(n, m, q, old, ends, weights, scope, hold);
-    flow::flow(n, m, p, effort, &own, scope, ends, first, next, hold, group)
+    flow::flow(n, m, p, phases, &own, scope, ends, first, next, hold, group)
 }
 
 // Rounds from a group of inside count p0 and size q0 on, until one finds a split; the found group's inside count and size.
 fn search(
     n: usize,
     m: usize,
-    effort: usize,
+    phases: usize,
     p0: u32,
     q0: u32,
     ends: &[u32],
@@ -80,7 +82,7 @@ fn search(
         let split = round(
             n,
             m,
-            effort,
+            phases,
             p,
             q,
             old,
@@ -114,7 +116,7 @@ fn search(
 fn last_round(
     n: usize,
     m: usize,
-    effort: usize,
+    phases: usize,
     best: Ratio,
     ends: &[u32],
     weights: &[u32],
@@ -137,7 +139,7 @@ fn last_round(
     let split = round(
         n,
         m,
-        effort,
+        phases,
         best.p,
         best.q,
         best.q,
@@ -158,11 +160,18 @@ fn last_round(
     }
 }
 
+// The lesser of two.
+fn fewer(a: usize, b: usize) -> usize
+    ensures { λ r. ⌜ r ≤ b ⌝ }
+{
+    if a < b { a } else { b }
+}
+
 // Rounds from p over q on, and a split at the found group's size.
 pub(crate) fn find(
     n: usize,
     m: usize,
-    effort: usize,
+    effort: Effort,
     p: u32,
     q: u32,
     ends: &[u32],
@@ -178,11 +187,13 @@ pub(crate) fn find(
 {
     let mut first = [0u32; 512];
     let mut next = [0u32; 8192];
-    slots::links(n, m, ends, &mut first, &mut next);
+    let phases = effort.phases;
+    let linked = fewer(effort.links, m);
+    slots::links(n, linked, ends, &mut first, &mut next);
     let best = search(
         n,
         m,
-        effort,
+        phases,
         p,
         q,
         ends,
@@ -197,7 +208,7 @@ pub(crate) fn find(
     last_round(
         n,
         m,
-        effort,
+        phases,
         best,
         ends,
         weights,

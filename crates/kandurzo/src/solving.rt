@@ -13,6 +13,7 @@ use crate::Solved;
 use crate::buffers::clear;
 use crate::buffers::gate;
 use crate::buffers::narrow;
+use densest::Effort;
 use densest::PHASES;
 use densest::Solution;
 use densest::solve;
@@ -73,10 +74,14 @@ fn sheet_in(
     let mut sheet = [0u32; 4096];
     let ends = 2 * m;
     let weights = 8192 + m;
+    let effort = Effort {
+        phases: PHASES,
+        links: m,
+    };
     let found = solve(
         n,
         m,
-        PHASES,
+        effort,
         &work[0..ends],
         &work[8192..weights],
         members,

@@ -1,7 +1,9 @@
 -- `densest::search::find` meets its contract. Assumes nothing.
 use native.Mathlib.Omega.{arith}
 use mathlib.Core.Path.{_∙_}
-use Prim.Native.Nat.{_*_, _≤_}
+use mathlib.Core.List.{List}
+use Prim.Native.Nat.{ℕ, _*_, _≤_}
+use Rattle.slots.specs.Slots.{Ends}
 use Rattle.slots.proofs.Words.{few-modules, few-pairs, list-ends}
 use Rattle.densest.specs.Search.{Link-room}
 use Rattle.densest.proofs.Solving.{found-candidate}
@@ -11,7 +13,7 @@ use Rattle.densest.proofs.search.find.Tie as tie
 
 -- the places of the calls, each from the next
 abbrev begin : tie.After-links → tie.Start
-begin c = c .before .before .before .before .before .before .before .before .before
+begin c = c .before .before .before .before .before .before .before .before .before .before
 
 abbrev linked : tie.After-search → tie.After-links
 linked c = c .before .before .before .before .before .before .before .before
@@ -26,10 +28,22 @@ links-long c = record {
   next-long = omega (arith, short (begin c), c .links .kept .1 .1 .1 .1 .0);
 }
 
+-- the pairs that are linked are some of all
+linked-ends : {n m k : ℕ} {ends : List ℕ} → k ≤ m → Ends n m ends → Ends n k ends
+linked-ends h e = record {
+  few = omega (arith, e .few);
+  long = omega (arith, e .long);
+  below = λ s l. e .below s (omega arith);
+  apart = λ s l. e .apart s (omega arith);
+}
+
 links-requires : tie.Need-links-requires
 links-requires c κs =
-    let s = c .before .before .before .before .before .before .before .before in
-    (list-ends _ _ _ _ (s .pre .held .listed) (s .pre .held .ends-long), (few-modules _ _ _ _ (s .pre .held .listed), short s))
+    let f = c .before .before in
+    let s = f .before .before .before .before .before .before .before in (
+      linked-ends (f .fewer .ensures) (list-ends _ _ _ _ (s .pre .held .listed) (s .pre .held .ends-long)),
+      (few-modules _ _ _ _ (s .pre .held .listed), omega (arith, short s, f .fewer .ensures)),
+    )
 
 search-requires : tie.Need-search-requires
 search-requires c κs =
@@ -59,6 +73,7 @@ pub find-spec : {M : Type 1} → statement M
 find-spec =
     tie.close
     (tie.spec
+    (λ c κs. tt)
     (λ c. search needs)
     (λ c. search needs)
     links-requires
