@@ -1,4 +1,5 @@
 // The product's calls, on words that hold a list.
+use densest::Effort;
 use densest::Solution;
 use pairfile::Reading;
 use verify::Difference;
@@ -47,8 +48,8 @@ pub(crate) fn peel(list: Reading, words: &[u32]) -> Peeled
     }
 }
 
-// Solve with at most `effort` push phases before each search.
-pub(crate) fn solve(list: Reading, effort: usize, words: &[u32]) -> Solved
+// Solve with at most so much effort before its searches.
+pub(crate) fn solve(list: Reading, effort: Effort, words: &[u32]) -> Solved
     requires { ⌜ Holds-list (list .n) (list .m) (now words) ⌝ }
 {
     let mut members = [0u8; 512];

@@ -1,28 +1,52 @@
-// Peel and solve of a list beside the plain computations, and solve with push phases beside solve without.
+// Peel and solve of a list beside the plain computations: solve with push phases and links, with links alone, and with neither.
 use crate::calls;
 use crate::peels::alter_peel;
 use crate::peels::peel_plainly;
 use crate::peels::same_peel;
 use crate::sets;
+use crate::sets::Best;
 use crate::solves::alter_solve;
 use crate::solves::same_solve;
 use crate::solves::solve_right;
 use crate::tally::Tally;
+use densest::Effort;
 use pairfile::Reading;
 ghost use Rattle.theory.specs.Words.{Holds-list};
+
+// At most so many push phases, and links of so many pairs.
+fn effort(phases: usize, links: usize) -> Effort {
+    Effort { phases, links }
+}
+
+// Solve with neither phases nor links, of up to 40 modules: each slot of a chain is found by a pass over all slots.
+fn try_bare(list: Reading, words: &[u32], best: Best, cores: &[u32], seen: Tally) -> Tally
+    requires { ⌜ Holds-list (list .n) (list .m) (now words) ⌝ }
+{
+    if 40 < list.n {
+        return seen;
+    }
+    let bare = calls::solve(list, effort(0, 0), words);
+    let record = bare.record;
+    seen.compared(solve_right(list, words, bare, best, cores))
+        .scanned(record.searches)
+}
 
 // Solve beside the plain computations, with one thing altered where push phases went before the searches; and what the searches without them did.
 fn try_solve(thing: u32, list: Reading, words: &[u32], cores: &[u32], seen: Tally) -> Tally
     requires { ⌜ Holds-list (list .n) (list .m) (now words) ⌝ }
 {
     let best = sets::densest(list, words);
-    let pushed = alter_solve(thing, calls::solve(list, densest::PHASES, words));
-    let exact = calls::solve(list, 0, words);
+    let pushed = alter_solve(
+        thing,
+        calls::solve(list, effort(densest::PHASES, 4096), words),
+    );
+    let exact = calls::solve(list, effort(0, 4096), words);
     let record = exact.record;
-    seen.compared(solve_right(list, words, pushed, best, cores))
+    let after = seen.compared(solve_right(list, words, pushed, best, cores))
         .compared(solve_right(list, words, exact, best, cores))
         .compared(same_solve(list.n, pushed, exact))
-        .searched(record.searches)
+        .searched(record.searches);
+    try_bare(list, words, best, cores, after)
 }
 
 // Peel and solve, with one thing altered.

@@ -14,6 +14,7 @@ pub struct Tally {
     pub chains: u32,
     pub longest: u32,
     pub none: u32,
+    pub scanned: u32,
     pub state: u32,
 }
 
@@ -33,6 +34,7 @@ impl Tally {
             chains: 0,
             longest: 0,
             none: 0,
+            scanned: 0,
             state: 2463534242,
         }
     }
@@ -68,6 +70,13 @@ impl Tally {
         self
     }
 
+    // What searches did that had no links.
+    pub(crate) fn scanned(mut self, searches: Searches) -> Tally {
+        self.scanned = wrapping_add_u32(self.scanned, searches.chains);
+        self
+    }
+
+    // What searches did that had links.
     pub(crate) fn searched(mut self, searches: Searches) -> Tally {
         self.chains = wrapping_add_u32(self.chains, searches.chains);
         self.longest = greater(self.longest, searches.longest);
@@ -89,6 +98,7 @@ impl Tally {
         field(b" chains=", self.chains);
         field(b" longest=", self.longest);
         field(b" none=", self.none);
+        field(b" scanned=", self.scanned);
         self.print_faults();
     }
 
