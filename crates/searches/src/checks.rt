@@ -125,21 +125,16 @@ fn try_change(change: Change, at: u32, list: Reading, words: &[u32], seen: Tally
     judge(list, words, &members, &shares, seen)
 }
 
-// A change at a place that is a multiple of `step`.
-pub(crate) fn try_place(
-    change: Change,
-    step: u32,
-    at: u32,
-    list: Reading,
-    words: &[u32],
-    seen: Tally,
-) -> Tally
+// Small sheets are changed at every place, those of 512 modules at every 170th.
+fn is_due(n: u32, at: u32) -> bool {
+    n < 512 || at % 170 == 0
+}
+
+// A change at a place, where one is due.
+pub(crate) fn try_place(change: Change, at: u32, list: Reading, words: &[u32], seen: Tally) -> Tally
     requires { ⌜ Holds-list (list .n) (list .m) (now words) ⌝ }
 {
-    if step == 0 {
-        return seen;
-    }
-    if at % step == 0 {
+    if is_due(list.n, at) {
         try_change(change, at, list, words, seen)
     } else {
         seen

@@ -30,6 +30,7 @@ use checks::Change;
 use lists::Kind;
 use lists::Source;
 use tally::Tally;
+use tally::field;
 use trials::Asked;
 use trials::go_on;
 
@@ -134,57 +135,50 @@ fn large_bands() {
 }
 
 // Every list of 1 to 5 modules, with one thing altered.
-fn alter(name: &[u8], thing: u32) {
-    go_on(Asked::Searches(thing), Source::Masks, 1099, Tally::new()).print_searches(name);
+fn alter(thing: u32) {
+    field(b"thing ", thing);
+    go_on(Asked::Searches(thing), Source::Masks, 1099, Tally::new()).print_searches(b" altered");
 }
 
-fn altered_peels() {
-    alter(b"order altered", altered::ORDER);
-    alter(b"cores altered", altered::CORES);
-    alter(b"places altered", altered::PLACE);
-    alter(b"remainder altered", altered::REMAINDER);
+// Each thing altered (module `altered`).
+fn altered_answers() {
+    let mut thing: u32 = 1;
+    while thing < 12 {
+        alter(thing);
+        thing += 1;
+    }
 }
 
-fn altered_solves() {
-    alter(b"member altered", altered::MEMBER);
-    alter(b"P altered", altered::INSIDE);
-    alter(b"Q altered", altered::SIZE);
-    alter(b"K altered", altered::K);
-    alter(b"core size altered", altered::CORE_SIZE);
-    alter(b"core number altered", altered::CORE_NUMBER);
-    alter(b"share altered", altered::SHARE);
-}
-
-// A change of the sheet of a list of n modules, at every `step`th place.
-fn sheet(kind: Kind, n: u32, change: Change, step: u32, seen: Tally) -> Tally {
+// A change of the sheet of a list of n modules.
+fn sheet(kind: Kind, n: u32, change: Change, seen: Tally) -> Tally {
     let source = Source::Alike {
         kind,
         least: n,
         each: 1,
     };
-    go_on(Asked::Changes { change, step }, source, 1, seen)
+    go_on(Asked::Changes(change), source, 1, seen)
 }
 
-// A change of small sheets of each kind, at every place.
+// A change of small sheets of each kind.
 fn small_sheets(change: Change) -> Tally {
-    let path = sheet(Kind::Band(1), 7, change, 1, Tally::new());
-    let star = sheet(Kind::Star, 8, change, 1, path);
-    let cycle = sheet(Kind::Cycle, 9, change, 1, star);
-    let odd = sheet(Kind::Cliques(7), 7, change, 1, cycle);
-    let even = sheet(Kind::Cliques(4), 8, change, 1, odd);
-    let triangles = sheet(Kind::Cliques(3), 12, change, 1, even);
-    sheet(Kind::Hung(5), 14, change, 1, triangles)
+    let path = sheet(Kind::Band(1), 7, change, Tally::new());
+    let star = sheet(Kind::Star, 8, change, path);
+    let cycle = sheet(Kind::Cycle, 9, change, star);
+    let odd = sheet(Kind::Cliques(7), 7, change, cycle);
+    let even = sheet(Kind::Cliques(4), 8, change, odd);
+    let triangles = sheet(Kind::Cliques(3), 12, change, even);
+    sheet(Kind::Hung(5), 14, change, triangles)
 }
 
 fn print_checks(name: &[u8], seen: Tally) {
     seen.print_answers(name, b": accepted, by 7, by 8, by 9 =");
 }
 
-// And of large ones, at some places.
+// And of large ones.
 fn sheets(name: &[u8], change: Change) {
-    let cycle = sheet(Kind::Cycle, 512, change, 50, small_sheets(change));
-    let cliques = sheet(Kind::Cliques(16), 512, change, 350, cycle);
-    print_checks(name, sheet(Kind::Hung(85), 512, change, 190, cliques));
+    let cycle = sheet(Kind::Cycle, 512, change, small_sheets(change));
+    let cliques = sheet(Kind::Cliques(16), 512, change, cycle);
+    print_checks(name, sheet(Kind::Hung(85), 512, change, cliques));
 }
 
 fn changed_shares() {
@@ -248,8 +242,7 @@ fn main() {
     large_lists();
     large_cliques();
     large_bands();
-    altered_peels();
-    altered_solves();
+    altered_answers();
     changed_shares();
     changed_bytes();
     surpluses_of_all();

@@ -12,9 +12,11 @@ use crate::entries::word_at;
 use crate::plain::core_size;
 use crate::sets::Best;
 use crate::sets::same_set;
+use crate::verdicts::same_verdict;
 use densest::Solution;
 use pairfile::Reading;
 use std::num::wrapping_add_u32;
+use verify::Verdict;
 ghost use Rattle.theory.specs.Words.{Holds-list};
 
 // A record with one number altered.
@@ -56,12 +58,10 @@ pub(crate) fn alter_solve(thing: u32, solved: Solved) -> Solved {
 fn group_right(n: u32, solved: Solved, best: Best) -> bool {
     let mut set = [0u32; 512];
     let record = solved.record;
-    if read_set(n, &solved.members, &mut set) != record.q {
-        return false;
-    }
     if 12 < n {
         return true;
     }
+    read_set(n, &solved.members, &mut set);
     record.p == best.p && record.q == best.q && same_set(n, best.mask, &set)
 }
 
@@ -100,7 +100,12 @@ fn sheet_right(list: Reading, words: &[u32], solved: Solved) -> bool
     let record = solved.record;
     narrow_shares(list.m, &solved.shares, &mut sheet);
     let verdict = check(list, words, &solved.members, &sheet);
-    verdict.number == 0 && verdict.p == record.p && verdict.q == record.q
+    let due = Verdict {
+        number: 0,
+        p: record.p,
+        q: record.q,
+    };
+    same_verdict(verdict, due)
 }
 
 // Whether solve's answer is right, beside the densest set and the core numbers.
@@ -122,14 +127,11 @@ fn same_record(x: Solution, y: Solution) -> bool {
     x.p == y.p && x.q == y.q && x.k == y.k && x.core == y.core
 }
 
-// Whether two answers for n modules name the same group, record and core numbers; their sheets may differ.
+// Whether two answers for n modules name the same group and record; their sheets may differ.
 pub(crate) fn same_solve(n: u32, x: Solved, y: Solved) -> bool {
     let mut x_set = [0u32; 512];
     let mut y_set = [0u32; 512];
     read_set(n, &x.members, &mut x_set);
     read_set(n, &y.members, &mut y_set);
-    if !same_words(n, &x_set, &y_set) {
-        return false;
-    }
-    same_words(n, &x.cores, &y.cores) && same_record(x.record, y.record)
+    same_words(n, &x_set, &y_set) && same_record(x.record, y.record)
 }

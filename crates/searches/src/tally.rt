@@ -18,7 +18,7 @@ pub struct Tally {
     pub state: u32,
 }
 
-fn field(label: &[u8], value: u32) {
+pub(crate) fn field(label: &[u8], value: u32) {
     io::write_all(1, label);
     io::print_decimal(1, value as u64);
 }

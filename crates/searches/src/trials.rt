@@ -20,8 +20,8 @@ ghost use Rattle.theory.specs.Words.{Holds-list};
 pub enum Asked {
     // Peel and solve, with one thing altered.
     Searches(u32),
-    // Check of solve's sheet, changed at each multiple of `step`.
-    Changes { change: Change, step: u32 },
+    // Check of solve's sheet, changed in one place.
+    Changes(Change),
     // Check of every sheet of 4 modules: member bytes of 0 to 2, and shares of 0 to 5 where the list has up to 4 pairs.
     Sheets,
     // Surplus of every two sets of 4 bytes of 0 to 2.
@@ -34,7 +34,7 @@ pub enum Asked {
 fn codes(asked: Asked, list: Reading) -> u32 {
     match asked {
         Asked::Searches(thing) => 1,
-        Asked::Changes { change, step } => places(change, list.n, list.m),
+        Asked::Changes(change) => places(change, list.n, list.m),
         Asked::Sheets => sheet_codes(list.m),
         Asked::Sets => 6561,
         Asked::Firsts(second) => 67,
@@ -47,7 +47,7 @@ fn ask(asked: Asked, code: u32, list: Reading, words: &[u32], seen: Tally) -> Ta
 {
     match asked {
         Asked::Searches(thing) => search(thing, list, words, seen),
-        Asked::Changes { change, step } => try_place(change, step, code, list, words, seen),
+        Asked::Changes(change) => try_place(change, code, list, words, seen),
         Asked::Sheets => try_sheet(code, list, words, seen),
         Asked::Sets => try_sets(code, list, words, seen),
         Asked::Firsts(second) => try_firsts(code, second, list, words, seen),

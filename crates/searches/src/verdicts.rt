@@ -106,8 +106,16 @@ pub(crate) fn same_verdict(x: Verdict, y: Verdict) -> bool {
     x.number == y.number && x.p == y.p && x.q == y.q
 }
 
+// Surplus is refused by 7 where one of the sets is no group.
+fn surplus_number(one: Group, other: Group) -> u32 {
+    if one.size == 0 {
+        return 7;
+    }
+    if other.size == 0 { 7 } else { 0 }
+}
+
 // Whether surplus's answer is right: modules of the second group times inside count of the first, minus inside count of the second times modules of the
-// first; and 7 with the value 0 where one of the sets is no group.
+// first; a set that is no group counts as 0 in both.
 pub(crate) fn surplus_right(
     list: Reading,
     words: &[u32],
@@ -117,9 +125,6 @@ pub(crate) fn surplus_right(
 ) -> bool {
     let one = read_group(list, words, first);
     let other = read_group(list, words, second);
-    if one.size == 0 || other.size == 0 {
-        return difference.number == 7 && difference.value == 0;
-    }
     let value = product(other.size, one.inside) - product(one.size, other.inside);
-    difference.number == 0 && nearest_i64_to_f64(difference.value) == value
+    difference.number == surplus_number(one, other) && nearest_i64_to_f64(difference.value) == value
 }
