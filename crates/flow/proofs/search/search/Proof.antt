@@ -2,7 +2,7 @@
 use borrow.Author.Needs.{needs}
 use native.Mathlib.Omega.{arith}
 use mathlib.Core.Path.{_≡_, refl, sym, _∙_}
-use Prim.Native.Nat.{_+_, _*_, _-_, _≤_, _<_}
+use Prim.Native.Nat.{ℕ, _+_, _*_, _-_, _≤_, _<_}
 use lib.ListN.{length, length-set}
 use Rattle.flow.proofs.Leads.{Leads-out, leads-out}
 use Rattle.flow.proofs.Visiting.{Search-input, Scan, scan-start, visit-room, scan-on, scan-found, scan-shut}
@@ -44,6 +44,15 @@ link-of c = c .before .before .before .before
 
 abbrev outer : tie.At-loop Inv-loop μ-loop Inv-scan μ-scan → tie.At-scan Inv-loop μ-loop Inv-scan μ-scan
 outer c = c .before .before .before .before .before
+
+le-at : {a b c : ℕ} → a ≤ b → c ≡ b → a ≤ c
+le-at h e = omega arith
+
+le-on : {a b : ℕ} → a ≤ b → a ≤ b + 1
+le-on h = omega arith
+
+le-link : (m : ℕ) {t s : ℕ} → t ≤ s - 1 → s ≤ 2 * m → t ≤ 2 * m
+le-link m h l = omega arith
 
 -- the slot that the scan over all slots found
 exit-way : (c : tie.Else2 Inv-loop μ-loop Inv-scan μ-scan) → let l = scan-of c in let a = begin l .args in
@@ -159,9 +168,9 @@ scan-again c =
     let k = r .visit .kept .1 .1 .1 .1 .1 in (
       scan-on (i .0) (exit-way e) (i .1 .small) (r .visit .ensures) (c .if3 .left),
       i .1,
-      omega (arith, k .0),
-      omega (arith, k .1 .0),
-      omega arith,
+      le-at (i .2) (k .0),
+      le-at (i .3) (k .1 .0),
+      le-on (i .4),
       refl,
       k .0 ∙ i .6,
       k .1 .0 ∙ i .7,
@@ -218,11 +227,11 @@ loop-again c =
     let k = r .visit2 .kept .1 .1 .1 .1 .1 in (
       scan-on (i .0) (link-way e) (i .1 .small) (r .visit2 .ensures) (c .if5 .left),
       i .1,
-      omega (arith, k .0),
-      omega (arith, k .1 .0),
-      omega arith,
-      omega arith,
-      omega (arith, e .before .before .before .capped2 .ensures .0),
+      le-at (i .2) (k .0),
+      le-at (i .3) (k .1 .0),
+      le-on (i .4),
+      le-on (i .5),
+      le-link _ (e .before .before .before .capped2 .ensures .0) (i .6),
       k .0 ∙ i .7,
       k .1 .0 ∙ i .8,
     )
@@ -233,7 +242,7 @@ loop-less-2 c = omega (arith, c .before .before .before .capped2 .ensures .0)
 loop-again-2 : tie.Need-loop-again-2 Inv-loop μ-loop Inv-scan μ-scan
 loop-again-2 c =
     let i = c .before .before .before .before .before .before .loop .inv in
-    (i .0, i .1, i .2, i .3, i .4, i .5, omega (arith, c .before .before .before .capped2 .ensures .0), i .7, i .8)
+    (i .0, i .1, i .2, i .3, i .4, i .5, le-link _ (c .before .before .before .capped2 .ensures .0) (i .6), i .7, i .8)
 
 same-length : tie.Need-same-length Inv-loop μ-loop Inv-scan μ-scan
 same-length c = rank-start (c .before .before .before .before)
