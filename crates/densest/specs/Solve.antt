@@ -1,5 +1,6 @@
 -- The contract of `solve`: document 01, "Solve", on a list that lies in words.
---   Is-solution    what is said of the group, the load sheet and the numbers returned; free are only the shares of pairs inside the core of order K
+--   Is-solution    what is said of the group, the load sheet and the numbers returned; free are only the shares of pairs inside the core of order K,
+--                  and the counts of the searches
 --   Solves         where they stand in the buffers
 -- Assumes nothing: these are definitions.
 use mathlib.Core.Path.{_≡_}

@@ -21,7 +21,7 @@ use gather::find_best;
 use sheet::Share;
 use sheet::write_shares;
 
-// How many push phases are worth it before a search: hardly a list needs more.
+// At most so many push phases before the searches of a round: enough to leave these next to nothing to do.
 pub const PHASES: usize = 64;
 
 // The found group's inside count p and size q, k = p/q rounded up, and the size of the core of order k; and what the searches did.

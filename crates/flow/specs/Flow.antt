@@ -48,7 +48,8 @@ pub record Largest (n m p : ℕ) (own scope ends hold t : List ℕ) : Type 0 whe
   pub tight : Tight m p own ends hold t
   pub all : (s : List ℕ) → length s ≡ n → bytes-good s ≡ true → Sub s scope → Tight m p own ends hold s → Sub s t
 
--- What `flow` answers. Free are only where the units of a pair lie (each pair has as many as before), and where the answer is false the set t.
+-- What `flow` answers; r is whether it settled. Free are only where the units of a pair lie (each pair has as many as before), where r is false the set
+-- t, and the counts of the searches.
 pub record Flowed (n m p : ℕ) (own scope ends hold hold' t : List ℕ) (r : Bool) : Type 0 where
   pub long : length hold' ≡ length hold
   pub units : Same-units m hold hold'

@@ -57,8 +57,9 @@ loop-less c =
     let a = begin (turn r) .args in
     let l = turn r .loop in
     steps-fall (a .n) (a .m) (a .ends .now) (a .weights .now) (a .cores .now) (a .first .now) (a .next .now) (l .scope) (l .hold) (l .group) _ _ _
-    (l .p) (l .q) _ _ (l .done) (l .settled) _ (c .before .same .result) (l .inv .0) (r .round .ensures) (c .before .before .before .before .inside-count .ensures)
-    (c .before .before .group-size .ensures) (not-true (l .done) (r .before .before .before .before .loop-test .taken))
+    (l .p) (l .q) _ _ (l .done) (l .settled) _ (c .before .same .result) (l .inv .0) (r .round .ensures)
+    (c .before .before .before .before .inside-count .ensures) (c .before .before .group-size .ensures)
+    (not-true (l .done) (r .before .before .before .before .loop-test .taken))
 
 loop-again : tie.Need-loop-again Inv-loop μ-loop
 loop-again c =
@@ -66,8 +67,9 @@ loop-again c =
     let a = begin (turn r) .args in
     let l = turn r .loop in (
       going-on (a .n) (a .m) (a .ends .now) (a .weights .now) (a .cores .now) (a .first .now) (a .next .now) (l .scope) (l .hold) (l .group) _ _ _
-          (l .p) (l .q) _ _ (l .done) (l .settled) _ (c .before .same .result) (l .inv .0) (r .round .ensures) (c .before .before .before .before .inside-count .ensures)
-          (c .before .before .group-size .ensures) (c .before .same .ensures) (r .round .kept .1 .1 .1 .1 .1 .1 .1 .1 .1 .1 .1 .0 ∙ l .inv .0 .asks .scope-long) (group-long r),
+          (l .p) (l .q) _ _ (l .done) (l .settled) _ (c .before .same .result) (l .inv .0) (r .round .ensures)
+          (c .before .before .before .before .inside-count .ensures) (c .before .before .group-size .ensures) (c .before .same .ensures)
+          (r .round .kept .1 .1 .1 .1 .1 .1 .1 .1 .1 .1 .1 .0 ∙ l .inv .0 .asks .scope-long) (group-long r),
       r .round .kept .1 .1 .1 .1 .1 .1 .1 .1 .1 .1 .1 .0 ∙ l .inv .1,
       r .round .kept .1 .1 .1 .1 .1 .1 .1 .1 .1 .1 .1 .1 .0 ∙ l .inv .2,
       r .round .kept .1 .1 .1 .1 .1 .1 .1 .1 .1 .1 .1 .1 .1 .0 ∙ l .inv .3,

@@ -104,7 +104,8 @@ loop-again : tie.Need-loop-again Inv-loop μ-loop
 loop-again c =
     let s = c .before .before .before .before .before .before .before .before in
     let d = s .before .before .before .lesser .ensures in
-    chain-next (loop-of s .loop .inv) (at-parent (wide-of s)) d (s .shift .ensures .0) (s .shift .ensures .1) (c .before .before .if1 .left) (c .before .if2 .left)
+    chain-next (loop-of s .loop .inv) (at-parent (wide-of s)) d (s .shift .ensures .0) (s .shift .ensures .1)
+    (c .before .before .if1 .left) (c .before .if2 .left)
 
 pub pull-spec : {M : Type 1} → statement M
 pull-spec =
