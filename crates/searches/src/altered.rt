@@ -1,4 +1,4 @@
-// What is altered in an answer before it is compared, to see that the comparison notices: nothing, or one of these.
+// What is altered in an answer before it is compared, to see that the comparison notices: 0 for nothing, or the number of one of these things.
 use crate::entries::more;
 
 // Of peel's answer: the first entry of the order, of the core numbers and of the places, and where the remainder begins.

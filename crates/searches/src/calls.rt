@@ -48,6 +48,11 @@ pub(crate) fn peel(list: Reading, words: &[u32]) -> Peeled
     }
 }
 
+// At most so many push phases, and links of so many pairs.
+pub(crate) fn effort(phases: usize, links: usize) -> Effort {
+    Effort { phases, links }
+}
+
 // Solve with at most so much effort before its searches.
 pub(crate) fn solve(list: Reading, effort: Effort, words: &[u32]) -> Solved
     requires { ⌜ Holds-list (list .n) (list .m) (now words) ⌝ }

@@ -1,5 +1,6 @@
 // Peel and solve of a list beside the plain computations: solve with push phases and links, with links alone, and with neither.
 use crate::calls;
+use crate::calls::effort;
 use crate::peels::alter_peel;
 use crate::peels::peel_plainly;
 use crate::peels::same_peel;
@@ -9,14 +10,8 @@ use crate::solves::alter_solve;
 use crate::solves::same_solve;
 use crate::solves::solve_right;
 use crate::tally::Tally;
-use densest::Effort;
 use pairfile::Reading;
 ghost use Rattle.theory.specs.Words.{Holds-list};
-
-// At most so many push phases, and links of so many pairs.
-fn effort(phases: usize, links: usize) -> Effort {
-    Effort { phases, links }
-}
 
 // Solve with neither phases nor links, of up to 40 modules: each slot of a chain is found by a pass over all slots.
 fn try_bare(list: Reading, words: &[u32], best: Best, cores: &[u32], seen: Tally) -> Tally

@@ -54,7 +54,8 @@ pub(crate) fn alter_solve(thing: u32, solved: Solved) -> Solved {
     }
 }
 
-// Whether the group is the densest of all sets, of equals the largest, with its inside count and size. Sets are tried of up to 12 modules.
+// Whether the group is the densest of all sets, of equals the largest, with its inside count and size. Sets are tried of up to 12 modules; check counts
+// the inside count and the size of any group.
 fn group_right(n: u32, solved: Solved, best: Best) -> bool {
     let mut set = [0u32; 512];
     let record = solved.record;
