@@ -2,7 +2,7 @@
 use mathlib.Core.Path.{sym}
 use native.Mathlib.Omega.{arith}
 use lib.Seq.{length-take-le}
-use Rattle.pairfile.proofs.Readings.{reading-holds}
+use Rattle.pairfile.proofs.Readings.{file-sound, reading-holds}
 use borrow.Author.Needs.{needs}
 use Rattle.searches.proofs.trials.read_list.Statement.{statement}
 use Rattle.searches.proofs.trials.read_list.Tie as tie
@@ -15,7 +15,7 @@ slice-aggregate-read-words c =
 ask-all-requires : tie.Need-ask-all-requires
 ask-all-requires c κs =
     let r = c .before .before .before .before in
-    reading-holds (r .read-words .ensures) (c .before .if2 .left) (omega (arith, r .read-words .kept .1 .1 .0))
+    reading-holds (r .read-words .ensures) (file-sound _ _) (c .before .if2 .left) (omega (arith, r .read-words .kept .1 .1 .0))
 
 pub read-list-spec : {M : Type 1} → statement M
 read-list-spec =
