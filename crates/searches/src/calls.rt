@@ -48,13 +48,8 @@ pub(crate) fn peel(list: Reading, words: &[u32]) -> Peeled
     }
 }
 
-// At most so many push phases, and links of so many pairs.
-pub(crate) fn effort(phases: usize, links: usize) -> Effort {
-    Effort { phases, links }
-}
-
-// Solve with at most so much effort before its searches.
-pub(crate) fn solve(list: Reading, effort: Effort, words: &[u32]) -> Solved
+// Solve with at most so many push phases before its searches, and links of at most so many pairs.
+pub(crate) fn solve(list: Reading, phases: usize, links: usize, words: &[u32]) -> Solved
     requires { ⌜ Holds-list (list .n) (list .m) (now words) ⌝ }
 {
     let mut members = [0u8; 512];
@@ -65,7 +60,7 @@ pub(crate) fn solve(list: Reading, effort: Effort, words: &[u32]) -> Solved
     let record = densest::solve(
         n,
         m,
-        effort,
+        Effort { phases, links },
         words,
         &words[8192..],
         &mut members,

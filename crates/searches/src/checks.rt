@@ -1,6 +1,5 @@
 // Check of a sheet by both computations: sheets of solve changed in one place each, and every sheet of a small list.
 use crate::calls;
-use crate::calls::effort;
 use crate::entries::byte_at;
 use crate::entries::mark;
 use crate::entries::more;
@@ -116,7 +115,7 @@ fn change_bytes(change: Change, at: u32, members: &mut [u8]) {
 fn try_change(change: Change, at: u32, list: Reading, words: &[u32], seen: Tally) -> Tally
     requires { ⌜ Holds-list (list .n) (list .m) (now words) ⌝ }
 {
-    let solved = calls::solve(list, effort(densest::PHASES, 4096), words);
+    let solved = calls::solve(list, densest::PHASES, 4096, words);
     let record = solved.record;
     let mut members = solved.members;
     let mut shares = [0u16; 4096];

@@ -1,11 +1,9 @@
 // Peel and solve of a list beside the plain computations: solve with push phases and links, with links alone, and with neither.
 use crate::calls;
-use crate::calls::effort;
 use crate::peels::alter_peel;
 use crate::peels::peel_plainly;
 use crate::peels::same_peel;
 use crate::sets;
-use crate::sets::Best;
 use crate::solves::alter_solve;
 use crate::solves::same_solve;
 use crate::solves::solve_right;
@@ -14,13 +12,14 @@ use pairfile::Reading;
 ghost use Rattle.theory.specs.Words.{Holds-list};
 
 // Solve with neither phases nor links, of up to 40 modules: each slot of a chain is found by a pass over all slots.
-fn try_bare(list: Reading, words: &[u32], best: Best, cores: &[u32], seen: Tally) -> Tally
+fn try_bare(list: Reading, words: &[u32], cores: &[u32], seen: Tally) -> Tally
     requires { ⌜ Holds-list (list .n) (list .m) (now words) ⌝ }
 {
     if 40 < list.n {
         return seen;
     }
-    let bare = calls::solve(list, effort(0, 0), words);
+    let best = sets::densest(list, words);
+    let bare = calls::solve(list, 0, 0, words);
     let record = bare.record;
     seen.compared(solve_right(list, words, bare, best, cores))
         .scanned(record.searches)
@@ -31,17 +30,13 @@ fn try_solve(thing: u32, list: Reading, words: &[u32], cores: &[u32], seen: Tall
     requires { ⌜ Holds-list (list .n) (list .m) (now words) ⌝ }
 {
     let best = sets::densest(list, words);
-    let pushed = alter_solve(
-        thing,
-        calls::solve(list, effort(densest::PHASES, 4096), words),
-    );
-    let exact = calls::solve(list, effort(0, 4096), words);
+    let pushed = alter_solve(thing, calls::solve(list, densest::PHASES, 4096, words));
+    let exact = calls::solve(list, 0, 4096, words);
     let record = exact.record;
-    let after = seen.compared(solve_right(list, words, pushed, best, cores))
+    seen.compared(solve_right(list, words, pushed, best, cores))
         .compared(solve_right(list, words, exact, best, cores))
         .compared(same_solve(list.n, pushed, exact))
-        .searched(record.searches);
-    try_bare(list, words, best, cores, after)
+        .searched(record.searches)
 }
 
 // Peel and solve, with one thing altered.
@@ -51,5 +46,6 @@ pub(crate) fn search(thing: u32, list: Reading, words: &[u32], seen: Tally) -> T
     let plain = peel_plainly(list, words);
     let peeled = alter_peel(thing, calls::peel(list, words));
     let after = seen.compared(same_peel(list.n, peeled, plain));
-    try_solve(thing, list, words, &plain.cores, after)
+    let solved = try_solve(thing, list, words, &plain.cores, after);
+    try_bare(list, words, &plain.cores, solved)
 }
