@@ -1,10 +1,9 @@
 // check: a cycle of 5 modules, the group all of them, and each pair lies wholly with one end: P = 5, Q = 5, every load is 5. Then every two shares of a few
 // for a list of three modules with the pairs 0,1 and 1,2 and all three in the group.
-use crate::desk;
-use crate::lent;
 use crate::lists;
 use crate::lists::Damage;
-use crate::print;
+use lent::desk;
+use lent::print;
 use records::Head;
 use verify::Verdict;
 
@@ -104,7 +103,7 @@ fn sheets() {
     with_each(65535);
 }
 
-pub(crate) fn run() {
+fn buffers() {
     let s = sound();
     tried(b"as it is", 0, s);
     tried(
@@ -120,10 +119,6 @@ pub(crate) fn run() {
     tried(b"short members", 12, Altered { members: 4, ..s });
     tried(b"short shares", 12, Altered { shares: 4, ..s });
     tried(b"short work", 12, Altered { work: 16383, ..s });
-    tried(b"byte of 2", 7, Altered { byte: 2, ..s });
-    tried(b"member dropped", 8, Altered { byte: 0, ..s });
-    tried(b"share past Q", 8, Altered { share: 6, ..s });
-    tried(b"unit moved", 9, Altered { share: 4, ..s });
     tried(
         b"no modules, and short members",
         13,
@@ -133,5 +128,19 @@ pub(crate) fn run() {
             ..s
         },
     );
+}
+
+// The sheet altered.
+fn altered_sheets() {
+    let s = sound();
+    tried(b"byte of 2", 7, Altered { byte: 2, ..s });
+    tried(b"member dropped", 8, Altered { byte: 0, ..s });
+    tried(b"share past Q", 8, Altered { share: 6, ..s });
+    tried(b"unit moved", 9, Altered { share: 4, ..s });
+}
+
+pub(crate) fn run() {
+    buffers();
+    altered_sheets();
     sheets();
 }

@@ -1,6 +1,6 @@
 // The lists that are lent, in words.
 ghost use Prim.Native.Nat.{_≤_};
-use crate::desk;
+use lent::desk;
 use records::Head;
 
 // What is altered of a list of 5 modules whose last record is 3,4: the head's N, how many more pairs than there are the head's M says, and that record.

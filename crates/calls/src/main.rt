@@ -1,20 +1,13 @@
-// The public calls of Kandurzo on lent records: start; add, remove, add_to and remove_from step by step; read; peel, solve, check and surplus on sound lists, on
-// buffers that are short or long, and on heads and records that do not agree.
+// The public calls that read a list, on lent records: read; peel, solve, check and surplus on sound lists, on buffers that are short or long, and on heads and
+// records that do not agree.
 //
-// Each line of the last four has the call, what is altered, the number that document 01 gives it and the number that the call gave; then what it answered and
-// what it left of the lent buffers: of those of 8 entries all, each 9 before, and of the work buffer how many words are 0 and how many are 7 as before.
+// Each line of the last four has the call, what is altered, the number that document 01 gives it and the number that the call gave; then what it answered
+// and what it left of the lent buffers: of those of 8 entries all, each 9 before, and of the work buffer how many words are 0 and how many are 7 as before.
 mod checks;
-mod desk;
-mod edits;
-mod lent;
 mod lists;
-mod model;
 mod peels;
-mod print;
 mod reads;
 mod solves;
-mod starts;
-mod steps;
 mod surpluses;
 
 use lists::Damage;
@@ -45,35 +38,32 @@ fn damaged(name: &[u8], damage: Damage) {
             ..solves::sound()
         },
     );
-    surpluses::tried(
-        name,
-        13,
-        0,
-        surpluses::Altered {
-            damage,
-            ..surpluses::sound()
-        },
-    );
+    surpluses::damaged(name, damage);
 }
 
-fn disagreeing() {
+// Heads that disagree with the list.
+fn heads() {
     let d = lists::none();
     damaged(b"no modules", Damage { n: 0, ..d });
     damaged(b"513 modules", Damage { n: 513, ..d });
     damaged(b"over 4,096 pairs", Damage { more: 4096, ..d });
     damaged(b"one pair more than was recorded", Damage { more: 1, ..d });
+}
+
+// Records that do.
+fn records() {
+    let d = lists::none();
     damaged(b"a record out of order", Damage { first: 0, ..d });
     damaged(b"a record of one module", Damage { second: 3, ..d });
     damaged(b"a module unknown", Damage { second: 5, ..d });
 }
 
 fn main() {
-    starts::run();
-    edits::run_all();
     reads::run();
     peels::run();
     solves::run();
     checks::run();
     surpluses::run();
-    disagreeing();
+    heads();
+    records();
 }

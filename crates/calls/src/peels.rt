@@ -1,8 +1,7 @@
 // peel: the list *tail* of document 01, whose leaving order is 4,0,1,2,3 and whose core numbers are 3,3,3,3,1.
-use crate::lent;
 use crate::lists;
 use crate::lists::Damage;
-use crate::print;
+use lent::print;
 
 // What is altered: the list, and the lengths lent.
 pub(crate) struct Altered {

@@ -1,11 +1,10 @@
-// read, into a list of 100 records, each 7,7 before the call. Each line has the length of the work buffer and how the file is made: modules=N, pairs=M, LINES
-// pair lines, the first AGAIN of them again, and MORE empty lines; then the number due and the number given, the head, the first three records, how many of the
-// list's words are 7 as before, and the work buffer, each word of which was 7.
-use crate::desk;
-use crate::lent;
+// read, into a list of 100 records, each 7,7 before the call. Each line has the length of the work buffer and how the file is made: modules=N, pairs=M,
+// LINES pair lines, the first AGAIN of them again, and MORE empty lines; then the number due and the number given, the head, the first three records,
+// how many of the list's words are 7 as before, and the work buffer, each word of which was 7.
 use crate::lists;
-use crate::print;
 use kandurzo::Changed;
+use lent::desk;
+use lent::print;
 
 // How a file is made.
 struct File {
@@ -94,6 +93,22 @@ fn print_record(words: &[u32], j: u32) {
     print::field(b",", desk::word_at(words, desk::plus(i, 1)));
 }
 
+fn print_answer(due: u32, answer: Changed) {
+    let head = answer.head;
+    print::field(b": due=", due);
+    print::field(b" number=", answer.number);
+    print::field(b" head=", head.n);
+    print::field(b",", head.m);
+}
+
+// The first three records, and how many words are as before.
+fn print_list(words: &[u32]) {
+    print_record(words, 0);
+    print_record(words, 1);
+    print_record(words, 2);
+    print::field(b" as before=", print::count(words, 7));
+}
+
 // read of the first bytes of the file, with the first words of the work buffer.
 fn read_part(len: u32, size: usize, words: &mut [u32], file: &[u8], work: &mut [u32]) -> Changed {
     let end = lists::at_most(file.len(), size);
@@ -108,16 +123,9 @@ fn tried(due: u32, len: u32, made: File) {
     let mut work = [7u32; 16400];
     let size = put_file(&mut file, made);
     let answer = read_part(len, size, &mut words, &file, &mut work);
-    let head = answer.head;
     print_made(len, made);
-    print::field(b": due=", due);
-    print::field(b" number=", answer.number);
-    print::field(b" head=", head.n);
-    print::field(b",", head.m);
-    print_record(&words, 0);
-    print_record(&words, 1);
-    print_record(&words, 2);
-    print::field(b" as before=", print::count(&words, 7));
+    print_answer(due, answer);
+    print_list(&words);
     print::end_work(&work);
 }
 

@@ -1,12 +1,11 @@
 // solve: the list *tail* of document 01, whose found group is 0 to 3 with P/Q = 6/4; two triangles, all six modules with 6/6; a list without pairs; and lists
 // of 512 modules, whose load sheet is put to check and whose core numbers are compared with those of peel. The float must be P/Q rounded once.
-use crate::desk;
-use crate::lent;
 use crate::lists;
 use crate::lists::Damage;
-use crate::model;
-use crate::print;
 use kandurzo::Solved;
+use lent::desk;
+use lent::model;
+use lent::print;
 use records::Head;
 
 // What is altered: the list, and the lengths lent.
@@ -64,6 +63,14 @@ fn quotient(p: u32, q: u32) -> f64 {
     whole + last as f64 / 18446744073709551616.0
 }
 
+fn print_ratio(same: bool) {
+    if same {
+        io::write_all(1, b" ratio as due");
+        return;
+    }
+    io::write_all(1, b" ratio not as due");
+}
+
 // What solve answers.
 fn print_solved(name: &[u8], due: u32, found: Solved) {
     print::begin(b"solve", name, due, found.number);
@@ -71,11 +78,7 @@ fn print_solved(name: &[u8], due: u32, found: Solved) {
     print::field(b" q=", found.q);
     print::field(b" k=", found.k);
     print::field(b" core=", found.coresize);
-    if found.ratio == quotient(found.p, found.q) {
-        io::write_all(1, b" ratio as due");
-        return;
-    }
-    io::write_all(1, b" ratio not as due");
+    print_ratio(found.ratio == quotient(found.p, found.q));
 }
 
 // solve with the first entries of the buffers.
@@ -133,39 +136,30 @@ pub(crate) fn tried(name: &[u8], due: u32, a: Altered) {
 
 // ---- lists of 512 modules
 
-// The kinds of large lists: pairs by chance; each module with the next so many on a circle; a clique.
+// The kinds of large lists: pairs by chance; each module with the next so many on a circle; all pairs of 64 modules.
 enum Kind {
     Chance,
     Circle,
-    Clique(u32),
+    Clique,
+}
+
+// Puts a pair in, unless its ends are equal.
+fn put_ends(a: u32, b: u32, desk: &mut [u32]) {
+    if a != b {
+        model::put_pair(desk, a, b, 1);
+    }
 }
 
 // Pair i of such a list.
 fn put_pair(kind: Kind, i: u32, desk: &mut [u32]) {
     let state = desk::next(desk::next(std::num::wrapping_add_u32(i, 1)));
+    let other = desk::next(state);
     let step = std::num::wrapping_add_u32(i, i / 512);
     match kind {
-        Kind::Chance => model::put_pair(
-            desk,
-            state / 65536 % 512,
-            desk::next(state) / 65536 % 512,
-            1,
-        ),
-        Kind::Circle => model::put_pair(
-            desk,
-            i % 512,
-            std::num::wrapping_add_u32(step, 1) % 512,
-            1,
-        ),
-        Kind::Clique(size) => put_in_clique(size, i, desk),
+        Kind::Chance => put_ends(state / 65536 % 512, other / 65536 % 512, desk),
+        Kind::Circle => put_ends(i % 512, std::num::wrapping_add_u32(step, 1) % 512, desk),
+        Kind::Clique => put_ends(i % 64, i / 64, desk),
     }
-}
-
-fn put_in_clique(size: u32, i: u32, desk: &mut [u32]) {
-    if size == 0 {
-        return;
-    }
-    model::put_pair(desk, i / size, i % size, 1);
 }
 
 // So many of them.
@@ -270,6 +264,7 @@ fn others() {
     lists::triangles(&mut words);
     tried_on(b"two triangles", 0, Head { n: 6, m: 6 }, s, &mut words);
     tried_on(b"one of them", 0, Head { n: 6, m: 3 }, s, &mut words);
+    tried_on(b"two of its pairs", 0, Head { n: 3, m: 2 }, s, &mut words);
 }
 
 pub(crate) fn run() {
@@ -278,5 +273,5 @@ pub(crate) fn run() {
     large(b"512 modules, pairs by chance", Kind::Chance, 4096);
     large(b"512 modules, a circle", Kind::Circle, 512);
     large(b"512 modules, a wide circle", Kind::Circle, 4096);
-    large(b"512 modules, a clique of 90", Kind::Clique(90), 8100);
+    large(b"512 modules, a clique of 64", Kind::Clique, 4096);
 }

@@ -1,0 +1,9 @@
+// The public calls that make and change a list, on lent records: start, then add, remove, add_to and remove_from step by step against a plain model.
+mod runs;
+mod starts;
+mod steps;
+
+fn main() {
+    starts::run();
+    runs::run_all();
+}

@@ -1,0 +1,260 @@
+// add and remove in runs of steps. At the end of each run, heads and records that do not agree must be refused by 13 and left as they are. Prints a line
+// a kind of run: steps, those made by add_to or remove_from too, lists compared, answers of each number, and how many differ. Then runs with an
+// altered answer, in which every step or list must differ.
+use crate::steps;
+use crate::steps::Ask;
+use crate::steps::Plan;
+use crate::steps::Run;
+use lent::desk;
+use lent::desk::DUE;
+use lent::desk::OWN;
+use lent::desk::TALLY;
+use lent::print;
+use records::Head;
+
+// A head that does not agree with its list, for ways 0 to 3; else the head itself.
+fn bad_head(way: u32, head: Head, len: u32) -> Head {
+    if way == 0 {
+        return Head { n: 0, m: head.m };
+    }
+    if way == 1 {
+        return Head { n: 513, m: head.m };
+    }
+    if way == 2 {
+        return Head {
+            n: head.n,
+            m: std::num::wrapping_add_u32(len, 1),
+        };
+    }
+    if way == 3 {
+        return Head {
+            n: head.n,
+            m: 4294967295,
+        };
+    }
+    head
+}
+
+// The first two records of a list.
+struct Two {
+    a: u32,
+    b: u32,
+    c: u32,
+    d: u32,
+}
+
+// What they are instead, for ways 4 to 8: ends the wrong way round, one record twice, two in falling order, an end of n, equal ends.
+fn spoiled(way: u32, n: u32, two: Two) -> Two {
+    let a = two.a;
+    let b = two.b;
+    if way == 4 {
+        return Two { a: b, b: a, ..two };
+    }
+    if way == 5 {
+        return Two { c: a, d: b, ..two };
+    }
+    if way == 6 {
+        return Two {
+            a: two.c,
+            b: two.d,
+            c: a,
+            d: b,
+        };
+    }
+    if way == 7 {
+        return Two { b: n, ..two };
+    }
+    if way == 8 {
+        return Two { b: a, ..two };
+    }
+    two
+}
+
+// Writes them to the list at `at`.
+fn put_two(two: Two, at: usize, desk: &mut [u32]) {
+    desk::put_record(desk, at, 0, two.a, two.b);
+    desk::put_record(desk, at, 1, two.c, two.d);
+}
+
+fn put_everywhere(two: Two, desk: &mut [u32]) {
+    put_two(two, 0, desk);
+    put_two(two, OWN, desk);
+    put_two(two, DUE, desk);
+}
+
+// Calls that must be refused by 13, with heads and lists as before.
+fn refused(plan: Plan, adds: bool, head: Head, desk: &mut [u32]) {
+    let ask = Ask {
+        adds,
+        a: 0,
+        b: 1,
+        state: 0,
+    };
+    let run = Run {
+        head,
+        own: head,
+        count: head.m,
+        state: 0,
+    };
+    steps::made(plan, ask, run, 13, head, desk);
+    steps::compare_all(plan, desk);
+}
+
+// Every way in which head and list do not agree.
+fn disagree(plan: Plan, head: Head, two: Two, desk: &mut [u32]) {
+    let mut way = 0;
+    while way < 9 {
+        put_everywhere(spoiled(way, head.n, two), desk);
+        let bad = bad_head(way, head, plan.len);
+        refused(plan, true, bad, desk);
+        refused(plan, false, bad, desk);
+        way += 1;
+    }
+    put_everywhere(two, desk);
+}
+
+// The ways need two records.
+fn disagreeing(plan: Plan, head: Head, desk: &mut [u32]) {
+    if head.m < 2 {
+        return;
+    }
+    let two = Two {
+        a: desk::word_at(desk, 0),
+        b: desk::word_at(desk, 1),
+        c: desk::word_at(desk, 2),
+        d: desk::word_at(desk, 3),
+    };
+    disagree(plan, head, two, desk);
+}
+
+// Fills the lists with numbers of 60,000 to 64,095, which are no module's.
+fn litter(desk: &mut [u32]) {
+    let mut j = 0;
+    while j < 4096 {
+        let x = std::num::wrapping_add_u32(60000, j);
+        desk::put_record(desk, 0, j, x, x);
+        desk::put_record(desk, OWN, j, x, x);
+        desk::put_record(desk, DUE, j, x, x);
+        j += 1;
+    }
+}
+
+// A run on the desk, from a list without pairs; the random state after it.
+fn run_on(plan: Plan, state: u32, desk: &mut [u32]) -> u32 {
+    let begun = kandurzo::start(plan.n);
+    let head = begun.head;
+    let run = Run {
+        head,
+        own: head,
+        count: 0,
+        state,
+    };
+    litter(desk);
+    let grown = steps::go(plan, plan.adds, false, run, desk);
+    let end = steps::go(plan, plan.mixed, true, grown, desk);
+    steps::look(plan, end.count, desk);
+    disagreeing(plan, end.head, desk);
+    end.state
+}
+
+// Adds what the desk's tally counted.
+fn gather(desk: &[u32], tally: &mut [u32]) {
+    let mut i = 0;
+    while i < 16 {
+        let counted = desk::word_at(desk, desk::plus(TALLY, i));
+        let sum = std::num::wrapping_add_u32(desk::word_at(tally, i), counted);
+        desk::put_word(tally, i, sum);
+        i += 1;
+    }
+}
+
+// A run on a desk of its own; the random state after it.
+fn course(plan: Plan, state: u32, tally: &mut [u32]) -> u32 {
+    let mut desk = [0u32; 294928];
+    let after = run_on(plan, state, &mut desk);
+    gather(&desk, tally);
+    after
+}
+
+fn line(name: &[u8], tally: &[u32]) {
+    io::write_all(1, name);
+    print::field(b": steps=", desk::word_at(tally, 1));
+    print::field(b" own=", desk::word_at(tally, 6));
+    print::field(b" lists=", desk::word_at(tally, 2));
+    print::field(b" done=", desk::word_at(tally, 0));
+    print::field(b" 4=", desk::word_at(tally, 4));
+    print::field(b" 5=", desk::word_at(tally, 5));
+    print::field(b" 10=", desk::word_at(tally, 10));
+    print::field(b" 11=", desk::word_at(tally, 11));
+    print::field(b" 13=", desk::word_at(tally, 13));
+    print::field(b" 14=", desk::word_at(tally, 14));
+    print::field(b" differ=", desk::word_at(tally, 3));
+    print::line_end();
+}
+
+// The plan at every number of modules up to its own, from 2 on.
+fn every_size(name: &[u8], plan: Plan) {
+    let mut tally = [0u32; 16];
+    let mut state = 2463534242;
+    let mut n = 1;
+    while n < plan.n {
+        n += 1;
+        state = course(Plan { n, ..plan }, state, &mut tally);
+    }
+    line(name, &tally);
+}
+
+// One run.
+fn one(name: &[u8], plan: Plan) {
+    let mut tally = [0u32; 16];
+    course(plan, 2463534242, &mut tally);
+    line(name, &tally);
+}
+
+pub(crate) fn run_all() {
+    let sizes = Plan {
+        n: 512,
+        len: 4096,
+        adds: 6,
+        mixed: 10,
+        every: 8,
+        altered: 0,
+    };
+    let filled = Plan {
+        n: 40,
+        len: 100,
+        adds: 250,
+        mixed: 100,
+        every: 1,
+        altered: 0,
+    };
+    let long = Plan {
+        adds: 9000,
+        mixed: 2000,
+        every: 64,
+        ..sizes
+    };
+    let few = Plan {
+        n: 20,
+        adds: 100,
+        ..filled
+    };
+    every_size(b"edits, 4,096 records, 2 to 512 modules", sizes);
+    every_size(b"edits, 100 records filled, 2 to 40 modules", filled);
+    one(b"edits, 4,096 records filled, 512 modules", long);
+    one(
+        b"edits, 4,096 records filled, 100 modules",
+        Plan {
+            n: 100,
+            adds: 20000,
+            ..long
+        },
+    );
+    one(b"edits, number altered", Plan { altered: 1, ..few });
+    one(b"edits, count altered", Plan { altered: 2, ..few });
+    one(b"edits, records altered", Plan { altered: 3, ..few });
+    one(
+        b"edits, number of add_to altered",
+        Plan { altered: 4, ..few },
+    );
+}

@@ -1,0 +1,246 @@
+// A step of add or remove, on the plain model and on the list. Steps are drawn: pairs of the list and others, in either order, some with numbers out of range
+// or a module with itself. The answer must be the model's number and head; the records are compared with the model's in rising order, and those past them with
+// what they were before (0,0 for one that remove has freed). On lists of 100 records the step is made by add_to or remove_from too, on a second list.
+use kandurzo::Changed;
+use lent::desk;
+use lent::desk::DUE;
+use lent::desk::OWN;
+use lent::desk::TALLY;
+use lent::model;
+use records::Head;
+
+// How a run goes: modules, records of the list, steps of adds alone, steps of both, every how many steps the records are compared, and what is altered
+// before it is compared (1 the number, 2 the count of pairs, 3 the records, 4 the number of add_to and remove_from; 0 nothing).
+pub(crate) struct Plan {
+    pub(crate) n: u32,
+    pub(crate) len: u32,
+    pub(crate) adds: u32,
+    pub(crate) mixed: u32,
+    pub(crate) every: u32,
+    pub(crate) altered: u32,
+}
+
+// Where a run stands: the head, that of the second list, the model's count of pairs, and the random state.
+pub(crate) struct Run {
+    pub(crate) head: Head,
+    pub(crate) own: Head,
+    pub(crate) count: u32,
+    pub(crate) state: u32,
+}
+
+// A step: add or remove, the pair, and the random state after the draw.
+pub(crate) struct Ask {
+    pub(crate) adds: bool,
+    pub(crate) a: u32,
+    pub(crate) b: u32,
+    pub(crate) state: u32,
+}
+
+// A number below k, by chance; 0 where k is 0.
+fn below(state: u32, k: u32) -> u32 {
+    if k == 0 { 0 } else { (state / 65536) % k }
+}
+
+// A module number, or n, or one time in 64 any number.
+fn drawn_end(n: u32, state: u32) -> u32 {
+    if state % 64 == 0 {
+        return state;
+    }
+    below(state, std::num::wrapping_add_u32(n, 1))
+}
+
+// A pair of the list one time in two, else any; in either order.
+fn drawn(n: u32, adds: bool, m: u32, state: u32, desk: &[u32]) -> Ask {
+    let first = desk::next(state);
+    let second = desk::next(first);
+    let third = desk::next(second);
+    let j = desk::place(0, below(second, m));
+    let mut a = drawn_end(n, second);
+    let mut b = drawn_end(n, third);
+    if first % 2 == 0 {
+        a = desk::word_at(desk, j);
+        b = desk::word_at(desk, desk::plus(j, 1));
+    }
+    if third % 2 == 0 {
+        return Ask {
+            adds,
+            a,
+            b,
+            state: third,
+        };
+    }
+    Ask {
+        adds,
+        a: b,
+        b: a,
+        state: third,
+    }
+}
+
+// The model's answer to a step.
+fn due(plan: Plan, ask: Ask, count: u32, desk: &[u32]) -> u32 {
+    if ask.adds {
+        return model::add_number(desk, plan.n, count, plan.len, ask.a, ask.b);
+    }
+    model::remove_number(desk, plan.n, ask.a, ask.b)
+}
+
+// The model's step: its count after it. A record that remove frees is 0,0.
+fn modelled(number: u32, ask: Ask, count: u32, desk: &mut [u32]) -> u32 {
+    if number != 0 {
+        return count;
+    }
+    if ask.adds {
+        model::put_pair(desk, ask.a, ask.b, 1);
+        return std::num::wrapping_add_u32(count, 1);
+    }
+    let less = std::num::wrapping_sub_u32(count, 1);
+    model::put_pair(desk, ask.a, ask.b, 0);
+    desk::put_record(desk, DUE, less, 0, 0);
+    less
+}
+
+// The tally's entries: 1 steps, 2 lists compared, 3 what differs, 6 steps by add_to and remove_from too, and each number's answers under the number.
+fn count_in(desk: &mut [u32], entry: u32) {
+    desk::bump(desk, desk::plus(TALLY, desk::wide(entry)));
+}
+
+fn note(same: bool, desk: &mut [u32]) {
+    if !same {
+        count_in(desk, 3);
+    }
+}
+
+// x, and one more where that is what is altered.
+fn altered(plan: Plan, what: u32, x: u32) -> u32 {
+    if plan.altered == what {
+        std::num::wrapping_add_u32(x, 1)
+    } else {
+        x
+    }
+}
+
+// The call by value.
+fn call(len: u32, ask: Ask, head: Head, desk: &mut [u32]) -> Changed {
+    if len == 4096 {
+        if ask.adds {
+            return lent::add_4096(desk, head, ask.a, ask.b);
+        }
+        return lent::remove_4096(desk, head, ask.a, ask.b);
+    }
+    if ask.adds {
+        return lent::add_100(desk, head, ask.a, ask.b);
+    }
+    lent::remove_100(desk, head, ask.a, ask.b)
+}
+
+// The call on a head of its own, with the second list.
+fn own_call(ask: Ask, head: Head, desk: &mut [u32]) -> Changed {
+    if desk.len() < OWN {
+        return Changed { number: 99, head };
+    }
+    if ask.adds {
+        return lent::add_to_100(&mut desk[OWN..], head, ask.a, ask.b);
+    }
+    lent::remove_from_100(&mut desk[OWN..], head, ask.a, ask.b)
+}
+
+// The second call on lists of 100 records, whose answer must be this number with such a head; the head after it.
+fn own_step(plan: Plan, ask: Ask, own: Head, number: u32, due: Head, desk: &mut [u32]) -> Head {
+    if plan.len != 100 {
+        return own;
+    }
+    let answer = own_call(ask, own, desk);
+    let head = answer.head;
+    note(altered(plan, 4, answer.number) == number, desk);
+    note(head.n == due.n && head.m == due.m, desk);
+    count_in(desk, 6);
+    head
+}
+
+// Both calls: the answers must be this number with such a head. The heads after them stand in `run`.
+pub(crate) fn made(
+    plan: Plan,
+    ask: Ask,
+    run: Run,
+    number: u32,
+    due: Head,
+    desk: &mut [u32],
+) -> Run {
+    let answer = call(plan.len, ask, run.head, desk);
+    let head = answer.head;
+    note(altered(plan, 1, answer.number) == number, desk);
+    note(head.n == due.n && altered(plan, 2, head.m) == due.m, desk);
+    count_in(desk, 1);
+    count_in(desk, number);
+    let own = own_step(plan, ask, run.own, number, due, desk);
+    Run {
+        head,
+        own,
+        count: due.m,
+        state: ask.state,
+    }
+}
+
+// Compares the list at `at` with the records due.
+fn compare(plan: Plan, at: usize, desk: &mut [u32]) {
+    let n = std::num::wrapping_add_u32(plan.len, plan.len);
+    note(desk::differing(desk, at, DUE, n) == 0, desk);
+    count_in(desk, 2);
+}
+
+// Compares one list, or both.
+pub(crate) fn compare_all(plan: Plan, desk: &mut [u32]) {
+    compare(plan, 0, desk);
+    if plan.len == 100 {
+        compare(plan, OWN, desk);
+    }
+}
+
+// Alters the records due where that is what is altered.
+fn alter_records(plan: Plan, desk: &mut [u32]) {
+    if plan.altered == 3 {
+        desk::bump(desk, desk::plus(DUE, 199));
+    }
+}
+
+// Compares the records with the model's, held ones and those past them.
+pub(crate) fn look(plan: Plan, count: u32, desk: &mut [u32]) {
+    let held = model::put_list(desk, DUE, plan.n);
+    note(held == count, desk);
+    alter_records(plan, desk);
+    compare_all(plan, desk);
+}
+
+// Compares them at every so many steps.
+fn look_at(plan: Plan, i: u32, count: u32, desk: &mut [u32]) {
+    if plan.every == 0 {
+        return;
+    }
+    if i % plan.every == 0 {
+        look(plan, count, desk);
+    }
+}
+
+// Step i, on the model and on the list.
+fn step(plan: Plan, i: u32, mixed: bool, run: Run, desk: &mut [u32]) -> Run {
+    let state = desk::next(run.state);
+    let adds = !mixed || state % 4 < 2;
+    let ask = drawn(plan.n, adds, run.count, state, desk);
+    let number = due(plan, ask, run.count, desk);
+    let m = modelled(number, ask, run.count, desk);
+    let after = made(plan, ask, run, number, Head { n: plan.n, m }, desk);
+    look_at(plan, i, m, desk);
+    after
+}
+
+// So many steps.
+pub(crate) fn go(plan: Plan, many: u32, mixed: bool, run: Run, desk: &mut [u32]) -> Run {
+    let mut now = run;
+    let mut i = 0;
+    while i < many {
+        now = step(plan, i, mixed, now, desk);
+        i += 1;
+    }
+    now
+}
