@@ -3,13 +3,12 @@
 // A round asks for a split at a group's size with no load above its inside count, inside the core of the group's ratio rounded up. Where there is
 // none, `flow` hands over a denser group, and the next round starts from that; where there is one, what does not drain is the found group. A round
 // at the found group's size makes the split that the load sheet is written from; mostly it is the last one. (The Dinkelbach iteration.)
-ghost use mathlib.Core.Path.{_≡_};
 ghost use mathlib.Core.Bool.{true};
 ghost use Prim.Native.Nat.{_≤_};
 ghost use Rattle.densest.specs.Search.{Link-room, Searchable, Round, Group-found};
 use crate::Effort;
+use flow::Ended;
 use flow::Searches;
-use flow::Split;
 use flow::no_searches;
 use flow::together;
 
@@ -38,7 +37,7 @@ fn round(
     scope: &mut [u8],
     hold: &mut [u32],
     group: &mut [u8],
-) -> Split
+) -> Ended
     requires { ⌜ Searchable n m p q (now ends) (now weights) (now cores) (now scope) (now hold) (now group) ⌝ }
     requires { ⌜ Link-room n m (now first) (now next) ⌝ }
     ensures { λ r. ⌜ Round n m p q (now (ends .entry)) (now (weights .entry)) (now (scope .exit)) (now (hold .exit)) (now (group .exit))
@@ -79,7 +78,7 @@ fn search(
     let mut settled = false;
     let mut searches = no_searches();
     while !done {
-        let split = round(
+        let ended = round(
             n,
             m,
             phases,
@@ -98,8 +97,8 @@ fn search(
         let inside = groups::inside_count(n, m, ends, weights, group);
         let size = groups::group_size(n, group);
         settled = numbers::same(inside, size, p, q);
-        searches = together(searches, split.searches);
-        done = split.settled;
+        searches = together(searches, ended.searches);
+        done = ended.settled;
         old = q;
         p = inside;
         q = size;
@@ -136,7 +135,7 @@ fn last_round(
     if best.settled {
         return best;
     }
-    let split = round(
+    let ended = round(
         n,
         m,
         phases,
@@ -155,12 +154,12 @@ fn last_round(
     Ratio {
         p: best.p,
         q: best.q,
-        settled: split.settled,
-        searches: together(best.searches, split.searches),
+        settled: ended.settled,
+        searches: together(best.searches, ended.searches),
     }
 }
 
-// The lesser of two.
+// The lesser of two; what matters is that it is at most the second.
 fn fewer(a: usize, b: usize) -> usize
     ensures { λ r. ⌜ r ≤ b ⌝ }
 {

@@ -24,8 +24,7 @@ ghost use lib.ListN.{length};
 ghost use Rattle.slots.specs.Slots.{Ends, Room, Own};
 ghost use Rattle.flow.specs.Flow.{Flowed};
 ghost use Rattle.flow.specs.Search.{Marked};
-ghost use Rattle.flow.specs.Searches.{no-searches};
-ghost use Rattle.flow.specs.Searches.{together as Searches·together};
+ghost use Rattle.flow.specs.Searches.{no-searches, together as Searches·together};
 
 // What searches did: chains along which units moved, the most slots that units moved along in one of them, and searches that reached no module loaded
 // below p. In the answer of `flow` these counts are free.
@@ -35,8 +34,8 @@ pub struct Searches {
     pub none: u32,
 }
 
-// What the split search answers: whether no load is above p, and what its searches did.
-pub struct Split {
+// How the split search ended: whether no load is above p, and what its searches did.
+pub struct Ended {
     pub settled: bool,
     pub searches: Searches,
 }
@@ -73,7 +72,7 @@ pub(crate) fn with_chain(a: Searches, slots: u32) -> Searches {
     together(a, one)
 }
 
-// 1 where x is above 0.
+// 1 where x is above 0, else 0.
 fn bit(x: u32) -> u8
     ensures { λ r. ⌜ (0 < x → r ≡ 1) × (x ≡ 0 → r ≡ 0) ⌝ }
 {
@@ -92,12 +91,12 @@ fn mark(n: usize, rank: &[u32], group: &mut [u8])
 }
 
 // Settled: units lie in hold so that no load is above p, and `group` is the largest tight set inside the scope. Else more than p a module stays in
-// `group`. At most `effort` phases balance the loads first: any number of them keeps the promise.
+// `group`. At most `most` phases balance the loads first: any number of them keeps the promise.
 pub fn flow(
     n: usize,
     m: usize,
     p: u32,
-    effort: usize,
+    most: usize,
     own: &[u32],
     scope: &[u8],
     ends: &[u32],
@@ -105,7 +104,7 @@ pub fn flow(
     next: &[u32],
     hold: &mut [u32],
     group: &mut [u8],
-) -> Split
+) -> Ended
     requires { ⌜ n ≤ 512 ⌝ }
     requires { ⌜ Ends n m (now ends) ⌝ }
     requires { ⌜ Own n (now own) ⌝ }
@@ -118,7 +117,7 @@ pub fn flow(
     let mut load = [0u32; 512];
     let mut rank = [0u32; 512];
     loads(n, m, own, ends, hold, &mut load);
-    phases(n, m, p, effort, scope, ends, first, next, hold, &mut load);
+    phases(n, m, p, most, scope, ends, first, next, hold, &mut load);
     let split = settle(n, m, p, ends, first, next, hold, &mut load, &mut rank);
     if split.settled {
         drain(n, m, p, scope, ends, first, next, hold, &load, &mut rank);

@@ -1,6 +1,6 @@
 // Searches for chains (augmenting paths): breadth first from a module loaded above p along slots that hold units, to the first module loaded below p;
 // then units are pulled along the chain.
-use crate::Split;
+use crate::Ended;
 use crate::exits::exit;
 use crate::exits::leading;
 use crate::no_searches;
@@ -157,7 +157,7 @@ pub(crate) fn settle(
     hold: &mut [u32],
     load: &mut [u32],
     rank: &mut [u32],
-) -> Split
+) -> Ended
     requires { ⌜ n ≤ 512 ⌝ }
     requires { ⌜ Ends n m (now ends) ⌝ }
     requires { ⌜ Room m (now hold) ⌝ }
@@ -188,7 +188,7 @@ pub(crate) fn settle(
             );
             if v == n {
                 searches.none = 1;
-                return Split {
+                return Ended {
                     settled: false,
                     searches,
                 };
@@ -197,7 +197,7 @@ pub(crate) fn settle(
             searches = with_chain(searches, moved);
         }
     }
-    Split {
+    Ended {
         settled: true,
         searches,
     }

@@ -1,6 +1,6 @@
 -- What the functions' answers say, in the terms of the other definitions. A position in the bytes stands for the bytes from there on.
---   head-in, head-end      N or M, and where its line ends
---   HeadRead                what modules_line and pairs_line promise
+--   head-in, head-end        N or M, and where its line ends
+--   HeadRead                 what modules_line and pairs_line promise
 --   named-in, named-end, PlaceKnown    the pair that a line names, where the line ends, and the pair's place
 --   PairLineRead             what pair_line promises
 --   Same-past                the words past the first pairs of a list are as they were

@@ -44,7 +44,7 @@ and-small n {ns} h hs = record { each = go }
 -- ---- lines
 
 pub refusal-length : (k : ℕ) → length (refusal-text k) ≤ 18
-unfolding refusal-text text spelled
+unfolding refusal-text filled is-place between text spelled
 refusal-length k = simp length-append (omega (arith, spell-length 9 k .1))
 
 pub accepted-length : {ns : List ℕ} → Smalls ns → length (filled accepted-form ns) ≤ 25

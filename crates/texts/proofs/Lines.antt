@@ -1,7 +1,6 @@
 -- The parts of a text that are left to write.
 --   next-member, next-number, next-share    a line in front of those that are left
 --   no-member, no-number, no-share          when no line is left
---   refusal-left, refusal-end               a refusal's text behind its first part, and behind its second
 --   members-left                            the group's text behind the head
 --   numbers-left, shares-left               a sheet's text behind the group's, and behind the core numbers
 -- Assumes nothing.
@@ -18,16 +17,13 @@ use Rattle.theory.specs.Lists.{Pair, pair}
 use Rattle.theory.specs.Words.{laid-pairs}
 use Rattle.theory.proofs.Words.{length-laid, laid-at}
 use Rattle.lines.specs.Text.{text}
-use Rattle.lines.specs.Numbers.{spelled}
 use Rattle.lines.specs.Lines.{filled}
 use Rattle.lines.specs.Putting.{Puts}
 use Rattle.lines.proofs.Parts.{Left, left-start, left-step}
 use Rattle.sheetfile.specs.Sheet.{head-form, member-form, number-form, share-form}
 use Rattle.sheetfile.specs.Writer.{member-lines, number-lines, share-lines}
 use Rattle.answer.specs.declared.Answer.{Answer}
-use Rattle.texts.specs.Texts.{refusal-text}
 use Rattle.texts.specs.Contracts.{answer-lines, sheet-lines}
-use Rattle.texts.proofs.Lengths.{refusal-length}
 
 module _ (members : List ℕ) (v : ℕ) where
   pub next-member : v < length members →
@@ -69,14 +65,6 @@ module _ (words shares : List ℕ) (j : ℕ) where
   no-share h = rw (drop-of-length-le pairs {i = j} (omega (arith, h, length-laid (length shares) words)))
 
 -- ---- a text's parts one behind the other
-
-module _ (k : ℕ) {out out₁ : List ℕ} {i : ℕ} (h : 18 ≤ length out) (p : Puts (text "status=") out 0 out₁ i) where
-  pub refusal-left : Left (refusal-text k) out 0 (spelled k ++ text "\n") out₁ i
-  unfolding refusal-text
-  refusal-left = left-step (left-start (refusal-text k) out 0 (omega (arith, refusal-length k))) (text "status=") _ refl p
-
-  pub refusal-end : {out₂ : List ℕ} {j : ℕ} → Puts (spelled k) out₁ i out₂ j → Left (refusal-text k) out 0 (text "\n") out₂ j
-  refusal-end q = left-step refusal-left (spelled k) _ refl q
 
 pub members-left : (r : Answer) (s : List ℕ) {out out₁ : List ℕ} {i : ℕ} → length (answer-lines r s) ≤ length out →
     Puts (filled head-form (r .p ∷ r .q ∷ r .k ∷ r .coresize ∷ [])) out 0 out₁ i → Left (answer-lines r s) out 0 (member-lines 0 s) out₁ i

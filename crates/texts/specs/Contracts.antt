@@ -3,7 +3,7 @@
 --   Of-file                    what is due of the list that a pair file names, or the refusal's text
 --   Group-due                  what `group` prints of a list
 --   Sheet-due                  what `sheet` prints of a list, and that `audit` accepts it
---   Room                       a buffer with room for every byte that decides, and how many bytes were read into it
+--   Input                      a buffer with room for every byte that decides, and how many bytes were read into it
 --   Read-of                    these bytes are a file's, to its end or the buffer's
 --   Group-read, Sheet-read, Audit-read    what is right of whatever files were read
 --   Sheet-answered             what `audit` prints of it; the theorem is `sheet-answered`
@@ -64,10 +64,11 @@ pub record Sheet-due (file : List ℕ) (g : Pairs) (text : List ℕ) : Type 0 wh
   pub accepted : audit file text ≡ taken (certificate g members shares)
 
 -- n bytes were read into a buffer that has room for the first `decide` bytes of a file
-abbrev pub Room : (decide : ℕ) (buffer : List ℕ) (n : ℕ) → Type 0
-Room decide buffer n = (decide ≤ length buffer) × (n ≤ length buffer)
+abbrev pub Input : (decide : ℕ) (buffer : List ℕ) (n : ℕ) → Type 0
+Input decide buffer n = (decide ≤ length buffer) × (n ≤ length buffer)
 
--- the n bytes in front are the file's, to its end or as many as the buffer holds: so a file is read
+-- the n bytes in front are the file's, to its end or as many as the buffer holds: so a file is read. These n bytes are such a file themselves, and the only
+-- one where n is below the buffer's length
 pub record Read-of (buffer : List ℕ) (n : ℕ) (file : List ℕ) : Type 0 where
   pub front : take n buffer ≡ take (length buffer) file
 

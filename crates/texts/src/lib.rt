@@ -4,7 +4,6 @@
 // A text is written once, from front to back, line by line, at the cost of its bytes. 8,192 bytes hold the text of any group, 100,000 that of any
 // sheet, 64 that of any audit; a file is refused by its number on the status line. Of an input a caller lends the whole buffer, which has room for
 // every byte that decides (65,536 of a pair file, 100,000 of a sheet), and says how many bytes were read: the text is that of the whole file.
-ghost use mathlib.Core.Path.{_≡_};
 ghost use mathlib.Core.Bool.{cond};
 ghost use mathlib.Core.List.{[], _∷_};
 ghost use Prim.Native.Nat.{_+_, _*_, _≤_, _<_};
@@ -16,21 +15,19 @@ ghost use Rattle.lines.specs.Putting.{Puts};
 ghost use Rattle.sheetfile.specs.Sheet.{member-form};
 ghost use Rattle.sheetfile.specs.Writer.{member-lines, number-lines, share-lines};
 ghost use Rattle.texts.specs.Texts.{refusal-text};
-ghost use Rattle.texts.specs.Contracts.{Prints, Room, Group-read, Sheet-read, Audit-read, answer-lines, sheet-lines};
+ghost use Rattle.texts.specs.Contracts.{Prints, Input, Group-read, Sheet-read, Audit-read, answer-lines, sheet-lines};
 use answer::Answer;
 use answer::sheet_file;
 use answer::solve_file;
 use lines::write_line;
-use lines::write_number;
 
 // The status line of a refusal.
 fn write_refusal(number: u32, out: &mut [u8]) -> usize
     requires { ⌜ 18 ≤ length (now out) ⌝ }
     ensures { λ r. ⌜ Puts (refusal-text number) (now (out .entry)) 0 (now (out .exit)) r ⌝ }
 {
-    let i = write_line(b"status=", &[], out, 0);
-    let j = write_number(number, out, i);
-    write_line(b"\n", &[], out, j)
+    let numbers = [number];
+    write_line(b"status=S\n", &numbers, out, 0)
 }
 
 // The line of module v, if its member byte is 1.
@@ -126,7 +123,7 @@ fn write_sheet(
 
 // The text of `group`, of the n bytes that were read of a pair file; answers how long it is.
 pub fn group_text(file: &[u8], n: usize, out: &mut [u8]) -> usize
-    requires { ⌜ Room 65536 (now file) n ⌝ }
+    requires { ⌜ Input 65536 (now file) n ⌝ }
     requires { ⌜ 8192 ≤ length (now out) ⌝ }
     ensures { λ r. ⌜ Prints (Group-read (now (file .entry)) n) (now (out .entry)) (now (out .exit)) r ⌝ }
 {
@@ -141,7 +138,7 @@ pub fn group_text(file: &[u8], n: usize, out: &mut [u8]) -> usize
 
 // The text of `sheet`, of the n bytes that were read of a pair file; answers how long it is.
 pub fn sheet_text(file: &[u8], n: usize, out: &mut [u8]) -> usize
-    requires { ⌜ Room 65536 (now file) n ⌝ }
+    requires { ⌜ Input 65536 (now file) n ⌝ }
     requires { ⌜ 100000 ≤ length (now out) ⌝ }
     ensures { λ r. ⌜ Prints (Sheet-read (now (file .entry)) n) (now (out .entry)) (now (out .exit)) r ⌝ }
 {
@@ -173,8 +170,8 @@ pub fn sheet_text(file: &[u8], n: usize, out: &mut [u8]) -> usize
 
 // The text of `audit`, of the n bytes that were read of a pair file and the k of a sheet; answers how long it is.
 pub fn audit_text(file: &[u8], n: usize, sheet: &[u8], k: usize, out: &mut [u8]) -> usize
-    requires { ⌜ Room 65536 (now file) n ⌝ }
-    requires { ⌜ Room 100000 (now sheet) k ⌝ }
+    requires { ⌜ Input 65536 (now file) n ⌝ }
+    requires { ⌜ Input 100000 (now sheet) k ⌝ }
     requires { ⌜ 64 ≤ length (now out) ⌝ }
     ensures { λ r. ⌜ Prints (Audit-read (now (file .entry)) n (now (sheet .entry)) k) (now (out .entry)) (now (out .exit)) r ⌝ }
 {
