@@ -1,4 +1,6 @@
-// Check of a sheet by both computations: sheets of solve changed in one place each, and every sheet of a small list.
+// Check of a sheet by both computations: sheets of solve changed in one place each, and every sheet of a small list. Changes have numbers:
+// 0 nothing; 1 a share raised; 2 lowered; 3 a unit of it goes to the next; 4 the share becomes Q + 1; 5 a member added; 6 one dropped; 7 a byte of 2;
+// 8 all bytes become 0.
 use crate::calls;
 use crate::entries::byte_at;
 use crate::entries::mark;
@@ -12,21 +14,6 @@ use crate::verdicts::check_plainly;
 use crate::verdicts::same_verdict;
 use pairfile::Reading;
 ghost use Rattle.theory.specs.Words.{Holds-list};
-
-// What is changed in a sheet: nothing, a share or a member byte in one place, or all bytes.
-pub enum Change {
-    Nothing,
-    Raised,
-    Lowered,
-    // A unit goes from a share to the next.
-    Moved,
-    // The share becomes Q + 1.
-    Past,
-    Added,
-    Dropped,
-    Two,
-    Emptied,
-}
 
 // The answers are counted as accepted, refused by 7, by 8, by 9.
 fn answer(number: u32) -> usize {
@@ -49,10 +36,10 @@ fn judge(list: Reading, words: &[u32], members: &[u8], shares: &[u16], seen: Tal
 }
 
 // How many places a change has in a list of n modules and m pairs.
-pub(crate) fn places(change: Change, n: u32, m: u32) -> u32 {
+pub(crate) fn places(change: u32, n: u32, m: u32) -> u32 {
     match change {
-        Change::Nothing | Change::Emptied => 1,
-        Change::Added | Change::Dropped | Change::Two => n,
+        0 | 8 => 1,
+        5 | 6 | 7 => n,
         _ => m,
     }
 }
@@ -63,24 +50,24 @@ fn less(x: u32) -> u32 {
 }
 
 // A share x of q units, changed.
-fn new_share(change: Change, q: u32, x: u32) -> u32 {
+fn new_share(change: u32, q: u32, x: u32) -> u32 {
     match change {
-        Change::Raised => more(x),
-        Change::Lowered | Change::Moved => less(x),
-        Change::Past => more(q),
+        1 => more(x),
+        2 | 3 => less(x),
+        4 => more(q),
         _ => x,
     }
 }
 
 // The share y after a share x that is changed.
-fn next_share(change: Change, x: u32, y: u32) -> u32 {
+fn next_share(change: u32, x: u32, y: u32) -> u32 {
     match change {
-        Change::Moved => if x == 0 { y } else { more(y) },
+        3 => if x == 0 { y } else { more(y) },
         _ => y,
     }
 }
 
-fn change_shares(change: Change, at: u32, q: u32, shares: &mut [u16]) {
+fn change_shares(change: u32, at: u32, q: u32, shares: &mut [u16]) {
     let x = share_at(shares, at);
     let y = share_at(shares, more(at));
     put_share(shares, at, new_share(change, q, x));
@@ -88,31 +75,31 @@ fn change_shares(change: Change, at: u32, q: u32, shares: &mut [u16]) {
 }
 
 // A member byte, changed.
-fn new_byte(change: Change, x: u8) -> u8 {
+fn new_byte(change: u32, x: u8) -> u8 {
     match change {
-        Change::Added => 1,
-        Change::Dropped => 0,
-        Change::Two => 2,
+        5 => 1,
+        6 => 0,
+        7 => 2,
         _ => x,
     }
 }
 
 // How many bytes become 0.
-fn emptied(change: Change) -> u32 {
+fn emptied(change: u32) -> u32 {
     match change {
-        Change::Emptied => 512,
+        8 => 512,
         _ => 0,
     }
 }
 
-fn change_bytes(change: Change, at: u32, members: &mut [u8]) {
+fn change_bytes(change: u32, at: u32, members: &mut [u8]) {
     let x = byte_at(members, at);
     put_byte(members, at, new_byte(change, x));
     mark(emptied(change), 0, members);
 }
 
 // Solves the list, changes the sheet at a place, and tries it.
-fn try_change(change: Change, at: u32, list: Reading, words: &[u32], seen: Tally) -> Tally
+fn try_change(change: u32, at: u32, list: Reading, words: &[u32], seen: Tally) -> Tally
     requires { ⌜ Holds-list (list .n) (list .m) (now words) ⌝ }
 {
     let solved = calls::solve(list, densest::PHASES, 4096, words);
@@ -131,7 +118,7 @@ fn is_due(n: u32, at: u32) -> bool {
 }
 
 // A change at a place, where one is due.
-pub(crate) fn try_place(change: Change, at: u32, list: Reading, words: &[u32], seen: Tally) -> Tally
+pub(crate) fn try_place(change: u32, at: u32, list: Reading, words: &[u32], seen: Tally) -> Tally
     requires { ⌜ Holds-list (list .n) (list .m) (now words) ⌝ }
 {
     if is_due(list.n, at) {

@@ -80,6 +80,17 @@ pub(crate) fn same_words(n: u32, xs: &[u32], ys: &[u32]) -> bool {
     true
 }
 
+pub(crate) fn same_bytes(n: u32, xs: &[u8], ys: &[u8]) -> bool {
+    let mut i = 0;
+    while i < n {
+        if byte_at(xs, i) != byte_at(ys, i) {
+            return false;
+        }
+        i += 1;
+    }
+    true
+}
+
 fn wide_byte(x: u8) -> u32 {
     x as u32
 }

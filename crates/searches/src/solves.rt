@@ -6,7 +6,7 @@ use crate::calls::Solved;
 use crate::calls::check;
 use crate::entries::more;
 use crate::entries::put_share;
-use crate::entries::read_set;
+use crate::entries::same_bytes;
 use crate::entries::same_words;
 use crate::entries::word_at;
 use crate::plain::core_size;
@@ -57,13 +57,11 @@ pub(crate) fn alter_solve(thing: u32, solved: Solved) -> Solved {
 // Whether the group is the densest of all sets, of equals the largest, with its inside count and size. Sets are tried of up to 12 modules; check counts
 // the inside count and the size of any group.
 fn group_right(n: u32, solved: Solved, best: Best) -> bool {
-    let mut set = [0u32; 512];
     let record = solved.record;
     if 12 < n {
         return true;
     }
-    read_set(n, &solved.members, &mut set);
-    record.p == best.p && record.q == best.q && same_set(n, best.mask, &set)
+    record.p == best.p && record.q == best.q && same_set(n, best.mask, &solved.members)
 }
 
 // p over q, rounded up.
@@ -130,9 +128,5 @@ fn same_record(x: Solution, y: Solution) -> bool {
 
 // Whether two answers for n modules name the same group and record; their sheets may differ.
 pub(crate) fn same_solve(n: u32, x: Solved, y: Solved) -> bool {
-    let mut x_set = [0u32; 512];
-    let mut y_set = [0u32; 512];
-    read_set(n, &x.members, &mut x_set);
-    read_set(n, &y.members, &mut y_set);
-    same_words(n, &x_set, &y_set) && same_record(x.record, y.record)
+    same_bytes(n, &x.members, &y.members) && same_record(x.record, y.record)
 }
