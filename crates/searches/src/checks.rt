@@ -133,19 +133,27 @@ fn digit(x: u32) -> u8 {
 }
 
 // Four bytes: the digits in base 3.
-pub(crate) fn spell_bytes(code: u32, bytes: &mut [u8]) {
-    put_byte(bytes, 0, digit(code));
-    put_byte(bytes, 1, digit(code / 3));
-    put_byte(bytes, 2, digit(code / 9));
-    put_byte(bytes, 3, digit(code / 27));
+pub(crate) fn spell_bytes(code: u32) -> [u8; 4] {
+    [
+        digit(code),
+        digit(code / 3),
+        digit(code / 9),
+        digit(code / 27),
+    ]
+}
+
+fn share(x: u32) -> u16 {
+    (x % 6) as u16
 }
 
 // Four shares: the digits in base 6.
-fn spell_shares(code: u32, shares: &mut [u16]) {
-    put_share(shares, 0, code % 6);
-    put_share(shares, 1, code / 6 % 6);
-    put_share(shares, 2, code / 36 % 6);
-    put_share(shares, 3, code / 216 % 6);
+fn spell_shares(code: u32) -> [u16; 4] {
+    [
+        share(code),
+        share(code / 6),
+        share(code / 36),
+        share(code / 216),
+    ]
 }
 
 // How many numbers stand for a sheet of 4 modules and m pairs: 81 times 6 to the power of m, where m is at most 4, else 0.
@@ -164,9 +172,7 @@ pub(crate) fn sheet_codes(m: u32) -> u32 {
 pub(crate) fn try_sheet(code: u32, list: Reading, words: &[u32], seen: Tally) -> Tally
     requires { ⌜ Holds-list (list .n) (list .m) (now words) ⌝ }
 {
-    let mut members = [0u8; 4];
-    let mut shares = [0u16; 4];
-    spell_bytes(code % 81, &mut members);
-    spell_shares(code / 81, &mut shares);
+    let members = spell_bytes(code % 81);
+    let shares = spell_shares(code / 81);
     judge(list, words, &members, &shares, seen)
 }
