@@ -59,19 +59,14 @@ fn new_share(change: u32, q: u32, x: u32) -> u32 {
     }
 }
 
-// The share y after a share x that is changed.
-fn next_share(change: u32, x: u32, y: u32) -> u32 {
-    match change {
-        3 => if x == 0 { y } else { more(y) },
-        _ => y,
-    }
-}
-
+// Changes the share at a place; a unit that goes to the next is one that there is.
 fn change_shares(change: u32, at: u32, q: u32, shares: &mut [u16]) {
     let x = share_at(shares, at);
-    let y = share_at(shares, more(at));
     put_share(shares, at, new_share(change, q, x));
-    put_share(shares, more(at), next_share(change, x, y));
+    if change == 3 && 0 < x {
+        let next = more(at);
+        put_share(shares, next, more(share_at(shares, next)));
+    }
 }
 
 // A member byte, changed.

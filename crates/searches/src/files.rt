@@ -103,6 +103,7 @@ pub(crate) fn put_file(list: Listed, state: u32, text: &mut [u8]) -> Walk {
     let first = put_number(b"modules=", list.n, 0, text);
     let second = put_number(b"\npairs=", counted.taken, first, text);
     let mut walk = put_pairs(list, state, second, text);
-    walk.end = put_bytes(b"\n", walk.end, text);
+    put_byte(text, walk.end, b'\n');
+    walk.end = more(walk.end);
     walk
 }

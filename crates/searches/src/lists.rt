@@ -16,9 +16,11 @@ pub struct Row {
     pub count: u32,
 }
 
-// A list to make: its row, its number in it, and how many modules it has.
+// A list to make: its kind and the two numbers, its own number in the row, and how many modules it has.
 pub struct Listed {
-    pub row: Row,
+    pub kind: u32,
+    pub x: u32,
+    pub y: u32,
     pub i: u32,
     pub n: u32,
 }
@@ -31,7 +33,9 @@ fn parted(i: u32, each: u32) -> u32 {
 // List i of a row.
 pub(crate) fn list_at(row: Row, i: u32) -> Listed {
     Listed {
-        row,
+        kind: row.kind,
+        x: row.x,
+        y: row.y,
         i,
         n: wrapping_add_u32(row.least, parted(i, row.each)),
     }
@@ -53,7 +57,21 @@ fn together(size: u32, a: u32, b: u32) -> bool {
 
 // Whether the pair a,b is one of the cycle of n modules.
 fn neighbours(n: u32, a: u32, b: u32) -> bool {
-    more(a) == b || wrapping_sub_u32(b, a) == wrapping_sub_u32(n, 1)
+    if more(a) == b {
+        true
+    } else {
+        wrapping_sub_u32(b, a) == wrapping_sub_u32(n, 1)
+    }
+}
+
+// Whether b is among the first x modules, or a draw below y.
+fn planted(x: u32, y: u32, b: u32, draw: u32) -> bool {
+    if b < x { true } else { draw < y }
+}
+
+// Whether b is among the first x modules, or hung on a.
+fn hung(x: u32, a: u32, b: u32) -> bool {
+    if b < x { true } else { a == b / 2 }
 }
 
 // Whether a list takes the pair a,b, a below b, the one after `passed` others in rising order, with a draw of 0 to 65,535. By kind:
@@ -61,16 +79,15 @@ fn neighbours(n: u32, a: u32, b: u32) -> bool {
 // modules (a planted clique), and each other pair y times of 65,536; 3 each module with the next x; 4 a cycle; 5 module 0 with all others;
 // 6 separate cliques of x modules; 7 a clique of x modules, and each other module v hung on v / 2.
 pub(crate) fn takes(list: Listed, a: u32, b: u32, passed: u32, draw: u32) -> bool {
-    let row = list.row;
-    let kind = row.kind;
+    let kind = list.kind;
     match kind {
         0 => bit(list.i, passed),
         1 => draw < 4096 * (1 + list.i / 40 % 15),
-        2 => b < row.x || draw < row.y,
-        3 => wrapping_sub_u32(b, a) <= row.x,
+        2 => planted(list.x, list.y, b, draw),
+        3 => wrapping_sub_u32(b, a) <= list.x,
         4 => neighbours(list.n, a, b),
         5 => a == 0,
-        6 => together(row.x, a, b),
-        _ => b < row.x || a == b / 2,
+        6 => together(list.x, a, b),
+        _ => hung(list.x, a, b),
     }
 }

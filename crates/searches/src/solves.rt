@@ -61,7 +61,13 @@ fn group_right(n: u32, solved: Solved, best: Best) -> bool {
     if 12 < n {
         return true;
     }
-    record.p == best.p && record.q == best.q && same_set(n, best.mask, &solved.members)
+    if record.p != best.p {
+        return false;
+    }
+    if record.q != best.q {
+        return false;
+    }
+    same_set(n, best.mask, &solved.members)
 }
 
 // p over q, rounded up.
@@ -79,7 +85,10 @@ fn cores_right(n: u32, solved: Solved, cores: &[u32]) -> bool {
     if !same_words(n, &solved.cores, cores) {
         return false;
     }
-    record.k == rounded_up(record.p, record.q) && record.core == core_size(record.k, n, cores)
+    if record.k != rounded_up(record.p, record.q) {
+        return false;
+    }
+    record.core == core_size(record.k, n, cores)
 }
 
 // The first m shares as check takes them.
@@ -117,16 +126,32 @@ pub(crate) fn solve_right(
 ) -> bool
     requires { ⌜ Holds-list (list .n) (list .m) (now words) ⌝ }
 {
-    group_right(list.n, solved, best)
-        && cores_right(list.n, solved, cores)
-        && sheet_right(list, words, solved)
+    if !group_right(list.n, solved, best) {
+        return false;
+    }
+    if !cores_right(list.n, solved, cores) {
+        return false;
+    }
+    sheet_right(list, words, solved)
 }
 
 fn same_record(x: Solution, y: Solution) -> bool {
-    x.p == y.p && x.q == y.q && x.k == y.k && x.core == y.core
+    if x.p != y.p {
+        return false;
+    }
+    if x.q != y.q {
+        return false;
+    }
+    if x.k != y.k {
+        return false;
+    }
+    x.core == y.core
 }
 
 // Whether two answers for n modules name the same group and record; their sheets may differ.
 pub(crate) fn same_solve(n: u32, x: Solved, y: Solved) -> bool {
-    same_bytes(n, &x.members, &y.members) && same_record(x.record, y.record)
+    if !same_bytes(n, &x.members, &y.members) {
+        return false;
+    }
+    same_record(x.record, y.record)
 }

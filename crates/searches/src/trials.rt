@@ -72,10 +72,10 @@ fn read_list(row: Row, text: &[u8], end: u32, seen: Tally) -> Tally {
 }
 
 // Makes a list, and reads it.
-fn try_list(list: Listed, seen: Tally) -> Tally {
+fn try_list(row: Row, list: Listed, seen: Tally) -> Tally {
     let mut text = [0u8; 65536];
     let file = put_file(list, seen.state, &mut text);
-    read_list(list.row, &text, file.end, seen.made(file.taken, file.state))
+    read_list(row, &text, file.end, seen.made(file.taken, file.state))
 }
 
 // The first `count` lists of a row, after what was seen before.
@@ -83,7 +83,7 @@ pub(crate) fn go_on(count: u32, row: Row, seen: Tally) -> Tally {
     let mut now = seen;
     let mut i = 0;
     while i < count {
-        now = try_list(list_at(row, i), now);
+        now = try_list(row, list_at(row, i), now);
         i += 1;
     }
     now
