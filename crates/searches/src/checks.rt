@@ -63,10 +63,14 @@ fn new_share(change: u32, q: u32, x: u32) -> u32 {
 fn change_shares(change: u32, at: u32, q: u32, shares: &mut [u16]) {
     let x = share_at(shares, at);
     put_share(shares, at, new_share(change, q, x));
-    if change == 3 && 0 < x {
-        let next = more(at);
-        put_share(shares, next, more(share_at(shares, next)));
+    if change != 3 {
+        return;
     }
+    if x == 0 {
+        return;
+    }
+    let next = more(at);
+    put_share(shares, next, more(share_at(shares, next)));
 }
 
 // A member byte, changed.

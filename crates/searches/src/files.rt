@@ -57,7 +57,10 @@ fn next(state: u32) -> u32 {
 fn step(list: Listed, walk: Walk, text: &mut [u8]) -> Walk {
     let mut now = walk;
     now.state = next(walk.state);
-    if walk.taken < 4096 && takes(list, walk.a, walk.b, walk.passed, now.state / 65536) {
+    if 4096 <= walk.taken {
+        return now;
+    }
+    if takes(list, walk.a, walk.b, walk.passed, now.state / 65536) {
         now.taken = more(walk.taken);
         now.end = put_pair(walk.a, walk.b, walk.end, text);
     }

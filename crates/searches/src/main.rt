@@ -1,5 +1,7 @@
 // Peel, solve, check and surplus against plain second computations.
 //
+// Standard input has the table of what is tried, a row a line (module `table`).
+//
 // Every list on up to 5 modules, thousands of drawn lists of up to 12 modules and lists of 512 modules and up to 4,096 pairs of several kinds are written
 // as pair files, read by the product's reader, peeled and solved: with push phases and links before the searches, with links alone, and, of up to 40
 // modules, with neither. Leaving order, core numbers, places, densest remainder, group, P, Q, K and core size are compared (modules `plain` and `sets`: up

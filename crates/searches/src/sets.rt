@@ -16,11 +16,10 @@ pub struct Best {
 
 // 1 where both ends of a pair are in the set, else 0.
 fn both(mask: u32, pair: Ends) -> u32 {
-    if bit(mask, pair.a) && bit(mask, pair.b) {
-        1
-    } else {
-        0
+    if !bit(mask, pair.a) {
+        return 0;
     }
+    if bit(mask, pair.b) { 1 } else { 0 }
 }
 
 // The inside count of a set.
