@@ -1,4 +1,6 @@
-// Check of a sheet by both computations: sheets of solve changed in one place each, and every sheet of a small list.
+// Check of a sheet by both computations: sheets of solve changed in one place each, and every sheet of a small list. Changes have numbers:
+// 0 nothing; 1 a share raised; 2 lowered; 3 a unit of it goes to the next; 4 the share becomes Q + 1; 5 a member added; 6 one dropped; 7 a byte of 2;
+// 8 all bytes become 0.
 use crate::calls;
 use crate::entries::byte_at;
 use crate::entries::mark;
@@ -12,21 +14,6 @@ use crate::verdicts::check_plainly;
 use crate::verdicts::same_verdict;
 use pairfile::Reading;
 ghost use Rattle.theory.specs.Words.{Holds-list};
-
-// What is changed in a sheet: nothing, a share or a member byte in one place, or all bytes.
-pub enum Change {
-    Nothing,
-    Raised,
-    Lowered,
-    // A unit goes from a share to the next.
-    Moved,
-    // The share becomes Q + 1.
-    Past,
-    Added,
-    Dropped,
-    Two,
-    Emptied,
-}
 
 // The answers are counted as accepted, refused by 7, by 8, by 9.
 fn answer(number: u32) -> usize {
@@ -49,10 +36,10 @@ fn judge(list: Reading, words: &[u32], members: &[u8], shares: &[u16], seen: Tal
 }
 
 // How many places a change has in a list of n modules and m pairs.
-pub(crate) fn places(change: Change, n: u32, m: u32) -> u32 {
+pub(crate) fn places(change: u32, n: u32, m: u32) -> u32 {
     match change {
-        Change::Nothing | Change::Emptied => 1,
-        Change::Added | Change::Dropped | Change::Two => n,
+        0 | 8 => 1,
+        5 | 6 | 7 => n,
         _ => m,
     }
 }
@@ -63,56 +50,55 @@ fn less(x: u32) -> u32 {
 }
 
 // A share x of q units, changed.
-fn new_share(change: Change, q: u32, x: u32) -> u32 {
+fn new_share(change: u32, q: u32, x: u32) -> u32 {
     match change {
-        Change::Raised => more(x),
-        Change::Lowered | Change::Moved => less(x),
-        Change::Past => more(q),
+        1 => more(x),
+        2 | 3 => less(x),
+        4 => more(q),
         _ => x,
     }
 }
 
-// The share y after a share x that is changed.
-fn next_share(change: Change, x: u32, y: u32) -> u32 {
-    match change {
-        Change::Moved => if x == 0 { y } else { more(y) },
-        _ => y,
-    }
-}
-
-fn change_shares(change: Change, at: u32, q: u32, shares: &mut [u16]) {
+// Changes the share at a place; a unit that goes to the next is one that there is.
+fn change_shares(change: u32, at: u32, q: u32, shares: &mut [u16]) {
     let x = share_at(shares, at);
-    let y = share_at(shares, more(at));
     put_share(shares, at, new_share(change, q, x));
-    put_share(shares, more(at), next_share(change, x, y));
+    if change != 3 {
+        return;
+    }
+    if x == 0 {
+        return;
+    }
+    let next = more(at);
+    put_share(shares, next, more(share_at(shares, next)));
 }
 
 // A member byte, changed.
-fn new_byte(change: Change, x: u8) -> u8 {
+fn new_byte(change: u32, x: u8) -> u8 {
     match change {
-        Change::Added => 1,
-        Change::Dropped => 0,
-        Change::Two => 2,
+        5 => 1,
+        6 => 0,
+        7 => 2,
         _ => x,
     }
 }
 
 // How many bytes become 0.
-fn emptied(change: Change) -> u32 {
+fn emptied(change: u32) -> u32 {
     match change {
-        Change::Emptied => 512,
+        8 => 512,
         _ => 0,
     }
 }
 
-fn change_bytes(change: Change, at: u32, members: &mut [u8]) {
+fn change_bytes(change: u32, at: u32, members: &mut [u8]) {
     let x = byte_at(members, at);
     put_byte(members, at, new_byte(change, x));
     mark(emptied(change), 0, members);
 }
 
 // Solves the list, changes the sheet at a place, and tries it.
-fn try_change(change: Change, at: u32, list: Reading, words: &[u32], seen: Tally) -> Tally
+fn try_change(change: u32, at: u32, list: Reading, words: &[u32], seen: Tally) -> Tally
     requires { ⌜ Holds-list (list .n) (list .m) (now words) ⌝ }
 {
     let solved = calls::solve(list, densest::PHASES, 4096, words);
@@ -131,7 +117,7 @@ fn is_due(n: u32, at: u32) -> bool {
 }
 
 // A change at a place, where one is due.
-pub(crate) fn try_place(change: Change, at: u32, list: Reading, words: &[u32], seen: Tally) -> Tally
+pub(crate) fn try_place(change: u32, at: u32, list: Reading, words: &[u32], seen: Tally) -> Tally
     requires { ⌜ Holds-list (list .n) (list .m) (now words) ⌝ }
 {
     if is_due(list.n, at) {
@@ -146,19 +132,27 @@ fn digit(x: u32) -> u8 {
 }
 
 // Four bytes: the digits in base 3.
-pub(crate) fn spell_bytes(code: u32, bytes: &mut [u8]) {
-    put_byte(bytes, 0, digit(code));
-    put_byte(bytes, 1, digit(code / 3));
-    put_byte(bytes, 2, digit(code / 9));
-    put_byte(bytes, 3, digit(code / 27));
+pub(crate) fn spell_bytes(code: u32) -> [u8; 4] {
+    [
+        digit(code),
+        digit(code / 3),
+        digit(code / 9),
+        digit(code / 27),
+    ]
+}
+
+fn share(x: u32) -> u16 {
+    (x % 6) as u16
 }
 
 // Four shares: the digits in base 6.
-fn spell_shares(code: u32, shares: &mut [u16]) {
-    put_share(shares, 0, code % 6);
-    put_share(shares, 1, code / 6 % 6);
-    put_share(shares, 2, code / 36 % 6);
-    put_share(shares, 3, code / 216 % 6);
+fn spell_shares(code: u32) -> [u16; 4] {
+    [
+        share(code),
+        share(code / 6),
+        share(code / 36),
+        share(code / 216),
+    ]
 }
 
 // How many numbers stand for a sheet of 4 modules and m pairs: 81 times 6 to the power of m, where m is at most 4, else 0.
@@ -177,9 +171,7 @@ pub(crate) fn sheet_codes(m: u32) -> u32 {
 pub(crate) fn try_sheet(code: u32, list: Reading, words: &[u32], seen: Tally) -> Tally
     requires { ⌜ Holds-list (list .n) (list .m) (now words) ⌝ }
 {
-    let mut members = [0u8; 4];
-    let mut shares = [0u16; 4];
-    spell_bytes(code % 81, &mut members);
-    spell_shares(code / 81, &mut shares);
+    let members = spell_bytes(code % 81);
+    let shares = spell_shares(code / 81);
     judge(list, words, &members, &shares, seen)
 }

@@ -80,6 +80,17 @@ pub(crate) fn same_words(n: u32, xs: &[u32], ys: &[u32]) -> bool {
     true
 }
 
+pub(crate) fn same_bytes(n: u32, xs: &[u8], ys: &[u8]) -> bool {
+    let mut i = 0;
+    while i < n {
+        if byte_at(xs, i) != byte_at(ys, i) {
+            return false;
+        }
+        i += 1;
+    }
+    true
+}
+
 fn wide_byte(x: u8) -> u32 {
     x as u32
 }
@@ -89,12 +100,12 @@ pub(crate) fn read_set(n: u32, members: &[u8], set: &mut [u32]) -> u32 {
     let mut count = 0;
     let mut i = 0;
     while i < n {
-        let byte = byte_at(members, i);
-        if 1 < byte {
+        let x = wide_byte(byte_at(members, i));
+        if 1 < x {
             return 0;
         }
-        put_word(set, i, wide_byte(byte));
-        count = wrapping_add_u32(count, wide_byte(byte));
+        put_word(set, i, x);
+        count = wrapping_add_u32(count, x);
         i += 1;
     }
     count

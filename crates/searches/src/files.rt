@@ -57,7 +57,10 @@ fn next(state: u32) -> u32 {
 fn step(list: Listed, walk: Walk, text: &mut [u8]) -> Walk {
     let mut now = walk;
     now.state = next(walk.state);
-    if walk.taken < 4096 && takes(list, walk.a, walk.b, walk.passed, now.state / 65536) {
+    if 4096 <= walk.taken {
+        return now;
+    }
+    if takes(list, walk.a, walk.b, walk.passed, now.state / 65536) {
         now.taken = more(walk.taken);
         now.end = put_pair(walk.a, walk.b, walk.end, text);
     }
@@ -103,6 +106,7 @@ pub(crate) fn put_file(list: Listed, state: u32, text: &mut [u8]) -> Walk {
     let first = put_number(b"modules=", list.n, 0, text);
     let second = put_number(b"\npairs=", counted.taken, first, text);
     let mut walk = put_pairs(list, state, second, text);
-    walk.end = put_bytes(b"\n", walk.end, text);
+    put_byte(text, walk.end, b'\n');
+    walk.end = more(walk.end);
     walk
 }

@@ -42,7 +42,13 @@ pub(crate) fn alter_peel(thing: u32, peeled: Peeled) -> Peeled {
 }
 
 fn same_remainder(x: Remainder, y: Remainder) -> bool {
-    x.p == y.p && x.q == y.q && x.at == y.at
+    if x.p != y.p {
+        return false;
+    }
+    if x.q != y.q {
+        return false;
+    }
+    x.at == y.at
 }
 
 // Whether two answers for n modules are the same.

@@ -52,7 +52,10 @@ fn leaves_rather(k: u32, n: u32, v: u32, best: u32, levels: &[u32], degrees: &[u
     if word_at(levels, v) < k {
         return false;
     }
-    best == n || word_at(degrees, v) < word_at(degrees, best)
+    if best == n {
+        return true;
+    }
+    word_at(degrees, v) < word_at(degrees, best)
 }
 
 // The module present with the fewest pairs, of equals the lowest.

@@ -1,7 +1,7 @@
 // The found group as document 01 defines it and as plainly as can be: every set of modules is counted. Module v is in the set of a mask where bit v is 1.
 use crate::entries::Ends;
+use crate::entries::byte_at;
 use crate::entries::pair_at;
-use crate::entries::word_at;
 use crate::lists::bit;
 use crate::plain::product;
 use pairfile::Reading;
@@ -16,11 +16,10 @@ pub struct Best {
 
 // 1 where both ends of a pair are in the set, else 0.
 fn both(mask: u32, pair: Ends) -> u32 {
-    if bit(mask, pair.a) && bit(mask, pair.b) {
-        1
-    } else {
-        0
+    if !bit(mask, pair.a) {
+        return 0;
     }
+    if bit(mask, pair.b) { 1 } else { 0 }
 }
 
 // The inside count of a set.
@@ -81,11 +80,11 @@ pub(crate) fn densest(list: Reading, words: &[u32]) -> Best {
     }
 }
 
-// Whether the first n words are the set of a mask.
-pub(crate) fn same_set(n: u32, mask: u32, set: &[u32]) -> bool {
+// Whether the first n member bytes are those of the set of a mask.
+pub(crate) fn same_set(n: u32, mask: u32, members: &[u8]) -> bool {
     let mut v = 0;
     while v < n {
-        if bit(mask, v) != (word_at(set, v) == 1) {
+        if bit(mask, v) != (byte_at(members, v) == 1) {
             return false;
         }
         v += 1;

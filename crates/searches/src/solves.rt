@@ -6,7 +6,7 @@ use crate::calls::Solved;
 use crate::calls::check;
 use crate::entries::more;
 use crate::entries::put_share;
-use crate::entries::read_set;
+use crate::entries::same_bytes;
 use crate::entries::same_words;
 use crate::entries::word_at;
 use crate::plain::core_size;
@@ -57,13 +57,17 @@ pub(crate) fn alter_solve(thing: u32, solved: Solved) -> Solved {
 // Whether the group is the densest of all sets, of equals the largest, with its inside count and size. Sets are tried of up to 12 modules; check counts
 // the inside count and the size of any group.
 fn group_right(n: u32, solved: Solved, best: Best) -> bool {
-    let mut set = [0u32; 512];
     let record = solved.record;
     if 12 < n {
         return true;
     }
-    read_set(n, &solved.members, &mut set);
-    record.p == best.p && record.q == best.q && same_set(n, best.mask, &set)
+    if record.p != best.p {
+        return false;
+    }
+    if record.q != best.q {
+        return false;
+    }
+    same_set(n, best.mask, &solved.members)
 }
 
 // p over q, rounded up.
@@ -81,7 +85,10 @@ fn cores_right(n: u32, solved: Solved, cores: &[u32]) -> bool {
     if !same_words(n, &solved.cores, cores) {
         return false;
     }
-    record.k == rounded_up(record.p, record.q) && record.core == core_size(record.k, n, cores)
+    if record.k != rounded_up(record.p, record.q) {
+        return false;
+    }
+    record.core == core_size(record.k, n, cores)
 }
 
 // The first m shares as check takes them.
@@ -119,20 +126,32 @@ pub(crate) fn solve_right(
 ) -> bool
     requires { ⌜ Holds-list (list .n) (list .m) (now words) ⌝ }
 {
-    group_right(list.n, solved, best)
-        && cores_right(list.n, solved, cores)
-        && sheet_right(list, words, solved)
+    if !group_right(list.n, solved, best) {
+        return false;
+    }
+    if !cores_right(list.n, solved, cores) {
+        return false;
+    }
+    sheet_right(list, words, solved)
 }
 
 fn same_record(x: Solution, y: Solution) -> bool {
-    x.p == y.p && x.q == y.q && x.k == y.k && x.core == y.core
+    if x.p != y.p {
+        return false;
+    }
+    if x.q != y.q {
+        return false;
+    }
+    if x.k != y.k {
+        return false;
+    }
+    x.core == y.core
 }
 
 // Whether two answers for n modules name the same group and record; their sheets may differ.
 pub(crate) fn same_solve(n: u32, x: Solved, y: Solved) -> bool {
-    let mut x_set = [0u32; 512];
-    let mut y_set = [0u32; 512];
-    read_set(n, &x.members, &mut x_set);
-    read_set(n, &y.members, &mut y_set);
-    same_words(n, &x_set, &y_set) && same_record(x.record, y.record)
+    if !same_bytes(n, &x.members, &y.members) {
+        return false;
+    }
+    same_record(x.record, y.record)
 }

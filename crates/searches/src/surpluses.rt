@@ -32,10 +32,8 @@ fn weigh(list: Reading, words: &[u32], first: &[u8], second: &[u8], seen: Tally)
 pub(crate) fn try_sets(code: u32, list: Reading, words: &[u32], seen: Tally) -> Tally
     requires { ⌜ Holds-list (list .n) (list .m) (now words) ⌝ }
 {
-    let mut first = [0u8; 4];
-    let mut second = [0u8; 4];
-    spell_bytes(code % 81, &mut first);
-    spell_bytes(code / 81, &mut second);
+    let first = spell_bytes(code % 81);
+    let second = spell_bytes(code / 81);
     weigh(list, words, &first, &second, seen)
 }
 

@@ -18,7 +18,7 @@ pub struct Tally {
     pub state: u32,
 }
 
-pub(crate) fn field(label: &[u8], value: u32) {
+fn field(label: &[u8], value: u32) {
     io::write_all(1, label);
     io::print_decimal(1, value as u64);
 }
@@ -91,7 +91,7 @@ impl Tally {
         io::write_all(1, b"\n");
     }
 
-    pub(crate) fn print_searches(self, name: &[u8]) {
+    fn print_searches(self, name: &[u8]) {
         io::write_all(1, name);
         field(b": lists=", self.lists);
         field(b" pairs=", self.pairs);
@@ -102,15 +102,23 @@ impl Tally {
         self.print_faults();
     }
 
-    // The four answers' kinds, and how often each was given.
-    pub(crate) fn print_answers(self, name: &[u8], kinds: &[u8]) {
+    // How often each of the four answers was given, which the name says.
+    fn print_answers(self, name: &[u8]) {
         let answers = self.answers;
         io::write_all(1, name);
-        io::write_all(1, kinds);
         field(b" ", answers[0]);
         field(b" ", answers[1]);
         field(b" ", answers[2]);
         field(b" ", answers[3]);
         self.print_faults();
+    }
+
+    // A line: of what the searches did where peel and solve were asked, else of the answers.
+    pub(crate) fn print(self, asked: u32, name: &[u8]) {
+        if asked == 0 {
+            self.print_searches(name);
+        } else {
+            self.print_answers(name);
+        }
     }
 }

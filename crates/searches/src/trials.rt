@@ -1,12 +1,11 @@
 // Trials: lists are made, read and asked for something, one after the other.
-use crate::checks::Change;
 use crate::checks::places;
 use crate::checks::sheet_codes;
 use crate::checks::try_place;
 use crate::checks::try_sheet;
 use crate::files::put_file;
 use crate::lists::Listed;
-use crate::lists::Source;
+use crate::lists::Row;
 use crate::lists::list_at;
 use crate::search::search;
 use crate::surpluses::try_firsts;
@@ -16,60 +15,50 @@ use pairfile::Reading;
 use pairfile::read_words;
 ghost use Rattle.theory.specs.Words.{Holds-list};
 
-// What is asked of a list, once for each number below a count.
-pub enum Asked {
-    // Peel and solve, with one thing altered.
-    Searches(u32),
-    // Check of solve's sheet, changed in one place.
-    Changes(Change),
-    // Check of every sheet of 4 modules: member bytes of 0 to 2, and shares of 0 to 5 where the list has up to 4 pairs.
-    Sheets,
-    // Surplus of every two sets of 4 bytes of 0 to 2.
-    Sets,
-    // Surplus of groups of 512 modules against the first so many.
-    Firsts(u32),
-}
-
-// How many numbers there are.
-fn codes(asked: Asked, list: Reading) -> u32 {
+// How often a list is asked, once for each number below a count. By what is asked: 0 peel and solve, with the thing of number `with` altered; 1 check of
+// solve's sheet, with the change of number `with` in one place; 2 check of every sheet of 4 modules: member bytes of 0 to 2, and shares of 0 to 5 where
+// the list has up to 4 pairs; 3 surplus of every two sets of 4 bytes of 0 to 2; 4 surplus of groups of 512 modules against the first `with`.
+fn codes(row: Row, list: Reading) -> u32 {
+    let asked = row.asked;
     match asked {
-        Asked::Searches(thing) => 1,
-        Asked::Changes(change) => places(change, list.n, list.m),
-        Asked::Sheets => sheet_codes(list.m),
-        Asked::Sets => 6561,
-        Asked::Firsts(second) => 67,
+        0 => 1,
+        1 => places(row.with, list.n, list.m),
+        2 => sheet_codes(list.m),
+        3 => 6561,
+        _ => 67,
     }
 }
 
 // What is asked, for one number.
-fn ask(asked: Asked, code: u32, list: Reading, words: &[u32], seen: Tally) -> Tally
+fn ask(row: Row, code: u32, list: Reading, words: &[u32], seen: Tally) -> Tally
     requires { ⌜ Holds-list (list .n) (list .m) (now words) ⌝ }
 {
+    let asked = row.asked;
     match asked {
-        Asked::Searches(thing) => search(thing, list, words, seen),
-        Asked::Changes(change) => try_place(change, code, list, words, seen),
-        Asked::Sheets => try_sheet(code, list, words, seen),
-        Asked::Sets => try_sets(code, list, words, seen),
-        Asked::Firsts(second) => try_firsts(code, second, list, words, seen),
+        0 => search(row.with, list, words, seen),
+        1 => try_place(row.with, code, list, words, seen),
+        2 => try_sheet(code, list, words, seen),
+        3 => try_sets(code, list, words, seen),
+        _ => try_firsts(code, row.with, list, words, seen),
     }
 }
 
 // What is asked, for every number.
-fn ask_all(asked: Asked, list: Reading, words: &[u32], seen: Tally) -> Tally
+fn ask_all(row: Row, list: Reading, words: &[u32], seen: Tally) -> Tally
     requires { ⌜ Holds-list (list .n) (list .m) (now words) ⌝ }
 {
-    let count = codes(asked, list);
+    let count = codes(row, list);
     let mut now = seen;
     let mut code = 0;
     while code < count {
-        now = ask(asked, code, list, words, now);
+        now = ask(row, code, list, words, now);
         code += 1;
     }
     now
 }
 
 // Reads a list's file, the first `end` bytes of a text.
-fn read_list(asked: Asked, text: &[u8], end: u32, seen: Tally) -> Tally {
+fn read_list(row: Row, text: &[u8], end: u32, seen: Tally) -> Tally {
     let mut words = [0u32; 12288];
     let size = end as usize;
     if text.len() < size {
@@ -79,22 +68,22 @@ fn read_list(asked: Asked, text: &[u8], end: u32, seen: Tally) -> Tally {
     if list.number != 0 {
         return seen.not_read();
     }
-    ask_all(asked, list, &words, seen)
+    ask_all(row, list, &words, seen)
 }
 
 // Makes a list, and reads it.
-fn try_list(asked: Asked, list: Listed, seen: Tally) -> Tally {
+fn try_list(row: Row, list: Listed, seen: Tally) -> Tally {
     let mut text = [0u8; 65536];
     let file = put_file(list, seen.state, &mut text);
-    read_list(asked, &text, file.end, seen.made(file.taken, file.state))
+    read_list(row, &text, file.end, seen.made(file.taken, file.state))
 }
 
-// The first `count` lists of a source, after what was seen before.
-pub(crate) fn go_on(asked: Asked, source: Source, count: u32, seen: Tally) -> Tally {
+// The first `count` lists of a row, after what was seen before.
+pub(crate) fn go_on(count: u32, row: Row, seen: Tally) -> Tally {
     let mut now = seen;
     let mut i = 0;
     while i < count {
-        now = try_list(asked, list_at(source, i), now);
+        now = try_list(row, list_at(row, i), now);
         i += 1;
     }
     now

@@ -103,7 +103,13 @@ pub(crate) fn check_plainly(
 }
 
 pub(crate) fn same_verdict(x: Verdict, y: Verdict) -> bool {
-    x.number == y.number && x.p == y.p && x.q == y.q
+    if x.number != y.number {
+        return false;
+    }
+    if x.p != y.p {
+        return false;
+    }
+    x.q == y.q
 }
 
 // Surplus is refused by 7 where one of the sets is no group.
@@ -126,5 +132,8 @@ pub(crate) fn surplus_right(
     let one = read_group(list, words, first);
     let other = read_group(list, words, second);
     let value = product(other.size, one.inside) - product(one.size, other.inside);
-    difference.number == surplus_number(one, other) && nearest_i64_to_f64(difference.value) == value
+    if difference.number != surplus_number(one, other) {
+        return false;
+    }
+    nearest_i64_to_f64(difference.value) == value
 }

@@ -5,10 +5,10 @@ use Rattle.searches.proofs.sets.same_set.Statement.{statement}
 use Rattle.searches.proofs.sets.same_set.Tie as tie
 
 abbrev Inv-loop : tie.InvT-loop
-Inv-loop n mask set v₀ v = Unit {0}
+Inv-loop n mask members v₀ v = Unit {0}
 
 abbrev μ-loop : tie.MeasureT-loop
-μ-loop n mask set v₀ v = n - v
+μ-loop n mask members v₀ v = n - v
 
 pub same-set-spec : {M : Type 1} → statement M
 same-set-spec =

@@ -5,10 +5,10 @@ use Rattle.searches.proofs.trials.ask_all.Statement.{statement}
 use Rattle.searches.proofs.trials.ask_all.Tie as tie
 
 abbrev Inv-loop : tie.InvT-loop
-Inv-loop asked list words count now₀ code₀ now code = Unit {0}
+Inv-loop row list words count now₀ code₀ now code = Unit {0}
 
 abbrev μ-loop : tie.MeasureT-loop
-μ-loop asked list words count now₀ code₀ now code = count - code
+μ-loop row list words count now₀ code₀ now code = count - code
 
 pub ask-all-spec : {M : Type 1} → statement M
 ask-all-spec =

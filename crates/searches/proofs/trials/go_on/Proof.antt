@@ -5,10 +5,10 @@ use Rattle.searches.proofs.trials.go_on.Statement.{statement}
 use Rattle.searches.proofs.trials.go_on.Tie as tie
 
 abbrev Inv-loop : tie.InvT-loop
-Inv-loop asked source count now₀ i₀ now i = Unit {0}
+Inv-loop count row now₀ i₀ now i = Unit {0}
 
 abbrev μ-loop : tie.MeasureT-loop
-μ-loop asked source count now₀ i₀ now i = count - i
+μ-loop count row now₀ i₀ now i = count - i
 
 pub go-on-spec : {M : Type 1} → statement M
 go-on-spec =
