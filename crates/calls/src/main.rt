@@ -4,11 +4,14 @@
 // Each line of the last four has the call, what is altered, the number that document 01 gives it and the number that the call gave; then what it answered
 // and what it left of the lent buffers: of those of 8 entries all, each 9 before, and of the work buffer how many words are 0 and how many are 7 as before.
 mod checks;
+mod lent;
 mod lists;
 mod peels;
+mod print;
 mod reads;
 mod solves;
 mod surpluses;
+mod words;
 
 use lists::Damage;
 

@@ -1,7 +1,8 @@
 // peel: the list *tail* of document 01, whose leaving order is 4,0,1,2,3 and whose core numbers are 3,3,3,3,1.
+use crate::lent;
 use crate::lists;
 use crate::lists::Damage;
-use lent::print;
+use crate::print;
 
 // What is altered: the list, and the lengths lent.
 pub(crate) struct Altered {

@@ -1,4 +1,8 @@
 // The public calls that make and change a list, on lent records: start, then add, remove, add_to and remove_from step by step against a plain model.
+mod desk;
+mod lent;
+mod model;
+mod print;
 mod runs;
 mod starts;
 mod steps;
