@@ -51,8 +51,8 @@ pub(crate) fn tried(name: &[u8], due: u32, a: Altered) {
     lists::tail(a.damage, &mut words);
     let number = peel_part(a, &mut words, &mut order, &mut cores, &mut work);
     print::begin(b"peel", name, due, number);
-    print::halves(b" order=", &order);
-    print::halves(b" cores=", &cores);
+    print::halves(b" order=", &order, 0);
+    print::halves(b" cores=", &cores, 0);
     print::end_work(&work);
 }
 

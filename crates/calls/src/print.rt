@@ -55,16 +55,14 @@ pub(crate) fn half_at(entries: &[u16], i: usize) -> u32 {
     }
 }
 
-// The first eight entries.
-pub(crate) fn halves(label: &[u8], entries: &[u16]) {
-    field(label, half_at(entries, 0));
-    more(half_at(entries, 1));
-    more(half_at(entries, 2));
-    more(half_at(entries, 3));
-    more(half_at(entries, 4));
-    more(half_at(entries, 5));
-    more(half_at(entries, 6));
-    more(half_at(entries, 7));
+// The eight entries from `at` on.
+pub(crate) fn halves(label: &[u8], entries: &[u16], at: usize) {
+    field(label, half_at(entries, at));
+    let mut i = 1;
+    while i < 8 {
+        more(half_at(entries, words::plus(at, i)));
+        i += 1;
+    }
 }
 
 fn word_of(x: u8) -> u32 {
@@ -79,14 +77,12 @@ fn byte_at(bytes: &[u8], i: usize) -> u32 {
     }
 }
 
-// The first eight bytes.
-pub(crate) fn bytes(label: &[u8], bytes: &[u8]) {
-    field(label, byte_at(bytes, 0));
-    more(byte_at(bytes, 1));
-    more(byte_at(bytes, 2));
-    more(byte_at(bytes, 3));
-    more(byte_at(bytes, 4));
-    more(byte_at(bytes, 5));
-    more(byte_at(bytes, 6));
-    more(byte_at(bytes, 7));
+// The eight bytes from `at` on.
+pub(crate) fn bytes(label: &[u8], bytes: &[u8], at: usize) {
+    field(label, byte_at(bytes, at));
+    let mut i = 1;
+    while i < 8 {
+        more(byte_at(bytes, words::plus(at, i)));
+        i += 1;
+    }
 }

@@ -8,13 +8,15 @@ use crate::words;
 use kandurzo::Solved;
 use records::Head;
 
-// What is altered: the list, and the lengths lent.
+// What is altered: the list, and the lengths lent. And from where eight members and core numbers are printed, and eight shares.
 pub(crate) struct Altered {
     pub(crate) damage: Damage,
     pub(crate) members: usize,
     pub(crate) cores: usize,
     pub(crate) shares: usize,
     pub(crate) work: usize,
+    pub(crate) from: usize,
+    pub(crate) from_share: usize,
 }
 
 // Nothing is.
@@ -25,6 +27,8 @@ pub(crate) fn sound() -> Altered {
         cores: 5,
         shares: 7,
         work: 16384,
+        from: 0,
+        from_share: 0,
     }
 }
 
@@ -81,6 +85,34 @@ fn print_solved(name: &[u8], due: u32, found: Solved) {
     print_ratio(found.ratio == quotient(found.p, found.q));
 }
 
+// How many of the first 512 entries differ.
+fn differing(first: &[u16], second: &[u16]) -> u32 {
+    let mut found = 0;
+    let mut i = 0;
+    while i < 512 {
+        found = words::one_more(print::half_at(first, i) == print::half_at(second, i), found);
+        i += 1;
+    }
+    found
+}
+
+// Of a list of 512 modules, its pairs, what check says of the sheet, and how many core numbers peel gives otherwise.
+fn confirm(head: Head, members: &[u8], cores: &[u16], shares: &[u16], words: &mut [u32]) {
+    let mut order = [0u16; 512];
+    let mut others = [0u16; 512];
+    let mut work = [0u32; 16384];
+    if head.n != 512 {
+        return;
+    }
+    let verdict = lent::check_4096(words, head, members, shares, &mut work);
+    lent::peel_4096(words, head, &mut order, &mut others, &mut work);
+    print::field(b" pairs=", head.m);
+    print::field(b" check=", verdict.number);
+    print::field(b":", verdict.p);
+    print::field(b"/", verdict.q);
+    print::field(b" cores differ=", differing(cores, &others));
+}
+
 // solve with the first entries of the buffers.
 fn solve_part(
     a: Altered,
@@ -107,9 +139,9 @@ fn solve_part(
 
 // One line: what solve says and writes.
 fn tried_on(name: &[u8], due: u32, head: Head, a: Altered, words: &mut [u32]) {
-    let mut members = [9u8; 8];
-    let mut cores = [9u16; 8];
-    let mut shares = [9u16; 8];
+    let mut members = [9u8; 514];
+    let mut cores = [9u16; 514];
+    let mut shares = [9u16; 4100];
     let mut work = [7u32; 16400];
     let found = solve_part(
         a,
@@ -121,9 +153,10 @@ fn tried_on(name: &[u8], due: u32, head: Head, a: Altered, words: &mut [u32]) {
         &mut work,
     );
     print_solved(name, due, found);
-    print::bytes(b" members=", &members);
-    print::halves(b" cores=", &cores);
-    print::halves(b" shares=", &shares);
+    confirm(head, &members, &cores, &shares, words);
+    print::bytes(b" members=", &members, a.from);
+    print::halves(b" cores=", &cores, a.from);
+    print::halves(b" shares=", &shares, a.from_share);
     print::end_work(&work);
 }
 
@@ -187,57 +220,20 @@ fn add_pairs(kind: Kind, many: u32, words: &mut [u32]) -> Head {
     head
 }
 
-// How many of the first 512 entries differ.
-fn differing(first: &[u16], second: &[u16]) -> u32 {
-    let mut found = 0;
-    let mut i = 0;
-    while i < 512 {
-        found = words::one_more(print::half_at(first, i) == print::half_at(second, i), found);
-        i += 1;
-    }
-    found
-}
-
-// What check says of the sheet, and how many core numbers peel gives otherwise.
-fn confirm(head: Head, members: &[u8], cores: &[u16], shares: &[u16], words: &mut [u32]) {
-    let mut order = [0u16; 512];
-    let mut others = [0u16; 512];
-    let mut work = [0u32; 16384];
-    let verdict = lent::check_4096(words, head, members, shares, &mut work);
-    lent::peel_4096(words, head, &mut order, &mut others, &mut work);
-    print::field(b" check=", verdict.number);
-    print::field(b":", verdict.p);
-    print::field(b"/", verdict.q);
-    print::field(b" cores differ=", differing(cores, &others));
-}
-
 // One line: a list of 512 modules, with buffers longer than is named.
-fn solve_large(name: &[u8], head: Head, words: &mut [u32]) {
-    let mut members = [9u8; 514];
-    let mut cores = [9u16; 514];
-    let mut shares = [9u16; 4100];
-    let mut work = [7u32; 16400];
-    let found = lent::solve_4096(
-        words,
-        head,
-        &mut members,
-        &mut cores,
-        &mut shares,
-        &mut work,
-    );
-    print_solved(name, 0, found);
-    print::field(b" pairs=", head.m);
-    confirm(head, &members, &cores, &shares, words);
-    print::bytes(b" members=", &members[506..514]);
-    print::halves(b" cores=", &cores[506..514]);
-    print::halves(b" shares=", &shares[4092..4100]);
-    print::end_work(&work);
-}
-
 fn large(name: &[u8], kind: Kind, many: u32) {
     let mut words = [0u32; 12288];
     let head = add_pairs(kind, many, &mut words);
-    solve_large(name, head, &mut words);
+    let longer = Altered {
+        members: 514,
+        cores: 514,
+        shares: 4100,
+        work: 16400,
+        from: 506,
+        from_share: 4092,
+        ..sound()
+    };
+    tried_on(name, 0, head, longer, &mut words);
 }
 
 // ---- what is tried
