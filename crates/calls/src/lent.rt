@@ -8,7 +8,6 @@ use kandurzo::Solved;
 use kandurzo::add;
 use kandurzo::check;
 use kandurzo::peel;
-use kandurzo::read;
 use kandurzo::solve;
 use kandurzo::surplus;
 use records::Head;
@@ -47,16 +46,6 @@ pub(crate) fn add_4096(words: &mut [u32], head: Head, a: u32, b: u32) -> Changed
     let k = held(words, 4096);
     copy_in(&mut list, words, k);
     let answer = add(head, &mut list, a, b);
-    copy_out(&list, words, k);
-    answer
-}
-
-// read into 100 records.
-pub(crate) fn read_100(words: &mut [u32], bytes: &[u8], work: &mut [u32]) -> Changed {
-    let mut list = [Pair { a: 0, b: 0 }; 100];
-    let k = held(words, 100);
-    copy_in(&mut list, words, k);
-    let answer = read(bytes, &mut list, work);
     copy_out(&list, words, k);
     answer
 }

@@ -1,10 +1,10 @@
 // read, into a list of 100 records, each 7,7 before the call. Each line has the length of the work buffer and how the file is made: modules=N, pairs=M,
 // LINES pair lines, the first AGAIN of them again, and MORE empty lines; then the number due and the number given, the head, the first three records,
 // how many of the list's words are 7 as before, and the work buffer, each word of which was 7.
+ghost use Prim.Native.Nat.{_≤_};
+use crate::desk;
 use crate::lent;
-use crate::lists;
 use crate::print;
-use crate::words;
 use kandurzo::Changed;
 
 // How a file is made.
@@ -27,7 +27,7 @@ fn put_text(file: &mut [u8], at: usize, text: &[u8]) -> usize {
     let mut i = 0;
     while i < text.len() {
         put_byte(file, end, text[i]);
-        end = words::plus(end, 1);
+        end = desk::plus(end, 1);
         i += 1;
     }
     end
@@ -89,9 +89,9 @@ fn print_made(work: u32, made: File) {
 }
 
 fn print_record(words: &[u32], j: u32) {
-    let i = words::place(j);
-    print::field(b" ", words::word_at(words, i));
-    print::field(b",", words::word_at(words, words::plus(i, 1)));
+    let i = desk::place(0, j);
+    print::field(b" ", desk::word_at(words, i));
+    print::field(b",", desk::word_at(words, desk::plus(i, 1)));
 }
 
 fn print_answer(due: u32, answer: Changed) {
@@ -110,10 +110,17 @@ fn print_list(words: &[u32]) {
     print::field(b" as before=", print::count(words, 7));
 }
 
+// The smaller of the two.
+fn at_most(len: usize, k: usize) -> usize
+    ensures { λ r. ⌜ r ≤ len ⌝ }
+{
+    if k < len { k } else { len }
+}
+
 // read of the first bytes of the file, with the first words of the work buffer.
 fn read_part(len: u32, size: usize, words: &mut [u32], file: &[u8], work: &mut [u32]) -> Changed {
-    let end = lists::at_most(file.len(), size);
-    let k = lists::at_most(work.len(), words::wide(len));
+    let end = at_most(file.len(), size);
+    let k = at_most(work.len(), desk::wide(len));
     lent::read_100(words, &file[0..end], &mut work[0..k])
 }
 

@@ -3,8 +3,8 @@ use mathlib.Core.Path.{_≡_}
 use Prim.Native.Nat.{_-_}
 use lib.ListN.{length}
 use borrow.Author.Needs.{needs}
-use Rattle.calls.proofs.reads.put_lines.Statement.{statement}
-use Rattle.calls.proofs.reads.put_lines.Tie as tie
+use Rattle.edits.proofs.reads.put_lines.Statement.{statement}
+use Rattle.edits.proofs.reads.put_lines.Tie as tie
 
 abbrev Inv-loop : tie.InvT-loop
 Inv-loop file₀ at made twice all end₀ i₀ file end i = length file ≡ length file₀
