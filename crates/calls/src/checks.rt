@@ -1,9 +1,10 @@
 // check: a cycle of 5 modules, the group all of them, and each pair lies wholly with one end: P = 5, Q = 5, every load is 5. Then every two shares of a few
 // for a list of three modules with the pairs 0,1 and 1,2 and all three in the group.
+use crate::lent;
 use crate::lists;
 use crate::lists::Damage;
-use lent::desk;
-use lent::print;
+use crate::print;
+use crate::words;
 use records::Head;
 use verify::Verdict;
 
@@ -67,8 +68,8 @@ pub(crate) fn tried(name: &[u8], due: u32, a: Altered) {
 fn put_shares(first: u16, second: u16) {
     let mut words = [0u32; 12288];
     let mut work = [0u32; 16384];
-    desk::put_record(&mut words, 0, 0, 0, 1);
-    desk::put_record(&mut words, 0, 1, 1, 2);
+    words::put_record(&mut words, 0, 0, 1);
+    words::put_record(&mut words, 1, 1, 2);
     let verdict = lent::check_4096(
         &mut words,
         Head { n: 3, m: 2 },

@@ -1,14 +1,16 @@
-// The public calls that read a list, on lent records: read; peel, solve, check and surplus on sound lists, on buffers that are short or long, and on heads and
+// The public calls that read a list, on lent records: peel, solve, check and surplus on sound lists, on buffers that are short or long, and on heads and
 // records that do not agree.
 //
-// Each line of the last four has the call, what is altered, the number that document 01 gives it and the number that the call gave; then what it answered
+// Each line has the call, what is altered, the number that document 01 gives it and the number that the call gave; then what it answered
 // and what it left of the lent buffers: of those of 8 entries all, each 9 before, and of the work buffer how many words are 0 and how many are 7 as before.
 mod checks;
+mod lent;
 mod lists;
 mod peels;
-mod reads;
+mod print;
 mod solves;
 mod surpluses;
+mod words;
 
 use lists::Damage;
 
@@ -59,7 +61,6 @@ fn records() {
 }
 
 fn main() {
-    reads::run();
     peels::run();
     solves::run();
     checks::run();

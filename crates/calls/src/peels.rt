@@ -1,7 +1,8 @@
 // peel: the list *tail* of document 01, whose leaving order is 4,0,1,2,3 and whose core numbers are 3,3,3,3,1.
+use crate::lent;
 use crate::lists;
 use crate::lists::Damage;
-use lent::print;
+use crate::print;
 
 // What is altered: the list, and the lengths lent.
 pub(crate) struct Altered {
@@ -50,8 +51,8 @@ pub(crate) fn tried(name: &[u8], due: u32, a: Altered) {
     lists::tail(a.damage, &mut words);
     let number = peel_part(a, &mut words, &mut order, &mut cores, &mut work);
     print::begin(b"peel", name, due, number);
-    print::halves(b" order=", &order);
-    print::halves(b" cores=", &cores);
+    print::halves(b" order=", &order, 0);
+    print::halves(b" cores=", &cores, 0);
     print::end_work(&work);
 }
 

@@ -1,20 +1,22 @@
 // solve: the list *tail* of document 01, whose found group is 0 to 3 with P/Q = 6/4; two triangles, all six modules with 6/6; a list without pairs; and lists
 // of 512 modules, whose load sheet is put to check and whose core numbers are compared with those of peel. The float must be P/Q rounded once.
+use crate::lent;
 use crate::lists;
 use crate::lists::Damage;
+use crate::print;
+use crate::words;
 use kandurzo::Solved;
-use lent::desk;
-use lent::model;
-use lent::print;
 use records::Head;
 
-// What is altered: the list, and the lengths lent.
+// What is altered: the list, and the lengths lent. And from where eight members and core numbers are printed, and eight shares.
 pub(crate) struct Altered {
     pub(crate) damage: Damage,
     pub(crate) members: usize,
     pub(crate) cores: usize,
     pub(crate) shares: usize,
     pub(crate) work: usize,
+    pub(crate) from: usize,
+    pub(crate) from_share: usize,
 }
 
 // Nothing is.
@@ -25,6 +27,8 @@ pub(crate) fn sound() -> Altered {
         cores: 5,
         shares: 7,
         work: 16384,
+        from: 0,
+        from_share: 0,
     }
 }
 
@@ -81,6 +85,34 @@ fn print_solved(name: &[u8], due: u32, found: Solved) {
     print_ratio(found.ratio == quotient(found.p, found.q));
 }
 
+// How many of the first 512 entries differ.
+fn differing(first: &[u16], second: &[u16]) -> u32 {
+    let mut found = 0;
+    let mut i = 0;
+    while i < 512 {
+        found = words::one_more(print::half_at(first, i) == print::half_at(second, i), found);
+        i += 1;
+    }
+    found
+}
+
+// Of a list of 512 modules, its pairs, what check says of the sheet, and how many core numbers peel gives otherwise.
+fn confirm(head: Head, members: &[u8], cores: &[u16], shares: &[u16], words: &mut [u32]) {
+    let mut order = [0u16; 512];
+    let mut others = [0u16; 512];
+    let mut work = [0u32; 16384];
+    if head.n != 512 {
+        return;
+    }
+    let verdict = lent::check_4096(words, head, members, shares, &mut work);
+    lent::peel_4096(words, head, &mut order, &mut others, &mut work);
+    print::field(b" pairs=", head.m);
+    print::field(b" check=", verdict.number);
+    print::field(b":", verdict.p);
+    print::field(b"/", verdict.q);
+    print::field(b" cores differ=", differing(cores, &others));
+}
+
 // solve with the first entries of the buffers.
 fn solve_part(
     a: Altered,
@@ -107,9 +139,9 @@ fn solve_part(
 
 // One line: what solve says and writes.
 fn tried_on(name: &[u8], due: u32, head: Head, a: Altered, words: &mut [u32]) {
-    let mut members = [9u8; 8];
-    let mut cores = [9u16; 8];
-    let mut shares = [9u16; 8];
+    let mut members = [9u8; 514];
+    let mut cores = [9u16; 514];
+    let mut shares = [9u16; 4100];
     let mut work = [7u32; 16400];
     let found = solve_part(
         a,
@@ -121,9 +153,10 @@ fn tried_on(name: &[u8], due: u32, head: Head, a: Altered, words: &mut [u32]) {
         &mut work,
     );
     print_solved(name, due, found);
-    print::bytes(b" members=", &members);
-    print::halves(b" cores=", &cores);
-    print::halves(b" shares=", &shares);
+    confirm(head, &members, &cores, &shares, words);
+    print::bytes(b" members=", &members, a.from);
+    print::halves(b" cores=", &cores, a.from);
+    print::halves(b" shares=", &shares, a.from_share);
     print::end_work(&work);
 }
 
@@ -143,80 +176,64 @@ enum Kind {
     Clique,
 }
 
-// Puts a pair in, unless its ends are equal.
-fn put_ends(a: u32, b: u32, desk: &mut [u32]) {
-    if a != b {
-        model::put_pair(desk, a, b, 1);
-    }
+// Two modules.
+struct Two {
+    a: u32,
+    b: u32,
 }
 
-// Pair i of such a list.
-fn put_pair(kind: Kind, i: u32, desk: &mut [u32]) {
-    let state = desk::next(desk::next(std::num::wrapping_add_u32(i, 1)));
-    let other = desk::next(state);
-    let step = std::num::wrapping_add_u32(i, i / 512);
+// Pair i of such a list: some come twice, or are of one module.
+fn pair(kind: Kind, i: u32) -> Two {
+    let state = words::next(words::next(std::num::wrapping_add_u32(i, 1)));
+    let step = std::num::wrapping_add_u32(std::num::wrapping_add_u32(i, 1), i / 512);
     match kind {
-        Kind::Chance => put_ends(state / 65536 % 512, other / 65536 % 512, desk),
-        Kind::Circle => put_ends(i % 512, std::num::wrapping_add_u32(step, 1) % 512, desk),
-        Kind::Clique => put_ends(i % 64, i / 64, desk),
+        Kind::Chance => Two {
+            a: state / 65536 % 512,
+            b: words::next(state) / 65536 % 512,
+        },
+        Kind::Circle => Two {
+            a: i % 512,
+            b: step % 512,
+        },
+        Kind::Clique => Two {
+            a: i % 64,
+            b: i / 64,
+        },
     }
 }
 
-// So many of them.
-fn put_pairs(kind: Kind, many: u32, desk: &mut [u32]) {
+// Adds pair i to the list, where add takes it; the head then.
+fn add_pair(kind: Kind, i: u32, head: Head, words: &mut [u32]) -> Head {
+    let ends = pair(kind, i);
+    let answer = lent::add_4096(words, head, ends.a, ends.b);
+    answer.head
+}
+
+// The head of a list to which so many of them are added.
+fn add_pairs(kind: Kind, many: u32, words: &mut [u32]) -> Head {
+    let mut head = Head { n: 512, m: 0 };
     let mut i = 0;
     while i < many {
-        put_pair(kind, i, desk);
+        head = add_pair(kind, i, head, words);
         i += 1;
     }
+    head
 }
 
-// How many of the first 512 entries differ.
-fn differing(first: &[u16], second: &[u16]) -> u32 {
-    let mut found = 0;
-    let mut i = 0;
-    while i < 512 {
-        found = desk::one_more(print::half_at(first, i) == print::half_at(second, i), found);
-        i += 1;
-    }
-    found
-}
-
-// What check says of the sheet, and how many core numbers peel gives otherwise.
-fn confirm(head: Head, members: &[u8], cores: &[u16], shares: &[u16], desk: &mut [u32]) {
-    let mut order = [0u16; 512];
-    let mut others = [0u16; 512];
-    let mut work = [0u32; 16384];
-    let verdict = lent::check_4096(desk, head, members, shares, &mut work);
-    lent::peel_4096(desk, head, &mut order, &mut others, &mut work);
-    print::field(b" check=", verdict.number);
-    print::field(b":", verdict.p);
-    print::field(b"/", verdict.q);
-    print::field(b" cores differ=", differing(cores, &others));
-}
-
-// One line: a list of m pairs on the desk, with buffers longer than is named.
-fn solve_large(name: &[u8], m: u32, desk: &mut [u32]) {
-    let mut members = [9u8; 514];
-    let mut cores = [9u16; 514];
-    let mut shares = [9u16; 4100];
-    let mut work = [7u32; 16400];
-    let head = Head { n: 512, m };
-    let found = lent::solve_4096(desk, head, &mut members, &mut cores, &mut shares, &mut work);
-    print_solved(name, 0, found);
-    print::field(b" pairs=", m);
-    confirm(head, &members, &cores, &shares, desk);
-    print::bytes(b" members=", &members[506..514]);
-    print::halves(b" cores=", &cores[506..514]);
-    print::halves(b" shares=", &shares[4092..4100]);
-    print::end_work(&work);
-}
-
+// One line: a list of 512 modules, with buffers longer than is named.
 fn large(name: &[u8], kind: Kind, many: u32) {
-    let mut desk = [0u32; 294928];
-    put_pairs(kind, many, &mut desk);
-    let m = model::put_list(&mut desk, 0, 512);
-    solve_large(name, m, &mut desk);
+    let mut words = [0u32; 12288];
+    let head = add_pairs(kind, many, &mut words);
+    let longer = Altered {
+        members: 514,
+        cores: 514,
+        shares: 4100,
+        work: 16400,
+        from: 506,
+        from_share: 4092,
+        ..sound()
+    };
+    tried_on(name, 0, head, longer, &mut words);
 }
 
 // ---- what is tried

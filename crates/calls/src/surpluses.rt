@@ -1,7 +1,8 @@
 // surplus: groups of the list *tail* of document 01, whose found group is 0 to 3, of ratio 6/4.
+use crate::lent;
 use crate::lists;
 use crate::lists::Damage;
-use lent::print;
+use crate::print;
 use verify::Difference;
 
 // What is altered: the list, and the lengths lent.

@@ -1,9 +1,15 @@
-// The public calls that make and change a list, on lent records: start, then add, remove, add_to and remove_from step by step against a plain model.
+// The public calls that make and change a list, on lent records: start; read; then add, remove, add_to and remove_from step by step against a plain model.
+mod desk;
+mod lent;
+mod model;
+mod print;
+mod reads;
 mod runs;
 mod starts;
 mod steps;
 
 fn main() {
     starts::run();
+    reads::run();
     runs::run_all();
 }

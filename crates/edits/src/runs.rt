@@ -1,15 +1,15 @@
 // add and remove in runs of steps. At the end of each run, heads and records that do not agree must be refused by 13 and left as they are. Prints a line
 // a kind of run: steps, those made by add_to or remove_from too, lists compared, answers of each number, and how many differ. Then runs with an
 // altered answer, in which every step or list must differ.
+use crate::desk;
+use crate::desk::DUE;
+use crate::desk::OWN;
+use crate::desk::TALLY;
+use crate::print;
 use crate::steps;
 use crate::steps::Ask;
 use crate::steps::Plan;
 use crate::steps::Run;
-use lent::desk;
-use lent::desk::DUE;
-use lent::desk::OWN;
-use lent::desk::TALLY;
-use lent::print;
 use records::Head;
 
 // A head that does not agree with its list, for ways 0 to 3; else the head itself.

@@ -1,6 +1,6 @@
 // start, of every number of modules from 0 to 70,000, and of the greatest: 1 to 512 are taken, all others refused by 2 with the head 0,0.
-use lent::desk;
-use lent::print;
+use crate::desk;
+use crate::print;
 
 // Whether start answers n as is due.
 fn as_due(n: u32) -> bool {

@@ -1,12 +1,13 @@
 // A step of add or remove, on the plain model and on the list. Steps are drawn: pairs of the list and others, in either order, some with numbers out of range
 // or a module with itself. The answer must be the model's number and head; the records are compared with the model's in rising order, and those past them with
 // what they were before (0,0 for one that remove has freed). On lists of 100 records the step is made by add_to or remove_from too, on a second list.
+use crate::desk;
+use crate::desk::DUE;
+use crate::desk::OWN;
+use crate::desk::TALLY;
+use crate::lent;
+use crate::model;
 use kandurzo::Changed;
-use lent::desk;
-use lent::desk::DUE;
-use lent::desk::OWN;
-use lent::desk::TALLY;
-use lent::model;
 use records::Head;
 
 // How a run goes: modules, records of the list, steps of adds alone, steps of both, every how many steps the records are compared, and what is altered

@@ -1,0 +1,36 @@
+// Records written to words, in the layout of `records`, and what is counted and drawn.
+
+// The next random state, never 0 after one that is not (xorshift of Marsaglia, 32 bits).
+pub(crate) fn next(state: u32) -> u32 {
+    let x = state ^ (state << 13);
+    let y = x ^ (x >> 17);
+    y ^ (y << 5)
+}
+
+// x + y.
+pub(crate) fn plus(x: usize, y: usize) -> usize {
+    std::num::wrapping_add_usize(x, y)
+}
+
+// Writes entry i, where there is one.
+fn put_word(words: &mut [u32], i: usize, x: u32) {
+    if i < words.len() {
+        words[i] = x;
+    }
+}
+
+// Writes record j.
+pub(crate) fn put_record(words: &mut [u32], j: usize, a: u32, b: u32) {
+    let i = plus(j, j);
+    put_word(words, i, a);
+    put_word(words, plus(i, 1), b);
+}
+
+// One more, unless they are the same.
+pub(crate) fn one_more(same: bool, found: u32) -> u32 {
+    if same {
+        found
+    } else {
+        std::num::wrapping_add_u32(found, 1)
+    }
+}

@@ -1,3 +1,0 @@
--- Laws behind the calls on records kept in words; each file opens with what it gives.
-pub mod Walk
-pub mod Own
