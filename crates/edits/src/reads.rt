@@ -137,17 +137,23 @@ fn tried(due: u32, len: u32, made: File) {
     print::end_work(&work);
 }
 
-// A file of so many modules and pairs, each on its line.
-fn full(n: u32, m: u32) -> File {
+// How a file is made, by its five numbers.
+fn made(n: u32, m: u32, lines: u32, again: u32, more: u32) -> File {
     File {
         n,
         m,
-        lines: m,
-        again: 0,
-        more: 0,
+        lines,
+        again,
+        more,
     }
 }
 
+// A file of so many modules and pairs, each on its line.
+fn full(n: u32, m: u32) -> File {
+    made(n, m, m, 0, 0)
+}
+
+// Files that are accepted.
 fn taken() {
     tried(0, 16384, full(512, 100));
     tried(0, 16400, full(512, 99));
@@ -156,102 +162,49 @@ fn taken() {
     tried(0, 16384, full(512, 0));
 }
 
-fn refused() {
-    let s = full(512, 100);
+// Files refused by what their first two lines say.
+fn refused_head() {
     tried(2, 16384, full(0, 0));
     tried(2, 16400, full(513, 100));
     tried(2, 16384, full(513, 101));
     tried(11, 16384, full(512, 101));
-    tried(
-        11,
-        16400,
-        File {
-            m: 101,
-            lines: 0,
-            ..s
-        },
-    );
-    tried(11, 16384, File { m: 101, ..s });
+    tried(11, 16400, made(512, 101, 0, 0, 0));
+    tried(11, 16384, made(512, 101, 100, 0, 0));
     tried(11, 16384, full(256, 101));
-    tried(
-        11,
-        16384,
-        File {
-            m: 101,
-            lines: 50,
-            again: 51,
-            more: 9,
-            ..s
-        },
-    );
+    tried(11, 16384, made(512, 101, 50, 51, 9));
     tried(11, 16384, full(512, 4096));
     tried(3, 16384, full(512, 4097));
-    tried(
-        3,
-        16384,
-        File {
-            m: 9999,
-            lines: 0,
-            ..s
-        },
-    );
-    tried(
-        1,
-        16384,
-        File {
-            m: 10000,
-            lines: 0,
-            ..s
-        },
-    );
-    tried(1, 16384, File { lines: 99, ..s });
-    tried(
-        1,
-        16384,
-        File {
-            lines: 99,
-            more: 1,
-            ..s
-        },
-    );
+    tried(3, 16384, made(512, 9999, 0, 0, 0));
+    tried(1, 16384, made(512, 10000, 0, 0, 0));
+}
+
+// Files refused by their pair lines, or by what follows them.
+fn refused_lines() {
+    tried(1, 16384, made(512, 100, 99, 0, 0));
+    tried(1, 16384, made(512, 100, 99, 0, 1));
     tried(4, 16384, full(256, 100));
     tried(4, 16400, full(300, 100));
-    tried(
-        10,
-        16384,
-        File {
-            lines: 99,
-            again: 1,
-            ..s
-        },
-    );
-    tried(6, 16384, File { more: 1, ..s });
-    tried(6, 16400, File { lines: 101, ..s });
-    tried(6, 16384, File { again: 1, ..s });
+    tried(10, 16384, made(512, 100, 99, 1, 0));
+    tried(6, 16384, made(512, 100, 100, 0, 1));
+    tried(6, 16400, made(512, 100, 101, 0, 0));
+    tried(6, 16384, made(512, 100, 100, 1, 0));
 }
 
 // The work buffer is too short, whatever the file.
 fn short() {
-    let s = full(512, 100);
-    tried(12, 16383, s);
+    tried(12, 16383, full(512, 100));
     tried(12, 16383, full(512, 0));
     tried(12, 16383, full(513, 0));
     tried(12, 16383, full(512, 101));
-    tried(
-        12,
-        16383,
-        File {
-            m: 4097,
-            lines: 0,
-            ..s
-        },
-    );
-    tried(12, 16383, File { lines: 99, ..s });
-    tried(12, 0, s);
+    tried(12, 16383, made(512, 4097, 0, 0, 0));
+    tried(12, 16383, made(512, 100, 99, 0, 0));
+    tried(12, 0, full(512, 100));
 }
 
+// All these files.
 pub(crate) fn run() {
     taken();
-    refused();
+    refused_head();
+    refused_lines();
     short();
 }

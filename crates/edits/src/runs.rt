@@ -211,7 +211,8 @@ fn one(name: &[u8], plan: Plan) {
     line(name, &tally);
 }
 
-pub(crate) fn run_all() {
+// Runs on 4,096 records.
+fn large_runs() {
     let sizes = Plan {
         n: 512,
         len: 4096,
@@ -220,6 +221,24 @@ pub(crate) fn run_all() {
         every: 8,
         altered: 0,
     };
+    every_size(b"edits, 4,096 records, 2 to 512 modules", sizes);
+}
+
+// The longest runs: the list is filled.
+fn filled_run(name: &[u8], n: u32, adds: u32) {
+    let long = Plan {
+        n,
+        len: 4096,
+        adds,
+        mixed: 2000,
+        every: 64,
+        altered: 0,
+    };
+    one(name, long);
+}
+
+// Runs on 100 records.
+fn small_runs() {
     let filled = Plan {
         n: 40,
         len: 100,
@@ -228,33 +247,30 @@ pub(crate) fn run_all() {
         every: 1,
         altered: 0,
     };
-    let long = Plan {
-        adds: 9000,
-        mixed: 2000,
-        every: 64,
-        ..sizes
-    };
+    every_size(b"edits, 100 records filled, 2 to 40 modules", filled);
+}
+
+// A run with one thing altered before it is compared.
+fn altered_run(name: &[u8], altered: u32) {
     let few = Plan {
         n: 20,
+        len: 100,
         adds: 100,
-        ..filled
+        mixed: 100,
+        every: 1,
+        altered,
     };
-    every_size(b"edits, 4,096 records, 2 to 512 modules", sizes);
-    every_size(b"edits, 100 records filled, 2 to 40 modules", filled);
-    one(b"edits, 4,096 records filled, 512 modules", long);
-    one(
-        b"edits, 4,096 records filled, 100 modules",
-        Plan {
-            n: 100,
-            adds: 20000,
-            ..long
-        },
-    );
-    one(b"edits, number altered", Plan { altered: 1, ..few });
-    one(b"edits, count altered", Plan { altered: 2, ..few });
-    one(b"edits, records altered", Plan { altered: 3, ..few });
-    one(
-        b"edits, number of add_to altered",
-        Plan { altered: 4, ..few },
-    );
+    one(name, few);
+}
+
+// All runs.
+pub(crate) fn run_all() {
+    large_runs();
+    small_runs();
+    filled_run(b"edits, 4,096 records filled, 512 modules", 512, 9000);
+    filled_run(b"edits, 4,096 records filled, 100 modules", 100, 20000);
+    altered_run(b"edits, number altered", 1);
+    altered_run(b"edits, count altered", 2);
+    altered_run(b"edits, records altered", 3);
+    altered_run(b"edits, number of add_to altered", 4);
 }

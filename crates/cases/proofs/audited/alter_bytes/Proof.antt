@@ -1,6 +1,6 @@
 -- `alter_bytes` is safe and ends. Assumes nothing.
 use mathlib.Core.Path.{_≡_}
-use Prim.Native.Nat.{_≤_, _-_}
+use Prim.Native.Nat.{_-_}
 use lib.ListN.{length}
 use borrow.Author.Needs.{needs}
 use Rattle.cases.proofs.audited.alter_bytes.Statement.{statement}
