@@ -22,13 +22,14 @@ use Rattle.records.specs.Records.{held-list, agrees}
 use Rattle.kandurzo.specs.declared.Solved.{Solved}
 use Rattle.kandurzo.specs.Buffers.{buffer, any-short, work-words, work-left}
 use Rattle.kandurzo.specs.Gate.{gate-number, gate-of}
-use Rattle.kandurzo.specs.Solving.{solve-buffers, solve-call-causes, No-split, Unsplit, declined, Solve-call, Solve-on, Records-in-order}
+use Rattle.kandurzo.specs.Solving.{solve-buffers, solve-call-causes, No-split, Unsplit, declined, Solve-call, Solve-on}
+use Rattle.kandurzo.specs.Promise.{Unsplit-never, Records-in-order}
 use Rattle.kandurzo.proofs.Gates.{none-short, gate-open, the-gate, the-words, passed, words-list, words-left}
 use Rattle.kandurzo.proofs.Taken.{held-is-list}
 
 -- a densest group has a split at its size whose greatest load is its inside count
-pub unsplit-never : (g : Pairs) → is-list g ≡ true → Unsplit g → ⊥
-unfolding No-split Split-densest
+pub unsplit-never : Unsplit-never
+unfolding Unsplit-never No-split Split-densest
 unsplit-never g l u = let s = split-densest g (u .group) l (u .densest) in let e = s .2 in omega (arith, u .no-split (s .0) (s .1), e)
 
 module _ (h : Head) (members cores shares work : ℕ) (none : any-short (solve-buffers h members cores shares work) ≡ false) where
@@ -49,7 +50,7 @@ module _ (h : Head) (ps : List Pair) (members cores shares work : List ℕ) wher
   module _ {r : Solved} {members′ cores′ shares′ work′ : List ℕ}
       (on : Solve-on h gate members cores shares (the-words h ps short work) r members′ cores′ shares′ work′) where
     pub solve-call : Solve-call h ps members cores shares work r members′ cores′ shares′ work′
-    unfolding solve-call-causes gate-of gate-number
+    unfolding Unsplit-never solve-call-causes gate-of gate-number
     solve-call =
         let left = on .left ∙ words-left h ps short work (solve-long h _ _ _ _) ∙ ap (λ (k : ℕ). work-left k work) (sym (on .number)) in
         by-test (eqb gate 0)

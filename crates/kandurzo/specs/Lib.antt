@@ -7,3 +7,5 @@ pub mod Gate
 pub mod Peeling
 pub mod Judging
 pub mod Solving
+pub mod Promise
+pub mod Keeping

@@ -7,17 +7,13 @@
 --   Handed                   what is handed out; free are only the shares of pairs inside the core of order K
 --   Solve-call               the call
 --   Solve-on                 the same on words, once the records are out
---   Compare-alike            two records' floats compare as their ratios do
---   Records-in-order         so the records of any two calls; the theorem is records-in-order
 -- Assumes nothing: these are definitions.
 use mathlib.Core.Path.{_≡_}
 use mathlib.Core.Bool.{true, not}
 use mathlib.Core.List.{List, [], _∷_}
 use mathlib.Core.Logic.{_↔_}
-use Prim.Native.Nat.{ℕ, _*_, _<_}
-use lib.Dec.{ltb, leb, eqb}
+use Prim.Native.Nat.{ℕ, _<_}
 use lib.ListN.{length, take, drop}
-use lib.Ieee.{lt, le, eq}
 use Rattle.theory.specs.Lists.{Pairs}
 use Rattle.theory.specs.Groups.{size, inside, Densest, Found}
 use Rattle.theory.specs.Cores.{core, core-numbers}
@@ -93,15 +89,3 @@ pub record Solve-on (h : Head) (gate : ℕ) (members cores shares work : List �
   pub handed : gate ≡ 0 → Handed (laid-list (h .n) (h .m) work) members cores shares r members′ cores′ shares′
   pub refused : (gate ≡ 0 → ⊥) → (r ≡ declined gate) × (members′ ≡ members) × (cores′ ≡ cores) × (shares′ ≡ shares)
   pub left : work′ ≡ work-left gate work
-
--- <, ≤ and = of two records' floats are those of the cross products
-pub record Compare-alike (r s : Solved) : Type 0 where
-  pub less : lt (r .ratio) (s .ratio) ≡ ltb (r .p * s .q) (s .p * r .q)
-  pub at-most : le (r .ratio) (s .ratio) ≡ leb (r .p * s .q) (s .p * r .q)
-  pub equal : eq (r .ratio) (s .ratio) ≡ eqb (r .p * s .q) (s .p * r .q)
-
--- of one list or of two: whatever two calls return that refuse nothing
-unfoldable pub Records-in-order : Type 0
-Records-in-order =
-    (h i : Head) (ps qs : List Pair) (ms cs xs ws ms′ cs′ xs′ ws′ ns ds ys vs ns′ ds′ ys′ vs′ : List ℕ) (r s : Solved) →
-    Solve-call h ps ms cs xs ws r ms′ cs′ xs′ ws′ → Solve-call i qs ns ds ys vs s ns′ ds′ ys′ vs′ → r .number ≡ 0 → s .number ≡ 0 → Compare-alike r s

@@ -1,0 +1,131 @@
+-- What the planner is promised of the list that start, add, remove and read make. A statement is a type; proofs/Promises.antt has a theorem for
+-- each, of the same name in small letters. Document 01: no pair is held twice, and 2,5 is the same pair as 5,2; the order in which pairs arrived
+-- leaves no trace in the first M records.
+--   Held-once                            no pair is held twice
+--   Pair-added, Add-holds                     what add accepts is held afterwards, and nothing else changed
+--   Pair-removed, Remove-drops                what remove accepts is no longer held, and nothing else changed
+--   Thirteen-never-follows               head and list agree after every taken call
+--   Adds, Arrival-traceless, Any-order-taken    adds in a row; in whatever order they come
+--   Records-alone, Add-undone            lists that hold the same pairs; a pair added and removed
+--   Every-file-read, Read-exact          every file of different pairs is taken; what is accepted are exactly the pairs named
+-- Assumes nothing: these are definitions.
+use mathlib.Core.Path.{_≡_}
+use mathlib.Core.Bool.{true, _&&_, _||_, not}
+use mathlib.Core.List.{List, [], _∷_}
+use Prim.Native.Nat.{ℕ, _+_, _≤_, _<_}
+use lib.ListN.{length, getD, take, drop}
+use Rattle.theory.specs.Basics.{all}
+use Rattle.theory.specs.Lists as Lists
+use Rattle.pairs.specs.Held.{same-ends, is-held, smaller-first-pair}
+use Rattle.pairfile.specs.File.{read-file, file-of}
+use Rattle.pairfile.specs.Promise.{times-named, Names, names-two, Different, Accepted}
+use Rattle.records.specs.declared.Pair.{Pair}
+use Rattle.records.specs.declared.Head.{Head}
+use Rattle.records.specs.Records.{held-list, agrees, blank}
+use Rattle.kandurzo.specs.declared.Changed.{Changed}
+use Rattle.kandurzo.specs.Listing.{head-of, started, Add-says, Remove-says}
+use Rattle.kandurzo.specs.Reading.{Read-call}
+
+-- ---- one pair more, one pair less
+
+-- the pair that the record at a place stands for, the smaller module first
+unfoldable pub pair-at : List Pair → (i : ℕ) → Lists.Pair
+pair-at ps i = smaller-first-pair (getD ps i blank .a) (getD ps i blank .b)
+
+-- NO PAIR IS HELD TWICE: where head and list agree, two places with the same pair are one place
+unfoldable pub Held-once : Type 0
+Held-once =
+    (h : Head) (ps : List Pair) (i j : ℕ) → agrees h ps ≡ true → i < h .m → j < h .m → same-ends (pair-at ps i) (pair-at ps j) ≡ true → i ≡ j
+
+-- the pair of a and b is held now, and otherwise what was held
+pub record Pair-added (h : Head) (ps : List Pair) (a b : ℕ) (h′ : Head) (ps′ : List Pair) : Type 0 where
+  pub modules : h′ .n ≡ h .n
+  pub pairs : h′ .m ≡ h .m + 1
+  pub held : (p : Lists.Pair) →
+      is-held p (held-list h′ ps′ .pairs) ≡ (same-ends p (smaller-first-pair a b) || is-held p (held-list h ps .pairs))
+  -- records past the held ones stay
+  pub long : length ps′ ≡ length ps
+  pub past : drop (h′ .m) ps′ ≡ drop (h′ .m) ps
+
+-- WHAT ADD ACCEPTS IS HELD AFTERWARDS, AND NOTHING ELSE CHANGED
+unfoldable pub Add-holds : Type 0
+Add-holds = (h : Head) (ps : List Pair) (a b : ℕ) (r : Changed) (ps′ : List Pair) → Add-says h ps a b r ps′ → r .number ≡ 0 → Pair-added h ps a b (r .head) ps′
+
+-- the pair of a and b is no longer held, and otherwise what was held
+pub record Pair-removed (h : Head) (ps : List Pair) (a b : ℕ) (h′ : Head) (ps′ : List Pair) : Type 0 where
+  pub modules : h′ .n ≡ h .n
+  pub pairs : h′ .m + 1 ≡ h .m
+  pub held : (p : Lists.Pair) →
+      is-held p (held-list h′ ps′ .pairs) ≡ (not (same-ends p (smaller-first-pair a b)) && is-held p (held-list h ps .pairs))
+  -- the record freed becomes 0,0; records past the held ones stay
+  pub freed : getD ps′ (h′ .m) blank ≡ blank
+  pub long : length ps′ ≡ length ps
+  pub past : drop (h .m) ps′ ≡ drop (h .m) ps
+
+-- WHAT REMOVE ACCEPTS IS NO LONGER HELD, AND NOTHING ELSE CHANGED
+unfoldable pub Remove-drops : Type 0
+Remove-drops =
+    (h : Head) (ps : List Pair) (a b : ℕ) (r : Changed) (ps′ : List Pair) → Remove-says h ps a b r ps′ → r .number ≡ 0 → Pair-removed h ps a b (r .head) ps′
+
+-- 13 NEVER FOLLOWS A TAKEN CALL: head and list agree then
+pub record Thirteen-never-follows : Type 0 where
+  pub start : (n : ℕ) (ps : List Pair) → started n .number ≡ 0 → agrees (started n .head) ps ≡ true
+  pub add : (h : Head) (ps : List Pair) (a b : ℕ) (r : Changed) (ps′ : List Pair) →
+      Add-says h ps a b r ps′ → r .number ≡ 0 → agrees (r .head) ps′ ≡ true
+  pub remove : (h : Head) (ps : List Pair) (a b : ℕ) (r : Changed) (ps′ : List Pair) →
+      Remove-says h ps a b r ps′ → r .number ≡ 0 → agrees (r .head) ps′ ≡ true
+  pub read : (bytes : List ℕ) (ps : List Pair) (work : List ℕ) (r : Changed) (ps′ : List Pair) (work′ : List ℕ) →
+      Read-call read-file bytes ps work r ps′ work′ → r .number ≡ 0 → agrees (r .head) ps′ ≡ true
+
+-- ---- the order of arrival
+
+-- adds in a row, each of them taken: head and list before the first, the pairs in the order in which they come, head and list after the last
+unfoldable pub Adds : Head → List Pair → (arrivals : List Lists.Pair) → Head → List Pair → Type 0
+Adds h ps [] h′ ps′ = (h′ ≡ h) × (ps′ ≡ ps)
+Adds h ps (c ∷ cs) h′ ps′ =
+    (r : Changed) × (qs : List Pair) × Add-says h ps (c .a) (c .b) r qs × (r .number ≡ 0) × Adds (r .head) qs cs h′ ps′
+
+-- the same pairs arrive as often, in any order and whichever module is named first
+unfoldable pub Same-arrivals : (cs ds : List Lists.Pair) → Type 0
+Same-arrivals cs ds = (p : Lists.Pair) → times-named p cs ≡ times-named p ds
+
+-- THE ORDER OF ARRIVAL LEAVES NO TRACE: the same pairs added in any two orders leave the same head and the same records
+unfoldable pub Arrival-traceless : Type 0
+Arrival-traceless =
+    (h : Head) (ps : List Pair) (cs ds : List Lists.Pair) (i j : Head) (qs rs : List Pair) → agrees h ps ≡ true → Same-arrivals cs ds →
+    Adds h ps cs i qs → Adds h ps ds j rs → (i ≡ j) × (qs ≡ rs)
+
+-- NOR DOES IT REFUSE ANY: pairs that are taken in one order are taken in every order
+unfoldable pub Any-order-taken : Type 0
+Any-order-taken =
+    (h : Head) (ps : List Pair) (cs ds : List Lists.Pair) (i : Head) (qs : List Pair) → agrees h ps ≡ true → Same-arrivals cs ds →
+    Adds h ps cs i qs → Adds h ps ds i qs
+
+-- LISTS THAT HOLD THE SAME PAIRS HAVE THE SAME HELD RECORDS, whatever calls made them
+unfoldable pub Records-alone : Type 0
+Records-alone =
+    (h k : Head) (ps qs : List Pair) → agrees h ps ≡ true → agrees k qs ≡ true →
+    ((p : Lists.Pair) → is-held p (held-list h ps .pairs) ≡ is-held p (held-list k qs .pairs)) → take (h .m) ps ≡ take (k .m) qs
+
+-- A PAIR ADDED CAN BE REMOVED AGAIN, which leaves head and held records as they were
+unfoldable pub Add-undone : Type 0
+Add-undone =
+    (h : Head) (ps : List Pair) (a b : ℕ) (r s : Changed) (qs rs : List Pair) → Add-says h ps a b r qs → r .number ≡ 0 →
+    Remove-says (r .head) qs a b s rs → (s .number ≡ 0) × (s .head ≡ h) × (take (h .m) rs ≡ take (h .m) ps)
+
+-- ---- read
+
+-- EVERY FILE OF DIFFERENT PAIRS IS TAKEN, in whatever order they come and whichever module stands first on a line, and the list then holds these pairs
+unfoldable pub Every-file-read : Type 0
+Every-file-read =
+    (n : ℕ) (lines : List Lists.Pair) (ps : List Pair) (work : List ℕ) (r : Changed) (ps′ : List Pair) (work′ : List ℕ) →
+    1 ≤ n → n ≤ 512 → length lines ≤ 4096 → length lines ≤ length ps → 16384 ≤ length work → all (names-two n) lines ≡ true → Different lines →
+    Read-call read-file (file-of n lines) ps work r ps′ work′ →
+    (r .number ≡ 0) × (r .head ≡ head-of n (length lines)) × Names lines (held-list (r .head) ps′ .pairs)
+
+-- WHAT READ ACCEPTS ARE EXACTLY THE PAIRS NAMED: the bytes are the file of the list that is held then; records past it stay
+unfoldable pub Read-exact : Type 0
+Read-exact =
+    (bytes : List ℕ) (ps : List Pair) (work : List ℕ) (r : Changed) (ps′ : List Pair) (work′ : List ℕ) →
+    Read-call read-file bytes ps work r ps′ work′ → r .number ≡ 0 →
+    Accepted (length ps) bytes (held-list (r .head) ps′) × (drop (r .head .m) ps′ ≡ drop (r .head .m) ps)

@@ -1,0 +1,172 @@
+-- What the planner is promised of the calls. A statement is a type; proofs/Promises.antt has a theorem for each, of the same name in small letters.
+-- A statement speaks of a call by what its contract in src/lib.rt says of it (Add-says, Peel-call and so on). The planner's demands:
+--   1. Every list, with buffers of the stated sizes, gets its group, core numbers and load sheet; a call that meets a refusal condition gets that
+--      number and changes no head, list or answer buffer.
+--   2. The group is the largest of all groups of greatest ratio; core numbers, leaving order, surplus and file reading are those of document 01.
+--   3. What solve hands out, and whatever check accepts, is best among all groups and all splits (theory, specs/Promise.antt).
+-- The statements:
+--   every list    Lent; Peel-served, Every-list-peeled; Solve-served, Every-list-solved; Every-list-judged, Every-list-compared
+--   refusals      Refusals-keep; Unsplit-never, Fifteen-never
+--   answers       Exact-peel, Peel-exact; Best-sheet, Check-exact, Solve-accepted; Compare-alike, Records-in-order
+-- Those of start, add, remove and read are in Keeping. Assumes nothing: these are definitions.
+use mathlib.Core.Path.{_≡_}
+use mathlib.Core.Bool.{true}
+use mathlib.Core.List.{List}
+use mathlib.Core.Logic.{_↔_}
+use mathlib.Core.Option.{some}
+use Prim.Native.Nat.{ℕ, _*_, _≤_, _<_}
+use lib.Dec.{ltb, leb, eqb}
+use lib.ListN.{length, getD, take}
+use lib.Ieee.{lt, le, eq}
+use Rattle.theory.specs.Lists.{Pairs, is-list}
+use Rattle.theory.specs.Groups.{size, is-group}
+use Rattle.theory.specs.Leaving.{leaver, leaving, remainder}
+use Rattle.theory.specs.Cores.{core-numbers}
+use Rattle.theory.specs.Splits.{is-split}
+use Rattle.theory.specs.Check.{check-number}
+use Rattle.theory.specs.Surplus.{surplus-number}
+use Rattle.theory.specs.Promise.{Both-best, Largest-order}
+use Rattle.verify.specs.declared.Verdict.{Verdict}
+use Rattle.verify.specs.declared.Difference.{Difference}
+use Rattle.pairfile.specs.File.{read-file}
+use Rattle.pairfile.specs.Promise.{ones}
+use Rattle.records.specs.declared.Pair.{Pair}
+use Rattle.records.specs.declared.Head.{Head}
+use Rattle.records.specs.Records.{held-list}
+use Rattle.kandurzo.specs.declared.Changed.{Changed}
+use Rattle.kandurzo.specs.declared.Solved.{Solved}
+use Rattle.kandurzo.specs.Buffers.{in-front, cleared}
+use Rattle.kandurzo.specs.Listing.{head-of, as-records, Add-says, Remove-says}
+use Rattle.kandurzo.specs.Reading.{Read-call}
+use Rattle.kandurzo.specs.Peeling.{Peel-call}
+use Rattle.kandurzo.specs.Solving.{Unsplit, Handed, Solve-call}
+use Rattle.kandurzo.specs.Judging.{Check-call, Surplus-call}
+
+-- ---- every list
+
+-- a list g is lent: the head has its N and M, and the records of its pairs stand in front of the lent list
+pub record Lent (g : Pairs) (h : Head) (ps : List Pair) : Type 0 where
+  pub list : is-list g ≡ true
+  -- each pair counts once, as in all of document 01
+  pub once : ones (g .pairs) ≡ true
+  pub head : h ≡ head-of (g .n) (length (g .pairs))
+  pub records : take (length (g .pairs)) ps ≡ as-records (g .pairs)
+
+-- a list is peeled: no refusal; in front of the buffers stand its leaving order and core numbers; the work buffer is cleared
+pub record Peel-served (g : Pairs) (order cores work : List ℕ) (r : ℕ) (order′ cores′ work′ : List ℕ) : Type 0 where
+  pub number : r ≡ 0
+  pub order-is : order′ ≡ in-front (leaving g) order
+  pub cores-are : cores′ ≡ in-front (core-numbers g) cores
+  pub left : work′ ≡ cleared work
+
+-- PEEL SERVES EVERY LIST that is lent with buffers of the stated sizes
+unfoldable pub Every-list-peeled : Type 0
+Every-list-peeled =
+    (g : Pairs) (h : Head) (ps : List Pair) (order cores work : List ℕ) (r : ℕ) (order′ cores′ work′ : List ℕ) →
+    Lent g h ps → g .n ≤ length order → g .n ≤ length cores → 16384 ≤ length work →
+    Peel-call h ps order cores work r order′ cores′ work′ → Peel-served g order cores work r order′ cores′ work′
+
+-- a list is served: no refusal; its found group, core numbers and load sheet are handed out; the work buffer is cleared
+pub record Solve-served (g : Pairs) (members cores shares work : List ℕ) (r : Solved) (members′ cores′ shares′ work′ : List ℕ) : Type 0 where
+  pub number : r .number ≡ 0
+  pub handed : Handed g members cores shares r members′ cores′ shares′
+  pub left : work′ ≡ cleared work
+
+-- SOLVE SERVES EVERY LIST that is lent with buffers of the stated sizes
+unfoldable pub Every-list-solved : Type 0
+Every-list-solved =
+    (g : Pairs) (h : Head) (ps : List Pair) (members cores shares work : List ℕ) (r : Solved) (members′ cores′ shares′ work′ : List ℕ) →
+    Lent g h ps → g .n ≤ length members → g .n ≤ length cores → length (g .pairs) ≤ length shares → 16384 ≤ length work →
+    Solve-call h ps members cores shares work r members′ cores′ shares′ work′ → Solve-served g members cores shares work r members′ cores′ shares′ work′
+
+-- CHECK LOOKS AT THE SHEET OF EVERY SUCH LIST: neither 13 nor 12 comes, and 7, 8, 9 and 0 are said of the list, the group and the shares that are lent
+unfoldable pub Every-list-judged : Type 0
+Every-list-judged =
+    (g : Pairs) (h : Head) (ps : List Pair) (members shares work : List ℕ) (v : Verdict) (work′ : List ℕ) →
+    Lent g h ps → g .n ≤ length members → length (g .pairs) ≤ length shares → 16384 ≤ length work →
+    Check-call h ps members shares work v work′ →
+    (v .number ≡ check-number g (take (g .n) members) (take (length (g .pairs)) shares)) × (work′ ≡ cleared work)
+
+-- AND SURPLUS AT THE TWO GROUPS: 7 or 0
+unfoldable pub Every-list-compared : Type 0
+Every-list-compared =
+    (g : Pairs) (h : Head) (ps : List Pair) (t s : List ℕ) (d : Difference) → Lent g h ps → g .n ≤ length t → g .n ≤ length s →
+    Surplus-call h ps t s d → d .number ≡ surplus-number g (take (g .n) t) (take (g .n) s)
+
+-- ---- refusals
+
+-- A REFUSED CALL CHANGES NO HEAD, LIST OR ANSWER BUFFER (start has none of them; check and surplus write in none)
+pub record Refusals-keep : Type 0 where
+  pub add : (h : Head) (ps : List Pair) (a b : ℕ) (r : Changed) (ps′ : List Pair) →
+      Add-says h ps a b r ps′ → (r .number ≡ 0 → ⊥) → (r .head ≡ h) × (ps′ ≡ ps)
+  pub remove : (h : Head) (ps : List Pair) (a b : ℕ) (r : Changed) (ps′ : List Pair) →
+      Remove-says h ps a b r ps′ → (r .number ≡ 0 → ⊥) → (r .head ≡ h) × (ps′ ≡ ps)
+  pub read : (bytes : List ℕ) (ps : List Pair) (work : List ℕ) (r : Changed) (ps′ : List Pair) (work′ : List ℕ) →
+      Read-call read-file bytes ps work r ps′ work′ → (r .number ≡ 0 → ⊥) → ps′ ≡ ps
+  pub peel : (h : Head) (ps : List Pair) (order cores work : List ℕ) (r : ℕ) (order′ cores′ work′ : List ℕ) →
+      Peel-call h ps order cores work r order′ cores′ work′ → (r ≡ 0 → ⊥) → (order′ ≡ order) × (cores′ ≡ cores)
+  pub solve : (h : Head) (ps : List Pair) (members cores shares work : List ℕ) (r : Solved) (members′ cores′ shares′ work′ : List ℕ) →
+      Solve-call h ps members cores shares work r members′ cores′ shares′ work′ → (r .number ≡ 0 → ⊥) →
+      (members′ ≡ members) × (cores′ ≡ cores) × (shares′ ≡ shares)
+
+-- the condition of 15 never holds
+unfoldable pub Unsplit-never : Type 0
+Unsplit-never = (g : Pairs) → is-list g ≡ true → Unsplit g → ⊥
+
+-- 15 NEVER COMES
+unfoldable pub Fifteen-never : Type 0
+Fifteen-never =
+    (h : Head) (ps : List Pair) (members cores shares work : List ℕ) (r : Solved) (members′ cores′ shares′ work′ : List ℕ) →
+    Solve-call h ps members cores shares work r members′ cores′ shares′ work′ → r .number ≡ 15 → ⊥
+
+-- ---- answers
+
+-- what a leaving order and core numbers are
+pub record Exact-peel (g : Pairs) (order cores : List ℕ) : Type 0 where
+  -- at each place stands the leaver among those whom the ones before it have left behind
+  pub leavers : (i : ℕ) → i < g .n → leaver g (remainder g i) ≡ some (getD order i 0)
+  -- each module has its place
+  pub everyone : (m : ℕ) → m < g .n → (i : ℕ) × (i < g .n) × (getD order i 0 ≡ m)
+  -- each core number is the largest k such that the module belongs to a group in which each member has at least k pairs inside
+  pub orders : (m : ℕ) → m < g .n → Largest-order g m (getD cores m 0)
+
+-- WHAT PEEL WRITES are the leavers and the core numbers of document 01
+unfoldable pub Peel-exact : Type 0
+Peel-exact =
+    (h : Head) (ps : List Pair) (order cores work : List ℕ) (r : ℕ) (order′ cores′ work′ : List ℕ) →
+    Peel-call h ps order cores work r order′ cores′ work′ → r ≡ 0 → Exact-peel (held-list h ps) order′ cores′
+
+-- a group than which none is denser, and a split at its size than which none has a lower greatest load over its share size
+pub record Best-sheet (g : Pairs) (s xs : List ℕ) : Type 0 where
+  pub group : is-group g s ≡ true
+  pub split : is-split g (size s) xs ≡ true
+  pub best : Both-best g s (size s) xs
+
+-- CHECK ACCEPTS WHATEVER IS BEST, AND NOTHING ELSE
+unfoldable pub Check-exact : Type 0
+Check-exact =
+    (g : Pairs) (h : Head) (ps : List Pair) (members shares work : List ℕ) (v : Verdict) (work′ : List ℕ) →
+    Lent g h ps → g .n ≤ length members → length (g .pairs) ≤ length shares → 16384 ≤ length work →
+    Check-call h ps members shares work v work′ →
+    (v .number ≡ 0) ↔ Best-sheet g (take (g .n) members) (take (length (g .pairs)) shares)
+
+-- WHAT SOLVE HANDS OUT CHECK ACCEPTS, with the same P and Q
+unfoldable pub Solve-accepted : Type 0
+Solve-accepted =
+    (h : Head) (ps : List Pair) (members cores shares work : List ℕ) (r : Solved) (members′ cores′ shares′ work′ : List ℕ)
+    (again : List ℕ) (v : Verdict) (again′ : List ℕ) →
+    Solve-call h ps members cores shares work r members′ cores′ shares′ work′ → r .number ≡ 0 →
+    16384 ≤ length again → Check-call h ps members′ shares′ again v again′ →
+    (v .number ≡ 0) × (v .p ≡ r .p) × (v .q ≡ r .q)
+
+-- <, ≤ and = of two records' floats are those of the cross products
+pub record Compare-alike (r s : Solved) : Type 0 where
+  pub less : lt (r .ratio) (s .ratio) ≡ ltb (r .p * s .q) (s .p * r .q)
+  pub at-most : le (r .ratio) (s .ratio) ≡ leb (r .p * s .q) (s .p * r .q)
+  pub equal : eq (r .ratio) (s .ratio) ≡ eqb (r .p * s .q) (s .p * r .q)
+
+-- TWO RECORDS' FLOATS ARE IN THE ORDER OF THEIR RATIOS, of one list or of two: whatever two calls return that refuse nothing
+unfoldable pub Records-in-order : Type 0
+Records-in-order =
+    (h i : Head) (ps qs : List Pair) (ms cs xs ws ms′ cs′ xs′ ws′ ns ds ys vs ns′ ds′ ys′ vs′ : List ℕ) (r s : Solved) →
+    Solve-call h ps ms cs xs ws r ms′ cs′ xs′ ws′ → Solve-call i qs ns ds ys vs s ns′ ds′ ys′ vs′ → r .number ≡ 0 → s .number ≡ 0 → Compare-alike r s
