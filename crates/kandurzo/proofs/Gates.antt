@@ -1,5 +1,5 @@
 -- The gate, 13 and 12, and the words once the records are in them.
---   Long-enough, none-short    where no buffer is short each is as long as stated
+--   Long-enough, none-short, all-long    no buffer is short exactly where each is as long as stated
 --   gate-open, passed          where the gate is open, head and list agree and no buffer is short
 --   the-gate, the-words        what the gate says, and the words after the records went out
 --   enough, length-words       what the copy asks
@@ -13,7 +13,7 @@ use Prim.Native.Nat.{ℕ, _≤_}
 use native.Mathlib.Omega.{arith}
 use lib.Dec.{eqb}
 use lib.ListN.{length}
-use borrow.Author.Tests.{eqb-true, eqb-false, ne-eqb, ltb-false}
+use borrow.Author.Tests.{eqb-true, eqb-false, ne-eqb, ltb-false, le-ltb}
 use denote.Builtin.{u32}
 use denote.Slice.{Room}
 use Rattle.theory.specs.Lists as Lists
@@ -48,6 +48,13 @@ unfolding any-short
 none-short [] e = tt
 none-short (b ∷ []) e = ltb-false _ _ (or-none _ _ e .0)
 none-short (b ∷ c ∷ bs) e = let x = or-none _ _ e in (ltb-false _ _ (x .0), none-short (c ∷ bs) (x .1))
+
+-- and the other way
+pub all-long : (bs : List Buffer) → Long-enough bs → any-short bs ≡ false
+unfolding any-short
+all-long [] e = refl
+all-long (b ∷ []) e = rw (le-ltb _ _ e)
+all-long (b ∷ c ∷ bs) e = rw (le-ltb _ _ (e .0)) (all-long (c ∷ bs) (e .1))
 
 -- an open gate, and a shut one: 13, 12
 pub gate-open : (agreed short : Bool) → gate-number agreed short ≡ 0 → (agreed ≡ true) × (short ≡ false)

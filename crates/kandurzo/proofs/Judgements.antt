@@ -1,5 +1,6 @@
 -- From the records to the words: what check and surplus say of the words is what they say of the lent records.
 --   gate-first, gate-then     a number of the gate is the call's; where it is open the causes behind it decide
+--   check-few                 the number of a sheet is 7, 8, 9 or none
 --   check-enough, check-long, surplus-enough    where the gate is open the buffers are long enough
 --   check-call, surplus-call  the calls' promises
 -- Assumes nothing.
@@ -48,7 +49,7 @@ module _ (agreed short : Bool) (rest : List Cause) where
   gate-then z = let o = gate-open agreed short z in rw (o .0, o .1)
 
 -- 7, 8, 9 or none
-check-few : (g : Pairs) (s xs : List ℕ) → check-number g s xs < 10
+pub check-few : (g : Pairs) (s xs : List ℕ) → check-number g s xs < 10
 unfolding check-number check-causes refusal cause
 check-few g s xs = go (not (is-group g s)) (not (shares-good (size s) (g .pairs) xs)) (not (loads-good g s xs))
   where

@@ -12,7 +12,7 @@ use native.Mathlib.Omega.{arith}
 use lib.Dec.{eqb}
 use lib.ListN.{length}
 use borrow.Author.Tests.{eqb-true, eqb-false}
-use Rattle.theory.specs.Lists.{Pairs, is-list}
+use Rattle.theory.specs.Lists.{is-list}
 use Rattle.theory.specs.Promise.{Split-densest, Ratios-in-order}
 use Rattle.theory.proofs.Promises.{split-densest, ratios-in-order}
 use Rattle.theory.proofs.Tests.{by-test}
@@ -22,7 +22,7 @@ use Rattle.records.specs.Records.{held-list, agrees}
 use Rattle.kandurzo.specs.declared.Solved.{Solved}
 use Rattle.kandurzo.specs.Buffers.{buffer, any-short, work-words, work-left}
 use Rattle.kandurzo.specs.Gate.{gate-number, gate-of}
-use Rattle.kandurzo.specs.Solving.{solve-buffers, solve-call-causes, No-split, Unsplit, declined, Solve-call, Solve-on}
+use Rattle.kandurzo.specs.Solving.{solve-buffers, solve-call-causes, No-split, declined, Solve-call, Solve-on}
 use Rattle.kandurzo.specs.Promise.{Unsplit-never, Records-in-order}
 use Rattle.kandurzo.proofs.Gates.{none-short, gate-open, the-gate, the-words, passed, words-list, words-left}
 use Rattle.kandurzo.proofs.Taken.{held-is-list}

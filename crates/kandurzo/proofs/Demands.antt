@@ -1,0 +1,283 @@
+-- What the calls do with every list, and what their answers are: the theorems of specs/Promise.antt.
+--   lent-agrees, lent-held, lent-passes    a list that is lent is the one held, and with buffers long enough neither 13 nor 12 comes
+--   every-list-peeled, every-list-solved, every-list-judged, every-list-compared    so every list is served
+--   refusals-keep, fifteen-never           refusals
+--   peel-exact, check-exact, solve-accepted    what is written, and what is accepted
+-- Assumes nothing.
+use mathlib.Core.Path.{_≡_, refl, sym, ap, _∙_}
+use mathlib.Core.Bool.{Bool, true, false, not, cond}
+use mathlib.Core.Option.{some}
+use mathlib.Core.List.{List, [], _∷_}
+use Prim.Native.Nat.{ℕ, zero, suc, _≤_, _<_}
+use native.Mathlib.Omega.{arith}
+use lib.ListN.{length, getD, take, List·getD-append}
+use borrow.Author.Tests.{ne-eqb}
+use Rattle.theory.specs.Lists as Lists
+use Rattle.theory.specs.Lists.{Pairs, is-list}
+use Rattle.theory.specs.Groups.{size, is-group}
+use Rattle.theory.specs.Leaving.{leaving}
+use Rattle.theory.specs.Cores.{core-number, core-numbers}
+use Rattle.theory.specs.Splits.{shares-good, is-split}
+use Rattle.theory.specs.Refusals.{Cause, cause, refusal, if-taken}
+use Rattle.theory.specs.Check.{check-causes, check-number}
+use Rattle.theory.specs.Surplus.{surplus-number}
+use Rattle.theory.specs.Promise.{Accepted-exactly, Best-accepted, Core-exact, Leaving-steps, Leaving-everyone}
+use Rattle.theory.proofs.Promises.{accepted-exactly, best-accepted, core-exact, leaving-steps, leaving-everyone}
+use Rattle.theory.proofs.Tables.{table-at, length-table}
+use Rattle.theory.proofs.Tests.{tests, no}
+use Rattle.pairs.proofs.Keeps.{counts-once}
+use Rattle.lines.specs.Outcomes.{Outcome, refused, taken}
+use Rattle.pairfile.specs.Promise.{ones}
+use Rattle.pairfile.specs.Answers.{reading-of, pairs-of}
+use Rattle.verify.specs.declared.Verdict.{Verdict}
+use Rattle.records.specs.declared.Pair.{Pair}
+use Rattle.records.specs.declared.Head.{Head}
+use Rattle.records.specs.Records.{held-list, agrees}
+use Rattle.kandurzo.specs.declared.Solved.{Solved}
+use Rattle.kandurzo.specs.Buffers.{Buffer, buffer, any-short, in-front, work-words}
+use Rattle.kandurzo.specs.Gate.{gate-number}
+use Rattle.kandurzo.specs.Listing.{head-of, as-records}
+use Rattle.kandurzo.specs.Reading.{records-front}
+use Rattle.kandurzo.specs.Peeling.{peel-buffers, peel-call-causes, Peel-call}
+use Rattle.kandurzo.specs.Judging.{check-buffers, check-call-causes, Check-call, surplus-buffers, surplus-call-causes}
+use Rattle.kandurzo.specs.Solving.{solve-buffers, solve-call-causes, Solve-call}
+use Rattle.kandurzo.specs.Promise.{
+  Lent,
+  Every-list-peeled,
+  Every-list-solved,
+  Every-list-judged,
+  Every-list-compared,
+  Refusals-keep,
+  Fifteen-never,
+  Exact-peel,
+  Peel-exact,
+  Check-exact,
+  Solve-accepted,
+}
+use Rattle.kandurzo.proofs.Filling.{work-zeros, left-open}
+use Rattle.kandurzo.proofs.Gates.{Long-enough, all-long, gate-open}
+use Rattle.kandurzo.proofs.Judgements.{check-few, gate-then}
+use Rattle.kandurzo.proofs.Taken.{as-pairs-back, length-as-records, held-is-list, length-held}
+
+-- one share for each pair
+shares-length : (q : ℕ) (ps : List Lists.Pair) (xs : List ℕ) → shares-good q ps xs ≡ true → length xs ≡ length ps
+unfolding shares-good
+shares-length q [] [] e = refl
+shares-length q [] (x ∷ xs) e = no e
+shares-length q (p ∷ ps) [] e = no e
+shares-length q (p ∷ ps) (x ∷ xs) e = ap suc (shares-length q ps xs ((simp tests at e) .1))
+
+-- ---- a list that is lent
+
+-- entries that can be taken are there
+front-long : {A : Type 0} (k : ℕ) (xs : List A) → length (take k xs) ≡ k → k ≤ length xs
+front-long zero xs e = omega arith
+front-long (suc k) [] e = absurd (omega arith)
+front-long (suc k) (x ∷ xs) e = omega (arith, front-long k xs (omega arith))
+
+module _ {g : Pairs} {h : Head} {ps : List Pair} (lent : Lent g h ps) where
+  abbrev m : ℕ
+  m = length (g .pairs)
+
+  n-is : h .n ≡ g .n
+  unfolding head-of
+  n-is = ap (λ (k : Head). k .n) (lent .head)
+
+  m-is : h .m ≡ m
+  unfolding head-of
+  m-is = ap (λ (k : Head). k .m) (lent .head)
+
+  -- it is the list held
+  pub lent-held : held-list h ps ≡ g
+  unfolding held-list ones counts-once
+  lent-held =
+      rw (n-is, m-is, lent .records) (ap (λ (qs : List Lists.Pair). record { n = g .n; pairs = qs }) (as-pairs-back (g .pairs) (lent .once)))
+
+  -- and head and list agree
+  pub lent-agrees : agrees h ps ≡ true
+  unfolding agrees
+  lent-agrees =
+      let long : m ≤ length ps = front-long m ps (ap length (lent .records) ∙ length-as-records (g .pairs)) in
+      rw lent-held (simp tests (omega (arith, m-is, long), lent .list))
+
+  -- with buffers long enough, neither 13 nor 12 comes
+  pub lent-passes : (bs : List Buffer) (rest : List Cause) → Long-enough bs →
+      refusal (cause 13 (not (agrees h ps)) ∷ cause 12 (any-short bs) ∷ rest) ≡ refusal rest
+  unfolding gate-number refusal cause
+  lent-passes bs rest long = gate-then (agrees h ps) (any-short bs) rest (rw (lent-agrees, all-long bs long) refl)
+
+-- ---- every list
+
+pub every-list-peeled : Every-list-peeled
+unfolding Every-list-peeled peel-call-causes peel-buffers buffer work-words if-taken refusal
+every-list-peeled g h ps order cores work r order′ cores′ work′ lent o c w call =
+    let z : r ≡ 0 = call .number ∙ lent-passes lent (peel-buffers h (length order) (length cores) (length work)) []
+    (omega (arith, n-is lent), (omega (arith, n-is lent), w)) in
+    record {
+      number = z;
+      order-is = rw (z, lent-held lent) at (call .order-is);
+      cores-are = rw (z, lent-held lent) at (call .cores-are);
+      left = call .left ∙ left-open work z;
+    }
+
+pub every-list-solved : Every-list-solved
+unfolding Every-list-solved solve-call-causes solve-buffers buffer work-words refusal
+every-list-solved g h ps members cores shares work r members′ cores′ shares′ work′ lent a c d w call =
+    let z : r .number ≡ 0 = call .number .outright
+    ∙ lent-passes lent (solve-buffers h (length members) (length cores) (length shares) (length work)) []
+    (omega (arith, n-is lent), (omega (arith, n-is lent), (omega (arith, m-is lent), w))) in
+    record { number = z; handed = rw (lent-held lent) at (call .handed z); left = call .left ∙ left-open work z }
+
+-- the number of check is the sheet's
+module _ {g : Pairs} {h : Head} {ps : List Pair} (lent : Lent g h ps) (members shares work : List ℕ)
+    (a : g .n ≤ length members) (d : length (g .pairs) ≤ length shares) (w : 16384 ≤ length work) {v : Verdict} {work′ : List ℕ}
+    (call : Check-call h ps members shares work v work′) where
+  sheet-number : v .number ≡ check-number g (take (g .n) members) (take (length (g .pairs)) shares)
+  unfolding check-call-causes check-buffers buffer work-words check-number
+  sheet-number =
+      call .number ∙ lent-passes lent (check-buffers h (length members) (length shares) (length work)) _
+      (omega (arith, n-is lent), (omega (arith, m-is lent), w)) ∙ rw (lent-held lent, n-is lent, m-is lent)
+
+pub every-list-judged : Every-list-judged
+unfolding Every-list-judged
+every-list-judged g h ps members shares work v work′ lent a d w call =
+    let number = sheet-number lent members shares work a d w call in
+    let low = check-few g (take (g .n) members) (take (length (g .pairs)) shares) in
+    (number, call .left ∙ work-zeros (v .number) work (λ x. omega (arith, number, low)) (λ x. omega (arith, number, low)))
+
+pub every-list-compared : Every-list-compared
+unfolding Every-list-compared surplus-call-causes surplus-buffers buffer surplus-number
+every-list-compared g h ps t s d lent a b call =
+    call .number ∙ lent-passes lent (surplus-buffers h (length t) (length s)) _ (omega (arith, n-is lent), omega (arith, n-is lent))
+    ∙ rw (lent-held lent, n-is lent)
+
+-- ---- refusals
+
+-- beside a refusal the old stays
+not-taken : {A : Type 0} (k : ℕ) (new old : A) → (k ≡ 0 → ⊥) → if-taken k new old ≡ old
+unfolding if-taken
+not-taken k new old n = rw (ne-eqb k 0 n)
+
+-- a refused file has no pairs
+read-refused : (o : Outcome Pairs) (ps : List Pair) → (reading-of o .number ≡ 0 → ⊥) → records-front (pairs-of o) ps ≡ ps
+unfolding reading-of pairs-of records-front as-records
+read-refused (refused k) ps n = refl
+read-refused (taken g) ps n = absurd (n refl)
+
+pub refusals-keep : Refusals-keep
+refusals-keep = record {
+  add = λ h ps a b r ps′ call n.
+      (call .head ∙ not-taken _ _ h (λ z. n (call .number ∙ z)), call .list ∙ not-taken _ _ ps (λ z. n (call .number ∙ z)));
+  remove = λ h ps a b r ps′ call n.
+      (call .head ∙ not-taken _ _ h (λ z. n (call .number ∙ z)), call .list ∙ not-taken _ _ ps (λ z. n (call .number ∙ z)));
+  read = λ bytes ps work r ps′ work′ call n. call .records ∙ read-refused _ ps (λ z. n (call .number ∙ z));
+  peel = λ h ps order cores work r order′ cores′ work′ call n. (call .order-is ∙ not-taken r _ order n, call .cores-are ∙ not-taken r _ cores n);
+  solve = λ h ps members cores shares work r members′ cores′ shares′ work′ call n. let no = call .refused n in (no .1, no .2, no .3);
+}
+
+-- the number of solve is 13, 12 or 0
+pub fifteen-never : Fifteen-never
+unfolding Fifteen-never solve-call-causes refusal cause
+fifteen-never h ps members cores shares work r members′ cores′ shares′ work′ call e =
+    go (not (agrees h ps)) (any-short (solve-buffers h (length members) (length cores) (length shares) (length work))) (sym (call .number .outright) ∙ e)
+  where
+    go : (a b : Bool) → _≡_ {A = ℕ} (cond a 13 (cond b 12 0)) 15 → ⊥
+    go true b e = omega (arith, e)
+    go false true e = omega (arith, e)
+    go false false e = omega (arith, e)
+
+-- ---- answers
+
+-- a call of peel that refuses nothing has a list as it is held
+module _ (h : Head) (ps : List Pair) (order cores work : List ℕ) {r : ℕ} {order′ cores′ work′ : List ℕ}
+    (call : Peel-call h ps order cores work r order′ cores′ work′) (z : r ≡ 0) where
+  abbrev g : Pairs
+  g = held-list h ps
+
+  peeled-list : is-list g ≡ true
+  unfolding peel-call-causes gate-number
+  peeled-list = held-is-list h ps (gate-open (agrees h ps) _ (sym (call .number) ∙ z) .0)
+
+  -- an entry of what stands in front
+  front-at : (new old now : List ℕ) (i : ℕ) → now ≡ in-front new old → i < length new → getD now i 0 ≡ getD new i 0
+  unfolding in-front
+  front-at new old now i e l = ap (λ (xs : List ℕ). getD xs i 0) e ∙ List·getD-append new _ 0 i l
+
+  place-is : (i : ℕ) → i < g .n → getD order′ i 0 ≡ getD (leaving g) i 0
+  unfolding Leaving-steps if-taken
+  place-is i l = front-at (leaving g) order order′ i (rw z at (call .order-is)) (omega (arith, leaving-steps g .0))
+
+  number-is : (v : ℕ) → v < g .n → getD cores′ v 0 ≡ core-number g v
+  unfolding core-numbers if-taken
+  number-is v l =
+      front-at (core-numbers g) cores cores′ v (rw z at (call .cores-are)) (omega (arith, length-table (g .n) (core-number g)))
+      ∙ table-at (g .n) (core-number g) v 0 l
+
+  exact : Exact-peel g order′ cores′
+  unfolding Leaving-steps Leaving-everyone Core-exact
+  exact = record {
+    leavers = λ i l. leaving-steps g .1 i l ∙ ap some (sym (place-is i l));
+    everyone = λ v l. let p = leaving-everyone g v l in (p .0, p .1, place-is (p .0) (p .1) ∙ p .2);
+    orders = λ v l. rw (number-is v l) (core-exact g v peeled-list l);
+  }
+
+pub peel-exact : Peel-exact
+unfolding Peel-exact
+peel-exact h ps order cores work r order′ cores′ work′ call z = exact h ps order cores work call z
+
+pub check-exact : Check-exact
+unfolding Check-exact Best-accepted
+check-exact g h ps members shares work v work′ lent a d w call = (
+  λ z.
+      let o = rw (lent-held lent, n-is lent, m-is lent) at (call .optimal z) in
+      record { group = o .is-a-group; split = rw (o .modules) at (o .is-a-split); best = rw (o .modules) at (o .best) },
+  λ b. sheet-number lent members shares work a d w call ∙ best-accepted g _ _ (lent .list) (b .group) (b .split) (b .best),
+)
+
+-- what solve hands out, put to check
+module _ (h : Head) (ps : List Pair) (members cores shares work : List ℕ) {r : Solved} {members′ cores′ shares′ work′ : List ℕ}
+    (call : Solve-call h ps members cores shares work r members′ cores′ shares′ work′) (z : r .number ≡ 0) where
+  abbrev u : Pairs
+  u = held-list h ps
+
+  solved-agrees : agrees h ps ≡ true
+  unfolding solve-call-causes gate-number
+  solved-agrees = gate-open (agrees h ps) _ (sym (call .number .outright) ∙ z) .0
+
+  m-held : length (u .pairs) ≡ h .m
+  m-held = length-held h ps solved-agrees
+
+  members-enough : h .n ≤ length members′
+  unfolding is-group held-list
+  members-enough = front-long (h .n) members′ ((simp tests at (call .handed z .optimal .is-a-group)) .0)
+
+  shares-enough : h .m ≤ length shares′
+  unfolding is-split
+  shares-enough =
+      let good = (simp tests at (call .handed z .optimal .is-a-split)) .1 in
+      rw (← m-held) (front-long (length (u .pairs)) shares′ (shares-length (r .q) (u .pairs) _ good))
+
+  module _ (again : List ℕ) (w : 16384 ≤ length again) {v : Verdict} {again′ : List ℕ} (check : Check-call h ps members′ shares′ again v again′) where
+    sheet-good : check-number u (take (u .n) members′) (take (h .m) shares′) ≡ 0
+    unfolding Accepted-exactly
+    sheet-good =
+        let o = call .handed z .optimal in
+        let q : r .q ≡ size (take (u .n) members′) = o .modules in
+        rw m-held at
+        (accepted-exactly u (take (u .n) members′) (take (length (u .pairs)) shares′) .1
+        (o .is-a-group, rw q at (o .is-a-split), omega (arith, rw q at (o .top-load), o .inside-count)))
+
+    again-taken : v .number ≡ 0
+    unfolding check-call-causes check-buffers buffer work-words gate-number refusal cause check-number held-list
+    again-taken =
+        let short = any-short (check-buffers h (length members′) (length shares′) (length again)) in
+        let gate : gate-number (agrees h ps) short ≡ 0 = rw (solved-agrees, all-long (check-buffers h (length members′) (length shares′) (length again))
+        (members-enough, (shares-enough, w))) refl in
+        check .number ∙ gate-then (agrees h ps) short (check-causes u (take (h .n) members′) (take (h .m) shares′)) gate ∙ sheet-good
+
+pub solve-accepted : Solve-accepted
+unfolding Solve-accepted if-taken held-list
+solve-accepted h ps members cores shares work r members′ cores′ shares′ work′ again v again′ call z w check =
+    let y = again-taken h ps members cores shares work call z again w check in
+    let o = call .handed z .optimal in
+    (y, (rw y at (check .p)) ∙ sym (o .inside-count), (rw y at (check .q)) ∙ sym (o .modules))
