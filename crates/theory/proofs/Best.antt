@@ -1,31 +1,26 @@
--- Of all byte lists of one length one is best: so the found group is there.
---   find           a byte list of length n that passes a test, or that none does
---   densest-there  a densest group
---   found-there    the found group
+-- The found group, by a search through all sets of modules.
+--   by-bit           what holds of each byte list of one byte more, by its first byte
+--   find             a byte list of length n that passes a test, or that none does
+--   found-outright   the search ends at the found group
+--   found-length     which has a byte for each module
+--   found-there      so it is there
 -- Assumes nothing.
 use mathlib.Core.Path.{_≡_, refl, sym, _∙_}
-use mathlib.Core.Bool.{Bool, true, false, _&&_}
-use mathlib.Core.List.{List, [], _∷_}
+use mathlib.Core.Bool.{Bool, true, false, _&&_, cond}
+use mathlib.Core.List.{List, [], _∷_, _++_, map}
 use mathlib.Core.Logic.{_⊎_, inl, inr, ⊎-elim}
 use Prim.Native.Nat.{ℕ, zero, suc, _≤_}
 use native.Mathlib.Omega.{arith}
+use lib.ListN.{length}
+use borrow.Author.Tests.{ltb-false, not-true, not-false}
 use Rattle.theory.specs.Lists.{Pairs, is-list}
-use Rattle.theory.specs.Groups.{size, bytes-good, is-group, everyone, at-most, union, Densest, Found}
-use Rattle.theory.specs.Promise.{Found-there}
-use Rattle.theory.proofs.Tests.{tests, no}
-use Rattle.theory.proofs.Groups.{Bits, group-bits, everyone-group, union-group, within-union}
-use Rattle.theory.proofs.Densest.{le-or, at-most-or, at-most-trans, union-dense}
+use Rattle.theory.specs.Groups.{size, bytes-good, is-group, everyone, at-most, subsets, outranks, better, best-of, found-of}
+use Rattle.theory.specs.Promise.{Found-there, Found-outright, Found-largest}
+use Rattle.theory.proofs.Tests.{tests, no, by-test, or-cases, or-fails, and-fails}
+use Rattle.theory.proofs.Groups.{Bits, group-bits, everyone-group}
+use Rattle.theory.proofs.Densest.{at-most-or, at-most-trans, found-largest}
 
--- of the byte lists that pass P none is there, or one is best by R
-data Best (n : ℕ) (P : List ℕ → Bool) (R : List ℕ → List ℕ → Type 0) : Type 0 where
-  none : ((t : List ℕ) → Bits n t → P t ≡ true → ⊥) → Best n P R
-  one : (s : List ℕ) → Bits n s → P s ≡ true → ((t : List ℕ) → Bits n t → P t ≡ true → R t s) → Best n P R
-
-abbrev Total : (P : List ℕ → Bool) (R : List ℕ → List ℕ → Type 0) → Type 0
-Total P R = (s t : List ℕ) → P s ≡ true → P t ≡ true → R s t ⊎ R t s
-
-abbrev Trans : (P : List ℕ → Bool) (R : List ℕ → List ℕ → Type 0) → Type 0
-Trans P R = (s t u : List ℕ) → P s ≡ true → P t ≡ true → P u ≡ true → R s t → R t u → R s u
+-- ---- byte lists, a byte at a time
 
 -- the byte lists of length 0, and those of one byte more
 by-nil : (C : List ℕ → Type 0) → C [] → (t : List ℕ) → Bits 0 t → C t
@@ -40,81 +35,121 @@ by-bit n C z o (zero ∷ t) b = z t (omega arith, (simp tests at (b .1)) .1)
 by-bit n C z o (suc zero ∷ t) b = o t (omega arith, (simp tests at (b .1)) .1)
 by-bit n C z o (suc (suc x) ∷ t) b = absurd (omega (arith, simp tests at (b .1)))
 
--- the better of two halves
-join : (n : ℕ) (P : List ℕ → Bool) (R : List ℕ → List ℕ → Type 0) → Total P R → Trans P R →
-    Best n (λ t. P (0 ∷ t)) (λ s t. R (0 ∷ s) (0 ∷ t)) → Best n (λ t. P (1 ∷ t)) (λ s t. R (1 ∷ s) (1 ∷ t)) → Best (suc n) P R
-unfolding bytes-good
-join n P R tot tr (none a) (none b) = none (by-bit n (λ t. P t ≡ true → ⊥) a b)
-join n P R tot tr (none a) (one s b p r) =
-    one (1 ∷ s) (omega arith, b .1) p (by-bit n (λ t. P t ≡ true → R t (1 ∷ s)) (λ t c q. absurd (a t c q)) r)
-join n P R tot tr (one s b p r) (none a) =
-    one (0 ∷ s) (omega arith, b .1) p (by-bit n (λ t. P t ≡ true → R t (0 ∷ s)) r (λ t c q. absurd (a t c q)))
-join n P R tot tr (one s b p r) (one t c q v) = go (tot (0 ∷ s) (1 ∷ t) p q)
-  where
-    go : R (0 ∷ s) (1 ∷ t) ⊎ R (1 ∷ t) (0 ∷ s) → Best (suc n) P R
-    go (inl h) =
-        one (1 ∷ t) (omega arith, c .1) q
-        (by-bit n (λ u. P u ≡ true → R u (1 ∷ t)) (λ u d e. tr (0 ∷ u) (0 ∷ s) (1 ∷ t) e p q (r u d e) h) v)
-    go (inr h) =
-        one (0 ∷ s) (omega arith, b .1) p
-        (by-bit n (λ u. P u ≡ true → R u (0 ∷ s)) r (λ u d e. tr (1 ∷ u) (1 ∷ t) (0 ∷ s) e q p (v u d e) h))
-
-best : (n : ℕ) (P : List ℕ → Bool) (R : List ℕ → List ℕ → Type 0) → Total P R → Trans P R → Best n P R
-unfolding bytes-good
-best zero P R tot tr = go (P []) refl
-  where
-    go : (b : Bool) → P [] ≡ b → Best zero P R
-    go true e = one [] (refl, refl) e (by-nil (λ t. P t ≡ true → R t []) (λ p. ⊎-elim (λ x. x) (λ x. x) (tot [] [] p p)))
-    go false e = none (by-nil (λ t. P t ≡ true → ⊥) (λ p. no (sym e ∙ p)))
-best (suc n) P R tot tr =
-    join n P R tot tr
-    (best n (λ t. P (0 ∷ t)) (λ s t. R (0 ∷ s) (0 ∷ t)) (λ s t. tot (0 ∷ s) (0 ∷ t)) (λ s t u. tr (0 ∷ s) (0 ∷ t) (0 ∷ u)))
-    (best n (λ t. P (1 ∷ t)) (λ s t. R (1 ∷ s) (1 ∷ t)) (λ s t. tot (1 ∷ s) (1 ∷ t)) (λ s t u. tr (1 ∷ s) (1 ∷ t) (1 ∷ u)))
-
 -- a byte list of length n that passes a test, or that none does
-pub find : (n : ℕ) (P : List ℕ → Bool) → ((s : List ℕ) × Bits n s × (P s ≡ true)) ⊎ ((t : List ℕ) → Bits n t → P t ≡ true → ⊥)
-find n P = go (best n P (λ s t. Unit {0}) (λ s t x y. inl tt) (λ s t u x y z v w. tt))
+abbrev pub Found-or-none : (n : ℕ) (P : List ℕ → Bool) → Type 0
+Found-or-none n P = ((s : List ℕ) × Bits n s × (P s ≡ true)) ⊎ ((t : List ℕ) → Bits n t → P t ≡ true → ⊥)
+
+pub find : (n : ℕ) (P : List ℕ → Bool) → Found-or-none n P
+unfolding bytes-good
+find zero P =
+    by-test (P []) (λ e. inl ([], (refl, refl), e)) (λ e. inr (by-nil (λ t. P t ≡ true → ⊥) (λ p. no (sym e ∙ p))))
+find (suc n) P = join (find n (λ t. P (0 ∷ t))) (find n (λ t. P (1 ∷ t)))
   where
-    go : Best n P (λ s t. Unit {0}) → ((s : List ℕ) × Bits n s × (P s ≡ true)) ⊎ ((t : List ℕ) → Bits n t → P t ≡ true → ⊥)
-    go (none a) = inr a
-    go (one s b p r) = inl (s, b, p)
+    join : Found-or-none n (λ t. P (0 ∷ t)) → Found-or-none n (λ t. P (1 ∷ t)) → Found-or-none (suc n) P
+    join (inl s) f = inl (0 ∷ s .0, (omega (arith, s .1 .0), s .1 .1), s .2)
+    join (inr a) (inl s) = inl (1 ∷ s .0, (omega (arith, s .1 .0), s .1 .1), s .2)
+    join (inr a) (inr b) = inr (by-bit n (λ t. P t ≡ true → ⊥) a b)
 
--- a densest group: best by ratio
-pub densest-there : (g : Pairs) → is-list g ≡ true → (s : List ℕ) × Densest g s
-densest-there g l =
-    go (best (g .n) (is-group g) (λ s t. at-most g s t ≡ true) (λ s t hs ht. at-most-or g s t) (λ s t u hs ht hu. at-most-trans g s t u ht))
-  where
-    go : Best (g .n) (is-group g) (λ s t. at-most g s t ≡ true) → (s : List ℕ) × Densest g s
-    go (none a) = absurd (a (everyone g) (group-bits g (everyone g) (everyone-group g l)) (everyone-group g l))
-    go (one s b p r) = (s, record { group = p; greatest = λ t h. r t (group-bits g t h) h })
+-- ---- all sets of modules
 
--- of the groups as dense as a densest one, the largest holds each: the union with another would be as dense and larger
-largest : (g : Pairs) (d : List ℕ) → Densest g d → (s : List ℕ) × Found g s
-largest g d dd =
-    go (best (g .n) (λ t. is-group g t && at-most g d t) (λ s t. size s ≤ size t)
-    (λ s t hs ht. le-or (size s) (size t)) (λ s t u hs ht hu x y. omega arith))
-  where
-    dense : (t : List ℕ) → is-group g t ≡ true → at-most g d t ≡ true → (is-group g t && at-most g d t) ≡ true
-    dense t h k = simp tests (h, k)
+-- what holds of each set of a list of sets
+abbrev Each : (List ℕ → Type 0) → List (List ℕ) → Type 0
+Each C [] = Unit {0}
+Each C (t ∷ ts) = C t × Each C ts
 
-    go : Best (g .n) (λ t. is-group g t && at-most g d t) (λ s t. size s ≤ size t) → (s : List ℕ) × Found g s
-    go (none a) = absurd (a d (group-bits g d (dd .group)) (dense d (dd .group) (dd .greatest d (dd .group))))
-    go (one s b p r) =
-        let p′ = simp tests at p in
-        let best-s : (t : List ℕ) → is-group g t ≡ true → at-most g t s ≡ true =
-        λ t h. at-most-trans g t d s (dd .group) (dd .greatest t h) (p′ .1) in (
-          s,
-          record {
-            group = p′ .0;
-            greatest = best-s;
-            largest = λ t h k.
-                let u : is-group g (union s t) ≡ true = union-group g s t (p′ .0) h in
-                within-union s t (omega (arith, b .0, (group-bits g t h) .0))
-                (r (union s t) (group-bits g (union s t) u)
-                (dense (union s t) u (at-most-trans g d s (union s t) (p′ .0) (p′ .1) (union-dense g s t (p′ .0) h best-s k))));
-          },
-        )
+each-append : (C : List ℕ → Type 0) (ts us : List (List ℕ)) → Each C (ts ++ us) → Each C ts × Each C us
+each-append C [] us e = (tt, e)
+each-append C (t ∷ ts) us e = let r = each-append C ts us (e .1) in ((e .0, r .0), r .1)
 
+each-map : (C : List ℕ → Type 0) (x : ℕ) (ts : List (List ℕ)) → Each C (map (λ s. x ∷ s) ts) → Each (λ t. C (x ∷ t)) ts
+each-map C x [] e = tt
+each-map C x (t ∷ ts) e = (e .0, each-map C x ts (e .1))
+
+-- every byte list of length n is among the subsets: what holds of each of them holds of it
+each-subset : (n : ℕ) (C : List ℕ → Type 0) → Each C (subsets n) → (t : List ℕ) → Bits n t → C t
+unfolding subsets
+each-subset zero C e = by-nil C (e .0)
+each-subset (suc n) C e =
+    let h = each-append C (map (λ s. 0 ∷ s) (subsets n)) (map (λ s. 1 ∷ s) (subsets n)) e in
+    by-bit n C (each-subset n (λ t. C (0 ∷ t)) (each-map C 0 (subsets n) (h .0)))
+    (each-subset n (λ t. C (1 ∷ t)) (each-map C 1 (subsets n) (h .1)))
+
+-- ---- the search
+
+module _ (g : Pairs) where
+  -- t does not go before s: its ratio is no higher and, where it is as high, it has no more modules
+  abbrev Below : (t s : List ℕ) → Type 0
+  Below t s = (at-most g t s ≡ true) × (at-most g s t ≡ true → size t ≤ size s)
+
+  -- an order of groups
+  below-self : (s : List ℕ) → Below s s
+  unfolding at-most
+  below-self s = (simp tests (omega arith), λ e. omega arith)
+
+  below-trans : (s t u : List ℕ) → is-group g s ≡ true → is-group g t ≡ true → is-group g u ≡ true → Below s t → Below t u → Below s u
+  below-trans s t u hs ht hu c d = (
+    at-most-trans g s t u ht (c .0) (d .0),
+    λ e. omega (arith, c .1 (at-most-trans g t u s hu (d .0) e), d .1 (at-most-trans g u s t hs e (c .0))),
+  )
+
+  -- whatever is outranked is below
+  outranked : (t s : List ℕ) → outranks g t s ≡ true → Below s t
+  unfolding outranks
+  outranked t s e =
+      ⊎-elim
+      (λ h.
+      let f = not-true (at-most g t s) h in
+      (⊎-elim (λ i. i) (λ i. no (sym f ∙ i)) (at-most-or g s t), λ i. no (sym f ∙ i)))
+      (λ h. let h′ = simp tests at h in (h′ .0, λ i. omega (arith, h′ .1)))
+      (or-cases _ _ e)
+
+  -- and so is whatever does not outrank
+  not-outranked : (t s : List ℕ) → outranks g t s ≡ false → Below t s
+  unfolding outranks
+  not-outranked t s e =
+      let f = or-fails _ _ e in
+      (not-false (at-most g t s) (f .0), λ i. ltb-false _ _ (and-fails (at-most g s t) _ (f .1) i))
+
+  -- a group r above s, and above each group of ts
+  abbrev Tops : (r s : List ℕ) (ts : List (List ℕ)) → Type 0
+  Tops r s ts = (is-group g r ≡ true) × Below s r × Each (λ t. is-group g t ≡ true → Below t r) ts
+
+  -- the better of two is above both
+  better-tops : (s t : List ℕ) → is-group g s ≡ true → Tops (better g s t) s (t ∷ [])
+  unfolding better
+  better-tops s t h = go (is-group g t && outranks g t s) refl
+    where
+      go : (b : Bool) → (is-group g t && outranks g t s) ≡ b → Tops (cond b t s) s (t ∷ [])
+      go true e = let e′ = simp tests at e in (e′ .0, outranked t s (e′ .1), (λ i. below-self t, tt))
+      go false e = (h, below-self s, (λ i. not-outranked t s (and-fails (is-group g t) (outranks g t s) e i), tt))
+
+  -- and the best of many above all
+  best-tops : (s : List ℕ) (ts : List (List ℕ)) → is-group g s ≡ true → Tops (best-of g s ts) s ts
+  unfolding best-of
+  best-tops s [] h = (h, below-self s, tt)
+  best-tops s (t ∷ ts) h =
+      let b = better-tops s t h in
+      let r = best-tops (better g s t) ts (b .0) in
+      let up : (u : List ℕ) → is-group g u ≡ true → Below u (better g s t) → Below u (best-of g (better g s t) ts) =
+      λ u i c. below-trans u (better g s t) (best-of g (better g s t) ts) i (b .0) (r .0) c (r .1) in
+      (r .0, up s h (b .1), (λ i. up t i (b .2 .0 i), r .2))
+
+-- no group goes before the one found: it is densest, and no densest group has more modules
+pub found-outright : Found-outright
+unfolding Found-outright Found-largest found-of
+found-outright g l =
+    let r = best-tops g (everyone g) (subsets (g .n)) (everyone-group g l) in
+    let below : (t : List ℕ) → is-group g t ≡ true → Below g t (found-of g) =
+    λ t h. each-subset (g .n) (λ u. is-group g u ≡ true → Below g u (found-of g)) (r .2) t (group-bits g t h) h in
+    (found-largest g (found-of g) l) .1
+    (record { group = r .0; greatest = λ t h. below t h .0 }, λ t d. below t (d .group) .1 (d .greatest (found-of g) (r .0)))
+
+-- it has a byte for each module
+pub found-length : (g : Pairs) → is-list g ≡ true → length (found-of g) ≡ g .n
+unfolding Found-outright
+found-length g l = group-bits g (found-of g) (found-outright g l .group) .0
+
+-- so there is a found group
 pub found-there : Found-there
-unfolding Found-there
-found-there g l = let d = densest-there g l in largest g (d .0) (d .1)
+unfolding Found-there Found-outright
+found-there g l = (found-of g, found-outright g l)

@@ -29,7 +29,7 @@ at-most-trans g s t u h c d =
     let d′ = simp tests at d in
     simp tests (le-of-mul-le-mul-right (omega (arith, mul-le-mul-right (size u) c′, mul-le-mul-right (size s) d′)) (size-pos g t h))
 
-pub le-or : (a b : ℕ) → (a ≤ b) ⊎ (b ≤ a)
+le-or : (a b : ℕ) → (a ≤ b) ⊎ (b ≤ a)
 le-or a b = go (leb a b) refl
   where
     go : (t : Bool) → leb a b ≡ t → (a ≤ b) ⊎ (b ≤ a)

@@ -1,9 +1,9 @@
 -- The statements of specs/Promise.antt and of specs/Cases.antt, each proved. Assumes nothing.
-use Rattle.theory.specs.Promise.{Equal-best, Check-best, Accepted-exactly, Accepted-optimal, Found-there, Found-alone, Found-largest, Found-no-pairs}
+use Rattle.theory.specs.Promise.{Equal-best, Check-best, Accepted-exactly, Accepted-optimal, Best-accepted, Found-there, Found-alone}
+use Rattle.theory.specs.Promise.{Found-outright, Found-largest, Found-no-pairs}
 use Rattle.theory.specs.Promise.{Split-densest, Split-there, Found-in-core, Core-exact, Core-members, Union-densest, Shared-densest, Leaver-fewest}
 use Rattle.theory.specs.Promise.{Leaver-lowest, Leaver-there, Leaving-steps, Leaving-everyone, Leaver-core, Cores-never-fall, Outside-first}
-use Rattle.theory.specs.Promise.{Floats-in-order}
-use Rattle.theory.specs.Promise.{Ratios-in-order, Rounded-once, Surplus-signed}
+use Rattle.theory.specs.Promise.{Floats-in-order, Ratios-in-order, Rounded-once, Surplus-signed}
 use Rattle.theory.specs.Cases.{Starred-cases}
 use Rattle.theory.proofs.Densest as densest
 use Rattle.theory.proofs.Duality as duality
@@ -31,6 +31,9 @@ accepted-exactly = duality.accepted-exactly
 pub accepted-optimal : Accepted-optimal
 accepted-optimal = duality.accepted-optimal
 
+pub best-accepted : Best-accepted
+best-accepted = duality.best-accepted best.found-there splits.split-there
+
 -- ---- the found group
 
 pub found-there : Found-there
@@ -38,6 +41,9 @@ found-there = best.found-there
 
 pub found-alone : Found-alone
 found-alone = densest.found-alone
+
+pub found-outright : Found-outright
+found-outright = best.found-outright
 
 pub found-largest : Found-largest
 found-largest = densest.found-largest
