@@ -1,6 +1,7 @@
 -- Every file of different pairs is taken: the pairs of its lines, put one by one into an empty list, make the list that it names.
 --   line-fit              a line of two different modules is not refused by 4 or 5
 --   Gathered, gathered    the list of the pairs that some lines name
+--   gathered-read         the file of these lines is taken as that list
 --   read-every            the whole file
 -- Assumes nothing.
 use mathlib.Core.Path.{_≡_, refl}
@@ -68,13 +69,18 @@ gathered n (l ∷ ls) e d =
     let e′ = simp tests at e in
     line-more n l ls (e′ .0) d (gathered n ls (e′ .1) (λ r. omega (arith, d r)))
 
+-- the file of such lines is taken as that list
+pub gathered-read : (room n : ℕ) (lines : List Pair) (t : Gathered n lines) → 1 ≤ n → n ≤ 512 → length lines ≤ 4096 → length lines ≤ room →
+    read-file room (file-of n lines) ≡ taken (record { n = n; pairs = t .pairs })
+unfolding ones counts-once
+gathered-read room n ls t low high short fits =
+    let list = kept-list n (t .pairs) low high (omega (arith, t .size)) (t .kept) in
+    read-back room (record { n = n; pairs = t .pairs }) ls list (t .kept .once) (omega (arith, t .size)) (t .named)
+
 -- every file of different pairs is taken, as the list of exactly these pairs
 pub read-every : (room n : ℕ) (lines : List Pair) → 1 ≤ n → n ≤ 512 → length lines ≤ 4096 → length lines ≤ room →
     all (names-two n) lines ≡ true → Different lines →
     (g : Pairs) × (read-file room (file-of n lines) ≡ taken g) × (g .n ≡ n) × Names lines (g .pairs)
-unfolding ones counts-once
-read-every room n ls low high short fits e d =
-    let t = gathered n ls e d in
-    let g : Pairs = record { n = n; pairs = t .pairs } in
-    let list = kept-list n (t .pairs) low high (omega (arith, t .size)) (t .kept) in
-    (g, read-back room g ls list (t .kept .once) (omega (arith, t .size)) (t .named), refl, t .named)
+read-every room n ls low high short fits two once =
+    let t = gathered n ls two once in
+    (record { n = n; pairs = t .pairs }, gathered-read room n ls t low high short fits, refl, t .named)
