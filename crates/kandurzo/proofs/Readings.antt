@@ -1,10 +1,11 @@
 -- Read: from the bytes to words, and from the words to the lent records.
---   read-short, read-file-on    what read answers on words: of a short work buffer, and of any other
---   Reads, reads-file           what is asked of a reader
---   outcome-taken               what is taken
---   read-enough, read-long      what the copy and the clearing ask
---   read-says                   the call's promise
---   read-held, read-agrees      after a taken file the list holds what the file names: 13 never follows
+--   read-short, read-file-on     what read answers on words: of a short work buffer, and of any other
+--   Reads, reads-file            what is asked of a reader
+--   outcome-long                 where the work buffer is long enough, read's outcome is what the file says
+--   outcome-taken, outcome-zero  what is taken; number 0: a list is
+--   read-enough, read-long       what the copy and the clearing ask
+--   read-says                    the call's promise
+--   read-held, read-agrees       after a taken file the list holds what the file names: 13 never follows
 -- Assumes nothing.
 use mathlib.Core.Path.{_≡_, refl, sym, ap, _∙_}
 use mathlib.Core.Bool.{Bool, true, false, cond}
@@ -61,6 +62,11 @@ read-short read room bytes work h =
     nothing [] e = refl
     nothing (q ∷ qs) e = absurd (omega arith)
 
+-- of any other: what the file says
+pub outcome-long : (read : Reader) (room w : ℕ) (bytes : List ℕ) → 16384 ≤ w → read-outcome read room w bytes ≡ read room bytes
+unfolding read-outcome read-buffers buffer any-short work-words
+outcome-long read room w bytes long = rw (le-ltb w 16384 long)
+
 -- a file's number is below 12: 12 is the work buffer's length alone, and 13 is never a file's
 number-few : (room : ℕ) (bytes : List ℕ) → reading-of (read-file room bytes) .number < 12
 unfolding reading-of
@@ -90,9 +96,8 @@ module _ (room : ℕ) (bytes work after : List ℕ) (f : Reading) (long : 16384 
 
   -- of any other: the file's answer
   pub read-file-on : Read-on read-file room bytes work after (record { number = f .number; head = record { n = f .n; m = f .m }; count = f .m })
-  unfolding read-outcome read-buffers buffer any-short work-words
   read-file-on =
-      let s : read-outcome read-file room (length work) bytes ≡ read-file room bytes = rw (le-ltb (length work) 16384 long) in
+      let s = outcome-long read-file room (length work) bytes long in
       record {
         number = ap (λ (q : Reading). q .number) (read .reading) ∙ ap (λ (o : Outcome Pairs). reading-of o .number) (sym s);
         head = head-is ∙ ap read-head (sym s);
@@ -132,6 +137,18 @@ outcome-taken read room w bytes g = go (any-short (read-buffers w)) refl
     go : (t : Bool) → any-short (read-buffers w) ≡ t → cond t (refused 12) (read room bytes) ≡ taken g → (16384 ≤ w) × (read room bytes ≡ taken g)
     go true z e = absurd (refused-not-taken e)
     go false z e = (read-room z, e)
+
+-- number 0: a list is taken
+pub outcome-zero : (room w : ℕ) (bytes : List ℕ) → reading-of (read-outcome read-file room w bytes) .number ≡ 0 →
+    (g : Pairs) × (read-outcome read-file room w bytes ≡ taken g)
+unfolding read-outcome reading-of
+outcome-zero room w bytes = go (any-short (read-buffers w)) (read-file room bytes) refl
+  where
+    go : (t : Bool) (o : Outcome Pairs) → read-file room bytes ≡ o → reading-of (cond t (refused 12) o) .number ≡ 0 →
+        (g : Pairs) × (cond t (refused 12) o ≡ taken g)
+    go true o e z = absurd (omega (arith, z))
+    go false (refused k) e z = absurd (omega (arith, file-numbers room bytes k e .0, z))
+    go false (taken g) e z = (g, refl)
 
 module _ {read : Reader} (reads : Reads read) where
   -- its pairs fit the list and the words

@@ -24,7 +24,7 @@ use Rattle.pairfile.specs.declared.PairLine.{PairLine}
 use Rattle.pairfile.specs.declared.PairLine.the-variants.{Refused as line-refused, Named as named}
 use Rattle.pairfile.specs.declared.Reading.{Reading}
 
--- the line with N or M on it, or the refusal number
+-- Refused: its number, 1 or 2 by modules-line, 1, 3 or 11 by pairs-line (specs/File.antt). Number: N or M, and the bytes after its line
 unfoldable pub head-in : (bytes : List ℕ) → HeadLine → Outcome Line
 head-in bs (head-refused k) = refused k
 head-in bs (head v i) = taken (record { numbers = v ∷ []; rest = drop i bs })
@@ -39,7 +39,7 @@ pub record HeadRead (bytes : List ℕ) (due : Outcome Line) (r : HeadLine) : Typ
   pub found : due ≡ head-in bytes r
   pub within : head-end r ≤ length bytes
 
--- the pair named and the bytes after its line, or the refusal number
+-- Refused: its number, 1, 4, 5 or 10 by pair-line (specs/File.antt). Named: the pair a,b, and the bytes after its line; PlaceKnown has its place
 unfoldable pub named-in : (bytes : List ℕ) → PairLine → Outcome Named
 named-in bs (line-refused k) = refused k
 named-in bs (named a b place i) = taken (record { pair = pair a b; rest = drop i bs })

@@ -29,7 +29,7 @@ use Rattle.sheetfile.specs.declared.sheet.OneLine.{OneLine}
 use Rattle.sheetfile.specs.declared.sheet.Lines.{Lines}
 use Rattle.sheetfile.specs.declared.sheet.SheetHead.{SheetHead}
 
--- the value where the number is 0
+-- 0: the value. Any other: refused by it, 101 by line-due where lines answers Missing or Malformed, 102 to 106 by their causes (specs/Sheet.antt)
 unfoldable pub unless-number : {A : Type 0} → (number : ℕ) → A → Outcome A
 unless-number zero a = taken a
 unless-number (suc k) a = refused (suc k)
