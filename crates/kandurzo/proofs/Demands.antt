@@ -271,8 +271,11 @@ module _ (h : Head) (ps : List Pair) (members cores shares work : List ℕ) {r :
     unfolding check-call-causes check-buffers buffer work-words gate-number refusal cause check-number held-list
     again-taken =
         let short = any-short (check-buffers h (length members′) (length shares′) (length again)) in
-        let gate : gate-number (agrees h ps) short ≡ 0 = rw (solved-agrees, all-long (check-buffers h (length members′) (length shares′) (length again))
-        (members-enough, (shares-enough, w))) refl in
+        let gate : gate-number (agrees h ps) short ≡ 0 = rw (
+          solved-agrees,
+          all-long (check-buffers h (length members′) (length shares′) (length again))
+              (members-enough, (shares-enough, w)),
+        ) refl in
         check .number ∙ gate-then (agrees h ps) short (check-causes u (take (h .n) members′) (take (h .m) shares′)) gate ∙ sheet-good
 
 pub solve-accepted : Solve-accepted

@@ -80,7 +80,7 @@ gathered-read room n ls t low high short fits =
 -- every file of different pairs is taken, as the list of exactly these pairs
 pub read-every : (room n : ℕ) (lines : List Pair) → 1 ≤ n → n ≤ 512 → length lines ≤ 4096 → length lines ≤ room →
     all (names-two n) lines ≡ true → Different lines →
-    (g : Pairs) × (read-file room (file-of n lines) ≡ taken g) × (g .n ≡ n) × Names lines (g .pairs)
+    (g : Pairs) × (read-file room (file-of n lines) ≡ taken g) × (g .n ≡ n) × (length (g .pairs) ≡ length lines) × Names lines (g .pairs)
 read-every room n ls low high short fits two once =
     let t = gathered n ls two once in
-    (record { n = n; pairs = t .pairs }, gathered-read room n ls t low high short fits, refl, t .named)
+    (record { n = n; pairs = t .pairs }, gathered-read room n ls t low high short fits, refl, t .size, t .named)

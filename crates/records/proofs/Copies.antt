@@ -8,15 +8,14 @@
 --   copied-out-list, agrees-room, copied-out-holds       where head and list agree, words that are long enough then hold the list
 --   length-put-back, put-back-none, put-back-more    a list's length stays; no record, and one record more
 --   records-copied-out                 words read back are the records
---   put-back-copied-out                records copied out and back are as they were
 -- Assumes nothing.
 use mathlib.Core.Path.{_≡_, refl, sym, ap, _∙_, subst}
 use Prim.Native.Nat.{ℕ, zero, suc, _+_, _*_, _≤_, _<_}
 use native.Mathlib.Omega.{arith}
 use mathlib.Core.Bool.{true}
-use mathlib.Core.List.{List, [], _∷_, _++_, map, map-append, append-assoc}
-use lib.ListN.{length, getD, set, take, drop, replicate, length-replicate, length-append, length-drop, length-map, length-set, take-append-drop}
-use lib.Seq.{length-take-le, getD-take, getD-drop, take-suc, drop-cons, append-snoc, set-at, set-append-left, take-set-lt, drop-set-lt}
+use mathlib.Core.List.{List, [], _∷_, _++_, map, append-assoc}
+use lib.ListN.{length, getD, set, take, drop, replicate, length-replicate, length-append, length-drop, length-map, take-append-drop}
+use lib.Seq.{length-take-le, getD-take, getD-drop, take-suc, drop-cons, append-snoc, set-at}
 use Rattle.theory.specs.Basics.{table}
 use Rattle.theory.specs.Lists as Lists
 use Rattle.theory.specs.Lists.{pair}
@@ -263,11 +262,6 @@ module _ (ps : List Pair) (ws : List ℕ) (m : ℕ) (r : Room-out ps ws m) where
   pub records-copied-out : records-in m (copied-out ps ws m) ≡ take m ps
   unfolding records-in
   records-copied-out = table-ext m _ (λ j. getD ps j blank) record-laid ∙ table-take blank ps m (r .enough)
-
-  -- records copied out and back are as they were
-  pub put-back-copied-out : put-back ps (copied-out ps ws m) m ≡ ps
-  unfolding put-back
-  put-back-copied-out = ap {B = List Pair} (λ (qs : List Pair). qs ++ drop m ps) records-copied-out ∙ take-append-drop m ps
 
 -- ---- where head and list agree, words that are long enough then hold the list
 module _ (h : Head) (ps : List Pair) (ws : List ℕ) where

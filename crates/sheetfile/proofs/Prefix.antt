@@ -26,7 +26,7 @@ use Rattle.lines.proofs.Fills.{starts-plain, parted}
 use Rattle.pairfile.proofs.Accepts.{accepted}
 use Rattle.lines.proofs.Prefix.{span, rest-alike, Alike, taken-alike, alike-then, alike-same, trim-line, line-alike, judged-alike}
 use Rattle.pairfile.proofs.Promises.{reads-first}
-use Rattle.pairfile.specs.Promise.{Read-first}
+use Rattle.pairfile.specs.Promise.{Reads-first}
 use Rattle.sheetfile.specs.Sheet.{
   head-form,
   member-form,
@@ -141,5 +141,5 @@ sheet-first w file bs h = go (read-file 4096 file) refl
 
 -- both files trimmed
 pub audit-first : Audit-first
-unfolding Audit-first Sheet-first Read-first audit
+unfolding Audit-first Sheet-first Reads-first audit
 audit-first v w file bs h k = rw (reads-first 4096 v file h) (sheet-first w file bs k)

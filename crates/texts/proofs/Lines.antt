@@ -16,7 +16,6 @@ use lib.Seq.{drop-cons}
 use Rattle.theory.specs.Lists.{Pair, pair}
 use Rattle.theory.specs.Words.{laid-pairs}
 use Rattle.theory.proofs.Words.{length-laid, laid-at}
-use Rattle.lines.specs.Text.{text}
 use Rattle.lines.specs.Lines.{filled}
 use Rattle.lines.specs.Putting.{Puts}
 use Rattle.lines.proofs.Parts.{Left, left-start, left-step}

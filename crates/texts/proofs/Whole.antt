@@ -8,7 +8,7 @@ use Prim.Native.Nat.{ℕ, _≤_}
 use lib.ListN.{length, take}
 use Rattle.theory.specs.Lists.{Pairs}
 use Rattle.pairfile.specs.File.{read-file}
-use Rattle.pairfile.specs.Promise.{Read-first}
+use Rattle.pairfile.specs.Promise.{Reads-first}
 use Rattle.pairfile.proofs.Promises.{reads-first}
 use Rattle.sheetfile.specs.Audit.{audit}
 use Rattle.sheetfile.specs.Promise.{Audit-first}
@@ -19,7 +19,7 @@ use Rattle.texts.specs.Contracts.{Of-file, Group-due, Sheet-due, Read-of
 module _ {buffer : List ℕ} {n : ℕ} (room : 65536 ≤ length buffer) where
   -- what was read is taken or refused as the whole file is
   read-as : {file : List ℕ} → Read-of buffer n file → read-file 4096 (take n buffer) ≡ read-file 4096 file
-  unfolding Read-first
+  unfolding Reads-first
   read-as {file = file} e = ap (read-file 4096) (e .front) ∙ reads-first 4096 (length buffer) file room
 
   of-file : {Due Due′ : Pairs → List ℕ → Type 0} {file text : List ℕ} → Read-of buffer n file → ((g : Pairs) → Due g text → Due′ g text) →

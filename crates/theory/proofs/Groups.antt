@@ -11,16 +11,16 @@
 use mathlib.Core.Path.{_≡_, refl, sym, ap, _∙_}
 use mathlib.Core.Bool.{Bool, true, false, _&&_, _||_, not, cond, and-true, and-false}
 use mathlib.Core.List.{List, [], _∷_}
-use Prim.Native.Nat.{ℕ, zero, suc, _+_, _*_, _≤_, _<_, max, min}
+use Prim.Native.Nat.{ℕ, zero, suc, _+_, _≤_, _<_, max, min}
 use native.Mathlib.Omega.{arith}
-use lib.Dec.{leb, eqb, eqb·zero-suc, eqb·suc-zero, eqb·suc-suc}
+use lib.Dec.{eqb, eqb·zero-suc, eqb·suc-zero, eqb·suc-suc}
 use lib.ListN.{length, getD, set, replicate, length-replicate}
-use borrow.Author.Tests.{leb-true, leb-false, eqb-true, eq-eqb, ne-eqb}
+use borrow.Author.Tests.{eqb-true, eq-eqb, ne-eqb}
 use Rattle.theory.specs.Lists.{Pairs, Pair, is-list}
-use Rattle.theory.specs.Groups.{is-in, size, bytes-good, is-group, everyone, holds-pair, inside-of, inside, within, union, shared}
+use Rattle.theory.specs.Groups.{is-in, size, bytes-good, is-group, everyone, holds-pair, inside-of, within, union, shared}
 use Rattle.theory.proofs.Tests.{tests, no}
 use Rattle.theory.proofs.Sums.{byte-le}
-use Rattle.theory.proofs.Lists.{Listed, listed}
+use Rattle.theory.proofs.Lists.{listed}
 
 -- ---- members
 

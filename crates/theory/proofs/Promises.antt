@@ -1,5 +1,13 @@
--- The statements of specs/Promise.antt and of specs/Cases.antt, each proved. Assumes nothing.
-use Rattle.theory.specs.Promise.{Equal-best, Check-best, Accepted-exactly, Accepted-optimal, Best-accepted, Found-there, Found-alone}
+-- One theorem for each statement of specs/Promise.antt, in its order, and of specs/Cases.antt.
+--   weak-duality, equal-best, check-best, accepted-exactly, accepted-optimal, best-accepted    ratio and greatest load over share size
+--   found-there, found-alone, found-outright, found-largest, found-no-pairs, union-densest, shared-densest    the found group
+--   split-densest, split-there    its split
+--   found-in-core, core-exact, core-members    cores
+--   leaver-fewest to outside-first    the leaving order
+--   floats-in-order, ratios-in-order, rounded-once, surplus-signed    ratios
+--   starred-cases    the ten starred cases
+-- Assumes nothing.
+use Rattle.theory.specs.Promise.{Weak-duality, Equal-best, Check-best, Accepted-exactly, Accepted-optimal, Best-accepted, Found-there, Found-alone}
 use Rattle.theory.specs.Promise.{Found-outright, Found-largest, Found-no-pairs}
 use Rattle.theory.specs.Promise.{Split-densest, Split-there, Found-in-core, Core-exact, Core-members, Union-densest, Shared-densest, Leaver-fewest}
 use Rattle.theory.specs.Promise.{Leaver-lowest, Leaver-there, Leaving-steps, Leaving-everyone, Leaver-core, Cores-never-fall, Outside-first}
@@ -18,6 +26,9 @@ use Rattle.theory.proofs.Surplus as difference
 use Rattle.theory.proofs.Cases as cases
 
 -- ---- ratio and greatest load over share size
+
+pub weak-duality : Weak-duality
+weak-duality = duality.weak-duality
 
 pub equal-best : Equal-best
 equal-best = duality.equal-best best.found-there splits.split-there

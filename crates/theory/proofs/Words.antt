@@ -1,17 +1,17 @@
 -- Laws of lists that lie in words.
 --   length-pairs-in, pairs-in-at, pairs-ext      the pairs of two slices
---   length-laid, laid-at, laid-ext               the pairs of one buffer
+--   length-laid, laid-at                         the pairs of one buffer
 --   holds-few, holds-held, cut-list, cut-held    a buffer that holds a list, and the slices cut out of it
 --   length-put, put-below, put-in, put-past, put-drop    a buffer with new entries
 -- Assumes nothing.
-use mathlib.Core.Path.{_≡_, refl, sym, ap, _∙_}
+use mathlib.Core.Path.{_≡_, sym, ap, _∙_}
 use mathlib.Core.Bool.{true}
 use mathlib.Core.List.{List, _++_, append-assoc}
 use Prim.Native.Nat.{ℕ, _+_, _*_, _-_, _≤_, _<_}
 use native.Mathlib.Omega.{arith}
 use lib.ListN.{length, getD, take, drop, length-drop, length-append, List·getD-append}
 use lib.Seq.{length-take-le, getD-take, getD-drop, getD-append-add, drop-drop, drop-append-add}
-use Rattle.theory.specs.Lists.{Pair, Pairs, is-list}
+use Rattle.theory.specs.Lists.{Pair, is-list}
 use Rattle.theory.specs.Words.{word-pair, pairs-in, list-in, Held-words, counts-of, laid-pairs, laid-list, Holds-list, put-at}
 use Rattle.theory.proofs.Tables.{length-table, table-at, table-ext}
 use Rattle.theory.proofs.Lists.{listed}
@@ -45,12 +45,6 @@ pub laid-at : (m : ℕ) (ws : List ℕ) (j : ℕ) (d : Pair) → j < m →
 unfolding laid-pairs counts-of word-pair
 laid-at m ws j d h =
     pairs-in-at m ws (drop 8192 ws) j d h ∙ ap (λ (x : ℕ). record { a = getD ws (2 * j) 0; b = getD ws (2 * j + 1) 0; w = x }) (getD-drop 8192 ws j 0)
-
--- buffers that agree on the ends and on the counts hold the same pairs
-pub laid-ext : (m : ℕ) (ws vs : List ℕ) → ((k : ℕ) → k < 2 * m → getD ws k 0 ≡ getD vs k 0) → ((j : ℕ) → j < m → getD ws (8192 + j) 0 ≡ getD vs (8192 + j) 0) →
-    laid-pairs m ws ≡ laid-pairs m vs
-unfolding laid-pairs counts-of
-laid-ext m ws vs e w = pairs-ext m ws (drop 8192 ws) vs (drop 8192 vs) e (λ j l. getD-drop 8192 ws j 0 ∙ w j l ∙ sym (getD-drop 8192 vs j 0))
 
 -- ---- a buffer that holds a list
 
