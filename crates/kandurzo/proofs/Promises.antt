@@ -1,0 +1,93 @@
+-- One theorem for each statement of specs/Promise.antt and of specs/Keeping.antt, in their order.
+--   every-list-peeled, every-list-solved, every-list-judged, every-list-compared    every list
+--   refusals-keep, unsplit-never, fifteen-never    refusals
+--   peel-exact, check-exact, solve-accepted, records-in-order    answers
+--   held-once, add-holds, remove-drops, thirteen-never-follows    one pair more, one pair less
+--   arrival-traceless, any-order-taken, records-alone, add-undone    the order of arrival
+--   every-file-read, read-exact    read
+-- Assumes nothing.
+use Rattle.kandurzo.specs.Promise.{Every-list-peeled, Every-list-solved, Every-list-judged, Every-list-compared, Refusals-keep, Unsplit-never}
+use Rattle.kandurzo.specs.Promise.{Fifteen-never, Peel-exact, Check-exact, Solve-accepted, Records-in-order}
+use Rattle.kandurzo.specs.Keeping.{Held-once, Add-holds, Remove-drops, Thirteen-never-follows, Arrival-traceless, Any-order-taken}
+use Rattle.kandurzo.specs.Keeping.{Records-alone, Add-undone, Every-file-read, Read-exact}
+use Rattle.kandurzo.proofs.Demands as demands
+use Rattle.kandurzo.proofs.Solves as solves
+use Rattle.kandurzo.proofs.Keeping as keeping
+use Rattle.kandurzo.proofs.Arrivals as arrivals
+use Rattle.kandurzo.proofs.ReadKeeps as reading
+
+-- ---- every list
+
+pub every-list-peeled : Every-list-peeled
+every-list-peeled = demands.every-list-peeled
+
+pub every-list-solved : Every-list-solved
+every-list-solved = demands.every-list-solved
+
+pub every-list-judged : Every-list-judged
+every-list-judged = demands.every-list-judged
+
+pub every-list-compared : Every-list-compared
+every-list-compared = demands.every-list-compared
+
+-- ---- refusals
+
+pub refusals-keep : Refusals-keep
+refusals-keep = demands.refusals-keep
+
+pub unsplit-never : Unsplit-never
+unsplit-never = solves.unsplit-never
+
+pub fifteen-never : Fifteen-never
+fifteen-never = demands.fifteen-never
+
+-- ---- answers
+
+pub peel-exact : Peel-exact
+peel-exact = demands.peel-exact
+
+pub check-exact : Check-exact
+check-exact = demands.check-exact
+
+pub solve-accepted : Solve-accepted
+solve-accepted = demands.solve-accepted
+
+pub records-in-order : Records-in-order
+records-in-order = solves.records-in-order
+
+-- ---- one pair more, one pair less
+
+pub held-once : Held-once
+held-once = keeping.held-once
+
+pub add-holds : Add-holds
+add-holds = keeping.add-holds
+
+pub remove-drops : Remove-drops
+remove-drops = keeping.remove-drops
+
+pub thirteen-never-follows : Thirteen-never-follows
+thirteen-never-follows =
+    record { start = keeping.start-agrees; add = keeping.add-agrees; remove = keeping.remove-agrees; read = reading.read-agrees-after }
+
+-- ---- the order of arrival
+
+pub arrival-traceless : Arrival-traceless
+arrival-traceless = arrivals.arrival-traceless
+
+pub any-order-taken : Any-order-taken
+any-order-taken = arrivals.any-order-taken
+
+pub records-alone : Records-alone
+records-alone = keeping.records-alone
+
+pub add-undone : Add-undone
+add-undone = keeping.add-undone
+
+-- ---- read
+
+pub every-file-read : Every-file-read
+every-file-read = reading.every-file-read
+
+pub read-exact : Read-exact
+read-exact = reading.read-exact
