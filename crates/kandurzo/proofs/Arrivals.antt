@@ -52,6 +52,7 @@ module _ (h : Head) (ps : List Pair) (c : Lists.Pair) where
       let p = add-passed (x .2) (x .3) in
       (p .taken, rw (p .head, p .list) at (x .4))
 
+  -- and back: an add that is taken, with others after it, is adds in a row
   next-adds : (cs : List Lists.Pair) (i : Head) (qs : List Pair) → Next-taken → Adds next-head next-list cs i qs → Adds h ps (c ∷ cs) i qs
   unfolding Adds changed-to
   next-adds cs i qs taken x = (changed-to 0 next-head, next-list, add-says h ps (c .a) (c .b) taken, refl, x)
@@ -73,7 +74,16 @@ record Reached (h : Head) (ps : List Pair) (cs : List Lists.Pair) (i : Head) (qs
   long : length qs ≡ length ps
   past : drop (i .m) qs ≡ drop (i .m) ps
 
--- what head and list hold where they agree
+-- the same head and list are reached from elsewhere, by other arrivals, where these make up for the difference
+reached-from : {h k : Head} {ps rs : List Pair} {cs ds : List Lists.Pair} {i : Head} {qs : List Pair} → h .n ≡ k .n → length ps ≡ length rs →
+    drop (i .m) ps ≡ drop (i .m) rs →
+    ((p : Lists.Pair) →
+    times-named p ds + mark (is-held p (held-list k rs .pairs)) ≡ times-named p cs + mark (is-held p (held-list h ps .pairs))) →
+    Reached h ps cs i qs → Reached k rs ds i qs
+reached-from n l d t g =
+    record { agreed = g .agreed; modules = g .modules ∙ n; named = λ p. t p ∙ g .named p; long = g .long ∙ l; past = g .past ∙ d }
+
+-- what head and list hold where they agree, as the laws of pair files ask it
 held-kept : (h : Head) (ps : List Pair) → agrees h ps ≡ true → Kept (h .n) (held-list h ps .pairs)
 unfolding held-list
 held-kept h ps agreed =
@@ -81,10 +91,12 @@ held-kept h ps agreed =
     record { rises = l .rises; ends = l .ends; first = l .first; once = held-ones h ps agreed }
 
 module _ (h : Head) (ps : List Pair) (cs : List Lists.Pair) (i : Head) (qs : List Pair) (agreed : agrees h ps ≡ true) (goal : Reached h ps cs i qs) where
+  -- and so is what is held in the end
   goal-kept : Kept (h .n) (held-list i qs .pairs)
   unfolding held-list
   goal-kept = rw (goal .modules) at (held-kept i qs (goal .agreed))
 
+  -- there are at most 512 modules
   few-modules : h .n ≤ 512
   unfolding held-list
   few-modules = listed (held-list h ps) (held-is-list h ps agreed) .few
@@ -112,31 +124,23 @@ module _ (h : Head) (ps : List Pair) (c : Lists.Pair) (cs : List Lists.Pair) (i 
   unfolding head-of
   next-past l = drop-more (h .m + 1) (i .m) (next-list h ps c) ps l (pair-added h ps (c .a) (c .b) taken .past)
 
+  -- the lent list stays as long
+  next-long : length (next-list h ps c) ≡ length ps
+  next-long = pair-added h ps (c .a) (c .b) taken .long
+
   -- from after it to before it
   reached-before : Reached (next-head h ps c) (next-list h ps c) cs i qs → Reached h ps (c ∷ cs) i qs
   unfolding times-named head-of
   reached-before g =
       let count = reached-count _ _ cs i qs (added-agrees h ps (c .a) (c .b) taken) g in
-      record {
-        agreed = g .agreed;
-        modules = g .modules;
-        named = λ p. omega (arith, g .named p, next-mark p);
-        long = g .long ∙ pair-added h ps (c .a) (c .b) taken .long;
-        past = g .past ∙ next-past (omega (arith, count));
-      }
+      reached-from refl next-long (next-past (omega arith)) (λ p. omega (arith, next-mark p)) g
 
   -- and back
   reached-after : agrees h ps ≡ true → Reached h ps (c ∷ cs) i qs → Reached (next-head h ps c) (next-list h ps c) cs i qs
   unfolding times-named head-of
   reached-after agreed g =
       let count = reached-count h ps (c ∷ cs) i qs agreed g in
-      record {
-        agreed = g .agreed;
-        modules = g .modules;
-        named = λ p. omega (arith, g .named p, next-mark p);
-        long = g .long ∙ sym (pair-added h ps (c .a) (c .b) taken .long);
-        past = g .past ∙ sym (next-past (omega (arith, count)));
-      }
+      reached-from refl (sym next-long) (sym (next-past (omega arith))) (λ p. omega (arith, next-mark p)) g
 
 -- adds in a row leave a head and a list that hold their pairs
 adds-reach : (cs : List Lists.Pair) (h i : Head) (ps qs : List Pair) → agrees h ps ≡ true → Adds h ps cs i qs → Reached h ps cs i qs
@@ -159,25 +163,34 @@ reached-none h i ps qs agreed g =
     let same : _≡_ {A = Head} (record { n = i .n; m = i .m }) (record { n = h .n; m = h .m }) = cc (g .modules) in
     (same, sym (take-append-drop (i .m) qs) ∙ rw (front, g .past, m) (take-append-drop (h .m) ps))
 
--- a record is free
-room : (h : Head) (len : ℕ) → h .m < 4096 → h .m < len → is-full h len ≡ false
+-- a list with a free record is not full
+list-not-full : (h : Head) (len : ℕ) → h .m < 4096 → h .m < len → is-full h len ≡ false
 unfolding is-full
-room h len few fits = rw (ne-eqb (h .m) 4096 (λ e. omega arith), ne-eqb (h .m) len (λ e. omega arith))
+list-not-full h len few fits = rw (ne-eqb (h .m) 4096 (λ e. omega arith), ne-eqb (h .m) len (λ e. omega arith))
 
--- whichever comes first is taken
-first-taken : (h : Head) (ps : List Pair) (c : Lists.Pair) (cs : List Lists.Pair) (i : Head) (qs : List Pair) → agrees h ps ≡ true →
-    Reached h ps (c ∷ cs) i qs → Next-taken h ps c
-unfolding add-number
-first-taken h ps c cs i qs agreed g =
-    let kept = goal-kept h ps (c ∷ cs) i qs agreed g in
-    let new = first-named (h .n) (held-list i qs .pairs) kept c cs (held-list h ps .pairs) (held-kept h ps agreed) (g .named) .1 in
-    let n : ℕ = held-list h ps .n in
-    let fit : refusal (pair-causes n (c .a) (c .b)) ≡ 0 =
-    unfold held-list in (first-fit (h .n) (held-list i qs .pairs) kept c cs (held-list h ps .pairs) (held-kept h ps agreed) (g .named)) in
-    let count = reached-count h ps (c ∷ cs) i qs agreed g in
-    let short = listed (held-list i qs) (held-is-list i qs (g .agreed)) .short in
-    let free = room h (length ps) (omega (arith, count, short, length-held i qs (g .agreed))) (omega (arith, count, held-few i qs (g .agreed), g .long)) in
-    add-taken _ (held-list h ps) _ (c .a) (c .b) (none-first _ n (c .a) (c .b) (rw agreed) fit) new free
+-- whichever comes first
+module _ (h : Head) (ps : List Pair) (c : Lists.Pair) (cs : List Lists.Pair) (i : Head) (qs : List Pair) (agreed : agrees h ps ≡ true)
+    (goal : Reached h ps (c ∷ cs) i qs) where
+  -- there is room for it
+  first-room : is-full h (length ps) ≡ false
+  first-room =
+      let count = reached-count h ps (c ∷ cs) i qs agreed goal in
+      let short = listed (held-list i qs) (held-is-list i qs (goal .agreed)) .short in
+      let m = length-held i qs (goal .agreed) in
+      let fits = held-few i qs (goal .agreed) in
+      list-not-full h (length ps) (omega arith) (omega (arith, goal .long))
+
+  -- and it is taken
+  first-taken : Next-taken h ps c
+  unfolding add-number
+  first-taken =
+      let whole = goal-kept h ps (c ∷ cs) i qs agreed goal in
+      let kept = held-kept h ps agreed in
+      let new = first-named (h .n) (held-list i qs .pairs) whole c cs (held-list h ps .pairs) kept (goal .named) .1 in
+      let n : ℕ = held-list h ps .n in
+      let fit : refusal (pair-causes n (c .a) (c .b)) ≡ 0 =
+      unfold held-list in (first-fit (h .n) (held-list i qs .pairs) whole c cs (held-list h ps .pairs) kept (goal .named)) in
+      add-taken _ (held-list h ps) _ (c .a) (c .b) (none-first _ n (c .a) (c .b) (rw agreed) fit) new first-room
 
 -- arrivals whose pairs a head and a list hold lead to these, in whatever order they come
 reached-adds : (cs : List Lists.Pair) (h i : Head) (ps qs : List Pair) → agrees h ps ≡ true → Reached h ps cs i qs → Adds h ps cs i qs
@@ -192,14 +205,7 @@ reached-adds (c ∷ cs) h i ps qs agreed g =
 pub any-order-taken : Any-order-taken
 unfolding Any-order-taken Same-arrivals
 any-order-taken h ps cs ds i qs agreed same x =
-    let g = adds-reach cs h i ps qs agreed x in
-    reached-adds ds h i ps qs agreed record {
-      agreed = g .agreed;
-      modules = g .modules;
-      named = λ p. omega (arith, same p, g .named p);
-      long = g .long;
-      past = g .past;
-    }
+    reached-adds ds h i ps qs agreed (reached-from refl refl refl (λ p. omega (arith, same p)) (adds-reach cs h i ps qs agreed x))
 
 -- the same pairs added in any two orders leave the same head and the same records
 pub arrival-traceless : Arrival-traceless

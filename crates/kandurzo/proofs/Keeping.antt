@@ -1,7 +1,7 @@
 -- What the planner is promised of the list that start, add and remove make: the theorems of specs/Keeping.antt, each named as its statement.
 --   held-once                          no pair is held twice
 --   Passed, add-passed, remove-passed  what a call that is taken answers and leaves, from what it says
---   add-says                           and back
+--   add-says                           and back, for add
 --   pair-added, add-holds              what add accepts is held afterwards, and nothing else changed
 --   pair-removed, remove-drops         what remove accepts is no longer held, and nothing else changed
 --   start-agrees, add-agrees, remove-agrees    head and list agree after every taken call
@@ -116,6 +116,7 @@ module _ {k : ℕ} {new : Head} {after : List Pair} {r : Changed} {ps′ : List 
   passed-on P x f = rw (x .head, x .list) (f (x .taken))
 
 module _ {h : Head} {ps : List Pair} {a b : ℕ} {r : Changed} {ps′ : List Pair} where
+  -- from what add says, and from what remove says
   pub add-passed : Add-says h ps a b r ps′ → r .number ≡ 0 → Passed (add-number h ps a b) (head-of (h .n) (h .m + 1)) (added h ps a b) r ps′
   add-passed says none = passed h ps (says .number) (says .head) (says .list) none
 

@@ -2,7 +2,7 @@
 --   Add-taken, add-number-none          no cause of add is met
 --   Remove-taken, remove-number-none    nor of remove
 --   as-pairs-back, as-records-back      records and pairs of weight 1 are the same
---   held-few, held-is-list, length-held  what head and list hold where they agree
+--   held-few, held-is-list, length-held what head and list hold where they agree
 --   held-ones, held-records             each held pair counts once, and the held records are those of the held pairs
 --   held-front, agrees-front            records of pairs in front of others
 --   not-full, added-length, removed-one    there is room where add is taken; a pair more and a pair less
