@@ -20,7 +20,7 @@ use Rattle.records.specs.declared.Pair.{Pair}
 use Rattle.records.specs.declared.Head.{Head}
 use Rattle.records.specs.Records.{held-list, agrees}
 use Rattle.kandurzo.specs.Gate.{Fits-16-bits}
-use Rattle.kandurzo.proofs.Taken.{held-is-list, held-once}
+use Rattle.kandurzo.proofs.Taken.{held-is-list, held-ones}
 
 total-once : (ps : List Lists.Pair) → all counts-once ps ≡ true → total ps ≡ length ps
 unfolding all counts-once total
@@ -48,4 +48,4 @@ once-fit g list once = record {
 }
 
 pub held-fit : (h : Head) (ps : List Pair) → agrees h ps ≡ true → Fits-16-bits (held-list h ps)
-held-fit h ps e = once-fit (held-list h ps) (held-is-list h ps e) (held-once h ps e)
+held-fit h ps e = once-fit (held-list h ps) (held-is-list h ps e) (held-ones h ps e)

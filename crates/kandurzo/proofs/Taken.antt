@@ -2,15 +2,15 @@
 --   Add-taken, add-number-none          no cause of add is met
 --   Remove-taken, remove-number-none    nor of remove
 --   as-pairs-back, as-records-back      records and pairs of weight 1 are the same
+--   held-few, held-is-list, length-held what head and list hold where they agree
+--   held-ones, held-records             each held pair counts once, and the held records are those of the held pairs
+--   held-front, agrees-front            records of pairs in front of others
+--   not-full, added-length, removed-one    there is room where add is taken; a pair more and a pair less
 --   held-added, held-removed            the held pairs after a taken call
---   added-agrees, removed-agrees        head and list agree afterwards: 13 never follows a taken call
---   added-held                          what add accepts is held afterwards, and nothing else changed
---   add-remove                          a pair added and removed leaves the held records as they were
---   adds-commute                        two adds that are taken in either order leave the same held records
---   held-alone                          lists that hold the same pairs have the same held records: the order of arrival leaves no trace
--- Assumes nothing.
-use mathlib.Core.Path.{_≡_, refl, sym, ap, _∙_}
-use mathlib.Core.Bool.{Bool, true, false, _||_}
+--   added-agrees, removed-agrees        head and list agree afterwards
+-- proofs/Keeping.antt has what the planner is promised of them. Assumes nothing.
+use mathlib.Core.Path.{_≡_, refl, ap, _∙_}
+use mathlib.Core.Bool.{true, false}
 use mathlib.Core.List.{List, [], _∷_, _++_}
 use Prim.Native.Nat.{ℕ, _+_, _-_, _≤_, _<_}
 use native.Mathlib.Omega.{arith}
@@ -19,21 +19,20 @@ use lib.Seq.{length-take-le, take-at}
 use borrow.Author.Tests.{not-false}
 use Rattle.theory.specs.Basics.{all}
 use Rattle.theory.specs.Lists as Lists
-use Rattle.theory.specs.Lists.{Pairs, pair, is-list}
+use Rattle.theory.specs.Lists.{pair, is-list}
 use Rattle.theory.specs.Refusals.{refusal}
 use Rattle.theory.proofs.Tests.{tests}
 use Rattle.theory.proofs.Lists.{listed}
-use Rattle.pairs.specs.Held.{same-ends, is-held, insert-pair, remove-pair, with-pair, without-pair, smaller-first-pair}
+use Rattle.pairs.specs.Held.{is-held, insert-pair, remove-pair, with-pair, without-pair, smaller-first-pair}
 use Rattle.pairs.specs.Causes.{pair-causes}
 use Rattle.pairs.proofs.Causes.{pair-good}
-use Rattle.pairs.proofs.Changes.{insert-length, remove-length, insert-all, remove-all, insert-held, insert-swap, insert-remove}
-use Rattle.pairs.proofs.Order.{same-refl}
-use Rattle.pairs.proofs.Keeps.{insert-list, remove-list, counts-once, ones-alone}
+use Rattle.pairs.proofs.Changes.{insert-length, remove-length, insert-all, remove-all}
+use Rattle.pairs.proofs.Keeps.{insert-list, remove-list, counts-once}
 use Rattle.records.specs.declared.Pair.{Pair}
 use Rattle.records.specs.declared.Head.{Head}
 use Rattle.records.specs.Records.{as-pair, as-pairs, held-list, agrees}
 use Rattle.kandurzo.specs.Listing.{head-of, as-record, as-records, is-full, add-number, added, remove-number, removed}
-use Rattle.kandurzo.proofs.Orders.{none-first, add-none, remove-none, remove-taken}
+use Rattle.kandurzo.proofs.Orders.{add-none, remove-none}
 use Rattle.kandurzo.proofs.Changes.{full-less}
 
 -- ---- what a taken call passed
@@ -105,9 +104,9 @@ module _ (h : Head) (ps : List Pair) (agreed : agrees h ps ≡ true) where
   unfolding held-list
   length-held = length-as-pairs (take (h .m) ps) ∙ length-take-le (h .m) ps held-few
 
-  pub held-once : all counts-once (held-list h ps .pairs) ≡ true
+  pub held-ones : all counts-once (held-list h ps .pairs) ≡ true
   unfolding held-list
-  held-once = once-as-pairs (take (h .m) ps)
+  held-ones = once-as-pairs (take (h .m) ps)
 
   -- the held records are those of the held pairs
   pub held-records : as-records (held-list h ps .pairs) ≡ take (h .m) ps
@@ -138,9 +137,9 @@ module _ (h : Head) (ps : List Pair) (a b : ℕ) (taken : add-number h ps a b �
   passed = add-number-none h ps a b taken
 
   added-once : all counts-once (insert-pair new-pair (held-list h ps .pairs)) ≡ true
-  added-once = insert-all counts-once new-pair _ (unfold counts-once smaller-first-pair pair in refl) (held-once h ps (passed .agreed))
+  added-once = insert-all counts-once new-pair _ (unfold counts-once smaller-first-pair pair in refl) (held-ones h ps (passed .agreed))
 
-  added-length : length (insert-pair new-pair (held-list h ps .pairs)) ≡ h .m + 1
+  pub added-length : length (insert-pair new-pair (held-list h ps .pairs)) ≡ h .m + 1
   added-length = omega (arith, insert-length new-pair (held-list h ps .pairs), length-held h ps (passed .agreed))
 
   -- the list holds the pair, and otherwise what it held
@@ -150,16 +149,17 @@ module _ (h : Head) (ps : List Pair) (a b : ℕ) (taken : add-number h ps a b �
       held-front (h .n) (h .m + 1) (insert-pair new-pair (held-list h ps .pairs)) _ added-length added-once
       ∙ (unfold held-list in refl)
 
-  not-full-few : h .m < 4096
-  not-full-few =
+  -- a record is free
+  pub not-full : (h .m < 4096) × (h .m < length ps)
+  not-full =
       let l = listed (held-list h ps) (held-is-list h ps (passed .agreed)) in
-      full-less h (length ps) (omega (arith, l .short, length-held h ps (passed .agreed))) (held-few h ps (passed .agreed)) (passed .room) .0
+      full-less h (length ps) (omega (arith, l .short, length-held h ps (passed .agreed))) (held-few h ps (passed .agreed)) (passed .room)
 
   pub added-list : is-list (with-pair new-pair (held-list h ps)) ≡ true
   added-list =
       let good = pair-good (h .n) a b (passed .fine) in
       insert-list (held-list h ps) new-pair (held-is-list h ps (passed .agreed)) (unfold held-list in (good .0)) (good .1) (good .2) (passed .new)
-      (omega (arith, length-held h ps (passed .agreed), not-full-few))
+      (omega (arith, length-held h ps (passed .agreed), not-full .0))
 
   -- 13 never follows a taken add
   pub added-agrees : agrees (head-of (h .n) (h .m + 1)) (added h ps a b) ≡ true
@@ -168,58 +168,6 @@ module _ (h : Head) (ps : List Pair) (a b : ℕ) (taken : add-number h ps a b �
       agrees-front (h .n) (h .m + 1) (insert-pair new-pair (held-list h ps .pairs)) _ added-length added-once
       (unfold with-pair held-list in added-list)
 
-  -- what add accepts is held afterwards, and nothing else changed
-  pub added-held : (r : Lists.Pair) →
-      is-held r (held-list (head-of (h .n) (h .m + 1)) (added h ps a b) .pairs) ≡ (same-ends r new-pair || is-held r (held-list h ps .pairs))
-  added-held r =
-      ap (λ (g : Pairs). is-held r (g .pairs)) held-added ∙ (unfold with-pair in (insert-held r new-pair (held-list h ps .pairs)))
-
-  -- removing it again is taken, and leaves the held records as they were
-  pub add-remove : (remove-number (head-of (h .n) (h .m + 1)) (added h ps a b) a b ≡ 0)
-      × (take (h .m) (removed (head-of (h .n) (h .m + 1)) (added h ps a b) a b) ≡ take (h .m) ps)
-  unfolding remove-number removed
-  add-remove =
-      let own : is-held new-pair (held-list (head-of (h .n) (h .m + 1)) (added h ps a b) .pairs) ≡ true =
-      added-held new-pair ∙ rw (same-refl new-pair) in
-      let back : remove-pair new-pair (held-list (head-of (h .n) (h .m + 1)) (added h ps a b) .pairs) ≡ held-list h ps .pairs =
-      ap (λ (g : Pairs). remove-pair new-pair (g .pairs)) held-added ∙ (unfold with-pair in (insert-remove new-pair (held-list h ps .pairs))) in
-      let n : ℕ = held-list (head-of (h .n) (h .m + 1)) (added h ps a b) .n in (
-        remove-taken _ _ a b (none-first _ n a b (rw added-agrees) (unfold held-list head-of in (passed .fine))) own,
-        rw back (take-at (as-records (held-list h ps .pairs)) _ (h .m) (length-as-records _ ∙ length-held h ps (passed .agreed))
-            ∙ held-records h ps (passed .agreed)),
-      )
-
--- two adds that are taken one after the other, in either order, leave the same held pairs
-pub adds-commute : (h : Head) (ps : List Pair) (a b c d : ℕ) → add-number h ps a b ≡ 0 → add-number h ps c d ≡ 0 →
-    add-number (head-of (h .n) (h .m + 1)) (added h ps a b) c d ≡ 0 → add-number (head-of (h .n) (h .m + 1)) (added h ps c d) a b ≡ 0 →
-    held-list (head-of (h .n) (h .m + 1 + 1)) (added (head-of (h .n) (h .m + 1)) (added h ps a b) c d)
-    ≡ held-list (head-of (h .n) (h .m + 1 + 1)) (added (head-of (h .n) (h .m + 1)) (added h ps c d) a b)
-unfolding head-of with-pair
-adds-commute h ps a b c d x y z w =
-    let other : same-ends (smaller-first-pair c d) (smaller-first-pair a b) ≡ false =
-    or-fails _ (is-held (smaller-first-pair c d) (held-list h ps .pairs))
-    (sym (added-held h ps a b x (smaller-first-pair c d)) ∙ add-number-none _ _ c d z .new) in
-    held-added (head-of (h .n) (h .m + 1)) (added h ps a b) c d z
-    ∙ ap (with-pair (smaller-first-pair c d)) (held-added h ps a b x)
-    ∙ ap (λ (qs : List Lists.Pair). record { n = held-list h ps .n; pairs = qs })
-    (insert-swap (smaller-first-pair c d) (smaller-first-pair a b) (held-list h ps .pairs) other)
-    ∙ sym (held-added (head-of (h .n) (h .m + 1)) (added h ps c d) a b w
-    ∙ ap (with-pair (smaller-first-pair a b)) (held-added h ps c d y))
-  where
-    or-fails : (s t : Bool) → (s || t) ≡ false → s ≡ false
-    or-fails true t e = e
-    or-fails false t e = refl
-
--- lists that hold the same pairs have the same held records
-pub held-alone : (h k : Head) (ps qs : List Pair) → agrees h ps ≡ true → agrees k qs ≡ true →
-    ((r : Lists.Pair) → is-held r (held-list h ps .pairs) ≡ is-held r (held-list k qs .pairs)) → take (h .m) ps ≡ take (k .m) qs
-held-alone h k ps qs x y same =
-    sym (held-records h ps x)
-    ∙ ap as-records
-    (ones-alone (held-list h ps .pairs) (held-list k qs .pairs) (listed _ (held-is-list h ps x) .rises) (listed _ (held-is-list k qs y) .rises)
-    (held-once h ps x) (held-once k qs y) same)
-    ∙ held-records k qs y
-
 -- ---- after a taken remove
 
 module _ (h : Head) (ps : List Pair) (a b : ℕ) (taken : remove-number h ps a b ≡ 0) where
@@ -227,11 +175,14 @@ module _ (h : Head) (ps : List Pair) (a b : ℕ) (taken : remove-number h ps a b
   passed-out = remove-number-none h ps a b taken
 
   removed-once : all counts-once (remove-pair (smaller-first-pair a b) (held-list h ps .pairs)) ≡ true
-  removed-once = remove-all counts-once (smaller-first-pair a b) _ (held-once h ps (passed-out .agreed))
+  removed-once = remove-all counts-once (smaller-first-pair a b) _ (held-ones h ps (passed-out .agreed))
+
+  pub removed-one : length (remove-pair (smaller-first-pair a b) (held-list h ps .pairs)) + 1 ≡ h .m
+  removed-one =
+      omega (arith, remove-length (smaller-first-pair a b) (held-list h ps .pairs) (passed-out .held), length-held h ps (passed-out .agreed))
 
   removed-length : length (remove-pair (smaller-first-pair a b) (held-list h ps .pairs)) ≡ h .m - 1
-  removed-length =
-      omega (arith, remove-length (smaller-first-pair a b) (held-list h ps .pairs) (passed-out .held), length-held h ps (passed-out .agreed))
+  removed-length = omega (arith, removed-one)
 
   pub held-removed : held-list (head-of (h .n) (h .m - 1)) (removed h ps a b) ≡ without-pair (smaller-first-pair a b) (held-list h ps)
   unfolding removed without-pair

@@ -28,10 +28,10 @@ all-at f (x ∷ xs) zero d e h = (simp tests at e) .0
 all-at f (x ∷ xs) (suc i) d e h = all-at f xs i d ((simp tests at e) .1) (omega arith)
 
 -- lists that agree from i on agree from j on
-pub drop-more : (i j : ℕ) (xs ys : List ℕ) → i ≤ j → drop i xs ≡ drop i ys → drop j xs ≡ drop j ys
-drop-more i j xs ys h e =
+pub drop-more : {A : Type 0} (i j : ℕ) (xs ys : List A) → i ≤ j → drop i xs ≡ drop i ys → drop j xs ≡ drop j ys
+drop-more {A} i j xs ys h e =
     let d : i + (j - i) ≡ j = omega arith in
-    let at-j : (zs : List ℕ) → drop j zs ≡ drop (j - i) (drop i zs) =
+    let at-j : (zs : List A) → drop j zs ≡ drop (j - i) (drop i zs) =
     λ zs. ap (λ (t : ℕ). drop t zs) (sym d) ∙ sym (drop-drop (j - i) i zs) in
     at-j xs ∙ ap (drop (j - i)) e ∙ sym (at-j ys)
 

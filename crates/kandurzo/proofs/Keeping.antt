@@ -1,0 +1,236 @@
+-- What the planner is promised of the list that start, add and remove make: the theorems of specs/Keeping.antt, each named as its statement.
+--   held-once                          no pair is held twice
+--   Passed, add-passed, remove-passed  what a call that is taken answers and leaves, from what it says
+--   add-says                           and back, for add
+--   pair-added, add-holds              what add accepts is held afterwards, and nothing else changed
+--   pair-removed, remove-drops         what remove accepts is no longer held, and nothing else changed
+--   start-agrees, add-agrees, remove-agrees    head and list agree after every taken call
+--   records-alone, add-undone          lists that hold the same pairs; a pair added and removed
+-- Assumes nothing.
+use mathlib.Core.Path.{_≡_, refl, sym, ap, _∙_}
+use mathlib.Core.Bool.{true, false}
+use mathlib.Core.List.{List, [], _∷_}
+use Prim.Native.Nat.{ℕ, _+_, _-_, _<_, min, max}
+use native.Mathlib.Omega.{arith}
+use lib.Dec.{ltb}
+use lib.ListN.{length, getD, take, drop, length-append, length-drop, List·getD-map}
+use lib.Seq.{take-at, drop-at, drop-append-add, getD-at, getD-take}
+use borrow.Author.Tests.{ltb-true, ltb-false}
+use Rattle.theory.specs.Basics.{all}
+use Rattle.theory.specs.Lists as Lists
+use Rattle.theory.specs.Lists.{Pairs, pair, smaller-first, rising, is-list}
+use Rattle.theory.specs.Refusals.{refusal, if-taken}
+use Rattle.theory.proofs.Tests.{tests, no, by-test}
+use Rattle.theory.proofs.Lists.{listed, is-listed}
+use Rattle.pairs.specs.Held.{same-ends, is-held, insert-pair, remove-pair, with-pair, without-pair, smaller-first-pair}
+use Rattle.pairs.specs.Causes.{pair-causes}
+use Rattle.pairs.proofs.Order.{before-not-same, same-refl, same-sym}
+use Rattle.pairs.proofs.General.{all-at}
+use Rattle.pairs.proofs.Rising.{rising-at}
+use Rattle.pairs.proofs.Changes.{insert-held, remove-held, insert-remove}
+use Rattle.pairs.proofs.Keeps.{ones-alone}
+use Rattle.pairfile.specs.File.{modules-causes}
+use Rattle.pairfile.proofs.Taken.{modules-unmet}
+use Rattle.records.specs.declared.Pair.{Pair}
+use Rattle.records.specs.declared.Head.{Head}
+use Rattle.records.specs.Records.{as-pair, as-pairs, held-list, agrees, blank}
+use Rattle.kandurzo.specs.declared.Changed.{Changed}
+use Rattle.kandurzo.specs.Listing.{head-of, changed-to, started, as-records, add-number, added, Add-says, remove-number, removed, Remove-says}
+use Rattle.kandurzo.specs.Keeping.{pair-at, Held-once, Pair-added, Add-holds, Pair-removed, Remove-drops, Records-alone, Add-undone}
+use Rattle.kandurzo.proofs.Orders.{none-first, remove-taken}
+use Rattle.kandurzo.proofs.Taken.{add-number-none, remove-number-none, length-as-records, held-few, held-is-list, length-held, held-ones}
+use Rattle.kandurzo.proofs.Taken.{held-records, agrees-front, not-full, added-length, held-added, added-agrees, removed-one, held-removed}
+use Rattle.kandurzo.proofs.Taken.{removed-agrees}
+
+-- ---- no pair is held twice
+
+-- the smaller module stands first already
+ordered : (a b : ℕ) → a < b → smaller-first-pair a b ≡ pair a b
+unfolding smaller-first-pair
+ordered a b l =
+    let low : min a b ≡ a = omega arith in
+    let high : max a b ≡ b = omega arith in
+    rw (low, high)
+
+module _ (h : Head) (ps : List Pair) (agreed : agrees h ps ≡ true) where
+  -- the record at a place stands for the held pair there
+  held-at-place : (i : ℕ) → i < h .m → pair-at ps i ≡ getD (held-list h ps .pairs) i (as-pair blank)
+  unfolding pair-at held-list as-pairs as-pair pair smaller-first
+  held-at-place i l =
+      let p : Pair = getD ps i blank in
+      let there : getD (held-list h ps .pairs) i (as-pair blank) ≡ as-pair p =
+      List·getD-map as-pair (take (h .m) ps) i blank ∙ ap as-pair (getD-take (h .m) ps i blank l) in
+      let first : smaller-first (as-pair p) ≡ true =
+      ap smaller-first (sym there)
+      ∙ all-at smaller-first (held-list h ps .pairs) i (as-pair blank) (listed (held-list h ps) (held-is-list h ps agreed) .first)
+      (omega (arith, length-held h ps agreed)) in
+      ordered (p .a) (p .b) (simp tests at first) ∙ sym there
+
+  -- two places have two pairs
+  places-differ : (i j : ℕ) → i < j → j < h .m → same-ends (pair-at ps i) (pair-at ps j) ≡ false
+  places-differ i j l k =
+      rw (held-at-place i (omega arith), held-at-place j k)
+      (before-not-same _ _
+      (rising-at (held-list h ps .pairs) i j (as-pair blank) (listed _ (held-is-list h ps agreed) .rises) l (omega (arith, length-held h ps agreed))))
+
+-- no pair is held twice
+pub held-once : Held-once
+unfolding Held-once
+held-once h ps i j agreed l k same =
+    by-test (ltb i j) (λ t. no (sym (places-differ h ps agreed i j (ltb-true i j t) k) ∙ same))
+    (λ t. by-test (ltb j i) (λ u. no (sym (places-differ h ps agreed j i (ltb-true j i u) l) ∙ same-sym (pair-at ps i) (pair-at ps j) same))
+    (λ u. omega (arith, ltb-false i j t, ltb-false j i u)))
+
+-- lists that hold the same pairs have the same held records, whatever calls made them
+pub records-alone : Records-alone
+unfolding Records-alone
+records-alone h k ps qs x y same =
+    sym (held-records h ps x)
+    ∙ ap as-records
+    (ones-alone (held-list h ps .pairs) (held-list k qs .pairs) (listed _ (held-is-list h ps x) .rises) (listed _ (held-is-list k qs y) .rises)
+    (held-ones h ps x) (held-ones k qs y) same)
+    ∙ held-records k qs y
+
+-- ---- a call that is taken
+
+-- what a call that is taken answers and leaves; k is its number
+pub record Passed (k : ℕ) (new : Head) (after : List Pair) (r : Changed) (ps′ : List Pair) : Type 0 where
+  pub taken : k ≡ 0
+  pub head : r .head ≡ new
+  pub list : ps′ ≡ after
+
+-- it leaves the new
+if-taken-new : {A : Type 0} (k : ℕ) (x y : A) → k ≡ 0 → if-taken k x y ≡ x
+unfolding if-taken
+if-taken-new k x y e = rw e
+
+module _ {k : ℕ} {new : Head} {after : List Pair} {r : Changed} {ps′ : List Pair} where
+  -- from the three clauses of a call
+  passed : (h : Head) (ps : List Pair) → r .number ≡ k → r .head ≡ if-taken k new h → ps′ ≡ if-taken k after ps → r .number ≡ 0 → Passed k new after r ps′
+  passed h ps e d c none =
+      let taken = sym e ∙ none in
+      record { taken = taken; head = d ∙ if-taken-new k new h taken; list = c ∙ if-taken-new k after ps taken }
+
+  -- what holds of the new head and list holds of those answered and left
+  passed-on : (P : Head → List Pair → Type 0) → Passed k new after r ps′ → (k ≡ 0 → P new after) → P (r .head) ps′
+  passed-on P x f = rw (x .head, x .list) (f (x .taken))
+
+module _ {h : Head} {ps : List Pair} {a b : ℕ} {r : Changed} {ps′ : List Pair} where
+  -- from what add says, and from what remove says
+  pub add-passed : Add-says h ps a b r ps′ → r .number ≡ 0 → Passed (add-number h ps a b) (head-of (h .n) (h .m + 1)) (added h ps a b) r ps′
+  add-passed says none = passed h ps (says .number) (says .head) (says .list) none
+
+  pub remove-passed : Remove-says h ps a b r ps′ → r .number ≡ 0 → Passed (remove-number h ps a b) (head-of (h .n) (h .m - 1)) (removed h ps a b) r ps′
+  remove-passed says none = passed h ps (says .number) (says .head) (says .list) none
+
+-- an add whose number is 0 says that it is taken
+pub add-says : (h : Head) (ps : List Pair) (a b : ℕ) → add-number h ps a b ≡ 0 →
+    Add-says h ps a b (changed-to 0 (head-of (h .n) (h .m + 1))) (added h ps a b)
+unfolding changed-to
+add-says h ps a b e = record { number = sym e; head = sym (if-taken-new _ _ _ e); list = sym (if-taken-new _ _ _ e) }
+
+-- ---- start, add and remove
+
+-- a head without pairs agrees with whatever records are lent
+pub start-agrees : (n : ℕ) (ps : List Pair) → started n .number ≡ 0 → agrees (started n .head) ps ≡ true
+unfolding started as-records all rising
+start-agrees n ps e =
+    let k = modules-unmet n e in
+    let none : is-list (record { n = n; pairs = [] }) ≡ true =
+    is-listed _ record { some = k .0; few = k .1; short = omega arith; ends = refl; first = refl; weights = refl; rises = refl } in
+    rw (if-taken-new (refusal (modules-causes n)) (head-of n 0) (head-of 0 0) e) (agrees-front n 0 [] ps refl refl none)
+
+-- the list of a taken add
+pub pair-added : (h : Head) (ps : List Pair) (a b : ℕ) → add-number h ps a b ≡ 0 →
+    Pair-added h ps a b (head-of (h .n) (h .m + 1)) (added h ps a b)
+unfolding head-of added with-pair
+pair-added h ps a b e =
+    let new : List Lists.Pair = insert-pair (smaller-first-pair a b) (held-list h ps .pairs) in
+    let long : length (as-records new) ≡ h .m + 1 = length-as-records new ∙ added-length h ps a b e in
+    record {
+      modules = refl;
+      pairs = refl;
+      held = λ p. ap (λ (g : Pairs). is-held p (g .pairs)) (held-added h ps a b e) ∙ insert-held p (smaller-first-pair a b) (held-list h ps .pairs);
+      long = omega (arith, length-append (as-records new) (drop (h .m + 1) ps), long, length-drop (h .m + 1) ps, not-full h ps a b e .1);
+      past = drop-at (as-records new) (drop (h .m + 1) ps) (h .m + 1) long;
+    }
+
+-- what add accepts is held afterwards, and nothing else changed
+pub add-holds : Add-holds
+unfolding Add-holds
+add-holds h ps a b r ps′ says none =
+    passed-on (Pair-added h ps a b) (add-passed says none) (pair-added h ps a b)
+
+-- head and list agree after a taken add
+pub add-agrees : (h : Head) (ps : List Pair) (a b : ℕ) (r : Changed) (ps′ : List Pair) →
+    Add-says h ps a b r ps′ → r .number ≡ 0 → agrees (r .head) ps′ ≡ true
+add-agrees h ps a b r ps′ says none =
+    passed-on (λ k qs. agrees k qs ≡ true) (add-passed says none) (added-agrees h ps a b)
+
+-- the list of a taken remove
+pub pair-removed : (h : Head) (ps : List Pair) (a b : ℕ) → remove-number h ps a b ≡ 0 →
+    Pair-removed h ps a b (head-of (h .n) (h .m - 1)) (removed h ps a b)
+unfolding head-of removed without-pair
+pair-removed h ps a b e =
+    let agreed = remove-number-none h ps a b e .agreed in
+    let rest : List Lists.Pair = remove-pair (smaller-first-pair a b) (held-list h ps .pairs) in
+    let one : length (as-records rest) + 1 ≡ h .m = ap (λ (k : ℕ). k + 1) (length-as-records rest) ∙ removed-one h ps a b e in
+    record {
+      modules = refl;
+      pairs = omega arith;
+      held =
+          λ p. ap (λ (g : Pairs). is-held p (g .pairs)) (held-removed h ps a b e)
+          ∙ remove-held p (smaller-first-pair a b) (held-list h ps .pairs) (listed _ (held-is-list h ps agreed) .rises);
+      freed = getD-at (as-records rest) blank (drop (h .m) ps) blank (h .m - 1) (omega arith);
+      long = omega (arith, length-append (as-records rest) (blank ∷ drop (h .m) ps), one, length-drop (h .m) ps, held-few h ps agreed);
+      past = ap (λ (k : ℕ). drop k (removed h ps a b)) (sym one) ∙ drop-append-add (as-records rest) (blank ∷ drop (h .m) ps) 1;
+    }
+
+-- what remove accepts is no longer held, and nothing else changed
+pub remove-drops : Remove-drops
+unfolding Remove-drops
+remove-drops h ps a b r ps′ says none =
+    passed-on (Pair-removed h ps a b) (remove-passed says none) (pair-removed h ps a b)
+
+-- head and list agree after a taken remove
+pub remove-agrees : (h : Head) (ps : List Pair) (a b : ℕ) (r : Changed) (ps′ : List Pair) →
+    Remove-says h ps a b r ps′ → r .number ≡ 0 → agrees (r .head) ps′ ≡ true
+remove-agrees h ps a b r ps′ says none =
+    passed-on (λ k qs. agrees k qs ≡ true) (remove-passed says none) (removed-agrees h ps a b)
+
+-- ---- a pair added and removed again
+
+module _ (h : Head) (ps : List Pair) (a b : ℕ) (taken : add-number h ps a b ≡ 0) where
+  abbrev more : Head
+  more = head-of (h .n) (h .m + 1)
+
+  -- removing it is taken
+  undo-taken : remove-number more (added h ps a b) a b ≡ 0
+  unfolding remove-number
+  undo-taken =
+      let new : Lists.Pair = smaller-first-pair a b in
+      let own : is-held new (held-list more (added h ps a b) .pairs) ≡ true = pair-added h ps a b taken .held new ∙ rw (same-refl new) in
+      let n : ℕ = held-list more (added h ps a b) .n in
+      let fine : refusal (pair-causes n a b) ≡ 0 = unfold held-list head-of in (add-number-none h ps a b taken .fine) in
+      remove-taken _ _ a b (none-first _ n a b (rw (added-agrees h ps a b taken)) fine) own
+
+  -- and leaves the held records as they were
+  undo-records : take (h .m) (removed more (added h ps a b) a b) ≡ take (h .m) ps
+  unfolding removed with-pair
+  undo-records =
+      let agreed = add-number-none h ps a b taken .agreed in
+      let back : remove-pair (smaller-first-pair a b) (held-list more (added h ps a b) .pairs) ≡ held-list h ps .pairs =
+      ap (λ (g : Pairs). remove-pair (smaller-first-pair a b) (g .pairs)) (held-added h ps a b taken)
+      ∙ insert-remove (smaller-first-pair a b) (held-list h ps .pairs) in
+      rw back (take-at (as-records (held-list h ps .pairs)) _ (h .m) (length-as-records _ ∙ length-held h ps agreed) ∙ held-records h ps agreed)
+
+-- a pair added can be removed again, which leaves head and held records as they were
+pub add-undone : Add-undone
+unfolding Add-undone head-of
+add-undone h ps a b r s qs rs adds none removes =
+    let x = add-passed adds none in
+    let says : Remove-says (head-of (h .n) (h .m + 1)) (added h ps a b) a b s rs = rw (x .head, x .list) at removes in
+    let number : s .number ≡ 0 = says .number ∙ undo-taken h ps a b (x .taken) in
+    let y = remove-passed says number in
+    let m : h .m + 1 - 1 ≡ h .m = omega arith in
+    (number, y .head ∙ ap (head-of (h .n)) m, ap (take (h .m)) (y .list) ∙ undo-records h ps a b (x .taken))
