@@ -21,6 +21,7 @@ use Rattle.theory.proofs.Words.{length-put, put-below, put-past, put-drop}
 use Rattle.lines.specs.Outcomes.{Outcome, refused, taken}
 use Rattle.pairfile.specs.File.{read-file}
 use Rattle.pairfile.specs.Answers.{reading-of, pairs-of, Same-past}
+use Rattle.pairfile.proofs.Accepts.{accepted}
 use Rattle.records.specs.declared.Pair.{Pair}
 use Rattle.records.specs.declared.Head.{Head}
 use Rattle.records.specs.Records.{as-pair, held-list, agrees, ends-of, weights-of, copied-ends, copied-out, Room-out}
@@ -35,6 +36,7 @@ use Rattle.kandurzo.specs.Solving.{solve-buffers, solve-call-causes, declined, 
 use Rattle.kandurzo.proofs.Gates.{gate-open}
 use Rattle.kandurzo.proofs.Readings.{reads-file, read-held, read-agrees}
 use Rattle.kandurzo.proofs.Taken.{held-is-list}
+use Rattle.kandurzo.proofs.Sheets.{members-rest}
 use Rattle.answer.specs.declared.Answer.{Answer}
 use Rattle.answer.specs.Answers.{refusal-of, Room-enough, solved-of, Handed-over, Sheeted, Answers}
 
@@ -233,14 +235,14 @@ module _ (bytes : List ℕ) (ps : List Pair) (work : List ℕ) (list-long : leng
 pub answers : {bytes members cores shares words : List ℕ} {r : Answer} {members′ cores′ shares′ words′ : List ℕ} →
     Sheeted bytes members cores shares words r members′ cores′ shares′ words′ → Answers bytes members r members′
 unfolding solved-of
-answers s = record {
+answers {bytes} {members} {members′ = members′} s = record {
   taken = λ g e.
       let o = s .taken g e in
       let h = o .handed in
       record {
         number = o .number;
         found = h .found;
-        rest = h .members-rest;
+        rest = members-rest g (accepted 4096 bytes g e .list) members members′ (h .members-are);
         modules-there = o .modules;
         pairs-there = o .pairs;
         inside-count = h .optimal .inside-count;

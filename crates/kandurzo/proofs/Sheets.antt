@@ -3,19 +3,24 @@
 --   sheet-solves     narrowed, shares and core numbers are those of the lent buffers
 --   some-modules     the found group has a module
 --   handed           with the float this is what solve hands out
+--   members-rest     behind the found group the member bytes are as they were
 -- Assumes nothing.
 use mathlib.Core.Path.{_≡_, refl, sym, ap, _∙_}
 use mathlib.Core.Bool.{true}
 use mathlib.Core.List.{List, _++_}
 use Prim.Native.Nat.{ℕ, _≤_, _<_}
 use native.Mathlib.Omega.{arith}
-use lib.ListN.{length, getD, take, drop, length-append, length-drop}
+use lib.ListN.{length, getD, take, drop, length-append, length-drop, take-append-drop}
 use lib.Seq.{length-take-le, take-at, drop-at, getD-take}
 use Rattle.theory.specs.Lists.{Pairs, is-list}
+use Rattle.theory.specs.Groups.{found-of}
 use Rattle.theory.specs.Splits.{is-split, shares-good}
 use Rattle.theory.specs.Ratio.{float-ratio}
+use Rattle.theory.specs.Promise.{Found-alone, Found-outright}
 use Rattle.theory.proofs.Tests.{tests}
 use Rattle.theory.proofs.Bounds.{size-bound}
+use Rattle.theory.proofs.Densest.{found-alone}
+use Rattle.theory.proofs.Best.{found-outright, found-length}
 use Rattle.densest.specs.declared.Solution.{Solution}
 use Rattle.densest.specs.Solve.{Solves}
 use Rattle.kandurzo.specs.declared.Solved.{Solved}
@@ -55,8 +60,15 @@ module _ (g : Pairs) (held : is-list g ≡ true) (m : ℕ) (few : length (g .pai
         solved = rw (front, few, take-at (take m sheet′) (drop m shares) m lx) (rw few at (s .solved));
       }
 
-module _ (g : Pairs) (members cores shares members′ cores′ shares′ : List ℕ) (r : Solution)
+module _ (g : Pairs) (held : is-list g ≡ true) (members cores shares members′ cores′ shares′ : List ℕ) (r : Solution)
     (s : Solves g members cores shares members′ cores′ shares′ r) where
+  -- there is one found group: its member bytes stand in front
+  members-are : members′ ≡ in-front (found-of g) members
+  unfolding in-front Found-alone Found-outright
+  members-are =
+      let same : take (g .n) members′ ≡ found-of g = found-alone g _ _ held (s .solved .found) (found-outright g held) in
+      sym (take-append-drop (g .n) members′) ∙ rw (same, s .members-rest, found-length g held)
+
   abbrev record-of : Solved
   record-of = record { number = 0; p = r .p; q = r .q; k = r .k; coresize = r .core; ratio = float-ratio (r .p) (r .q) }
 
@@ -64,7 +76,7 @@ module _ (g : Pairs) (members cores shares members′ cores′ shares′ : List 
   handed =
       let o = s .solved .optimal in
       record {
-        members-rest = s .members-rest;
+        members-are = members-are;
         cores-are = s .cores-are ∙ cores-in-front g cores;
         shares-rest = s .shares-rest;
         found = s .solved .found;
@@ -74,3 +86,10 @@ module _ (g : Pairs) (members cores shares members′ cores′ shares′ : List 
         outside = rw (s .solved .order) (s .solved .outside);
         float = refl;
       }
+
+-- past the modules the member bytes are as they were
+pub members-rest : (g : Pairs) → is-list g ≡ true → (members members′ : List ℕ) → members′ ≡ in-front (found-of g) members →
+    drop (g .n) members′ ≡ drop (g .n) members
+unfolding in-front
+members-rest g held members members′ is =
+    rw (is, found-length g held) (drop-at (found-of g) (drop (g .n) members) (g .n) (found-length g held))

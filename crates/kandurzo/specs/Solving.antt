@@ -15,7 +15,7 @@ use mathlib.Core.Logic.{_↔_}
 use Prim.Native.Nat.{ℕ, _<_}
 use lib.ListN.{length, take, drop}
 use Rattle.theory.specs.Lists.{Pairs}
-use Rattle.theory.specs.Groups.{size, inside, Densest, Found}
+use Rattle.theory.specs.Groups.{size, inside, Densest, Found, found-of}
 use Rattle.theory.specs.Cores.{core, core-numbers}
 use Rattle.theory.specs.Splits.{is-split, greatest-load, rounded-up, outside-good}
 use Rattle.theory.specs.Refusals.{Cause, cause, refusal}
@@ -61,7 +61,7 @@ declined k = record { number = k; p = 0; q = 0; k = 0; coresize = 0; ratio = flo
 
 -- in front of the buffers stand the found group's member bytes, the core numbers and a share for each pair; entries past them are as before
 pub record Handed (g : Pairs) (members cores shares : List ℕ) (r : Solved) (members′ cores′ shares′ : List ℕ) : Type 0 where
-  pub members-rest : drop (g .n) members′ ≡ drop (g .n) members
+  pub members-are : members′ ≡ in-front (found-of g) members
   pub cores-are : cores′ ≡ in-front (core-numbers g) cores
   pub shares-rest : drop (length (g .pairs)) shares′ ≡ drop (length (g .pairs)) shares
   -- the largest group of greatest ratio

@@ -16,11 +16,12 @@ use Rattle.theory.specs.Ratio.{float-ratio}
 use Rattle.theory.specs.Plain as plain
 use Rattle.theory.specs.Plain.{weighted}
 use Rattle.theory.proofs.Tests.{tests, no}
-use Rattle.theory.proofs.Plain.{inside-plain, is-split-plain, greatest-load-plain, rounded-up-plain}
+use Rattle.theory.proofs.Plain.{is-list-plain, inside-plain, is-split-plain, greatest-load-plain, rounded-up-plain}
 use Rattle.theory.proofs.PlainCores.{core-plain, core-numbers-plain, outside-good-plain}
 use Rattle.kandurzo.specs.declared.Solved.{Solved}
 use Rattle.kandurzo.specs.Buffers as ours
 use Rattle.kandurzo.specs.Solving.{Handed}
+use Rattle.kandurzo.proofs.Sheets.{members-rest}
 use Rattle.statements.specs.Entry.{in-front, ratio, Found-as}
 
 -- one share for each pair
@@ -82,7 +83,7 @@ module _ (g : plain.Pairs) (held : plain.is-list g ≡ true) (a c d x y z : List
     k-is,
     out .core-size ∙ rw (core-plain g (r .k), k-is),
     rw (p-is, q-is) at (out .float),
-    in-front-as _ x a length-group (out .members-rest),
+    in-front-as _ x a length-group (members-rest (weighted g) (is-list-plain g ∙ held) a x (out .members-are)),
     rw (core-numbers-plain g held) at (out .cores-are),
     in-front-as _ z d length-shares (out .shares-rest),
   )

@@ -53,11 +53,12 @@ record-of-requires c κs =
 returns-2 : tie.Need-returns-2
 returns-2 c =
     let v = solved (cleared (c .before)) in
-    let z = opened (v .before) .if1 .left in
+    let o = opened (v .before) in
+    let z = o .if1 .left in
     let r = c .record-of .ensures in
     record {
       number = ap (λ (s : Solved). s .number) r ∙ sym z;
-      handed = λ _. rw r (handed _ _ _ _ _ _ _ _ (v .sheet-in .ensures));
+      handed = λ _. rw r (handed _ (begin o .pre .holds z .listed) _ _ _ _ _ _ _ (v .sheet-in .ensures));
       refused = λ n. absurd (n z);
       left = c .before .before .before .clear .ensures ∙ sym (left-open _ z);
     }
