@@ -1,17 +1,20 @@
 -- What the planner is promised of the list that start, add, remove and read make. A statement is a type; proofs/Promises.antt has a theorem for
 -- each, of the same name in small letters. Document 01: no pair is held twice, and 2,5 is the same pair as 5,2; the order in which pairs arrived
 -- leaves no trace in the first M records.
---   Held-once                            no pair is held twice
---   Pair-added, Add-holds                     what add accepts is held afterwards, and nothing else changed
---   Pair-removed, Remove-drops                what remove accepts is no longer held, and nothing else changed
---   Thirteen-never-follows               head and list agree after every taken call
---   Adds, Arrival-traceless, Any-order-taken    adds in a row; in whatever order they come
---   Records-alone, Add-undone            lists that hold the same pairs; a pair added and removed
---   Every-file-read, Read-exact          every file of different pairs is taken; what is accepted are exactly the pairs named
+--   Held-once, Either-way-round                  no pair is held twice, and 2,5 is the same pair as 5,2
+--   Addable, Add-exactly, Removable, Remove-exactly    which adds and which removes are taken
+--   Pair-added, Add-holds                        what is held after an add that is taken, and that nothing else changed
+--   Pair-removed, Remove-drops                   and after a remove
+--   Thirteen-never-follows                       head and list agree after every taken call
+--   Adds, Same-arrivals, Arrival-traceless, Any-order-taken    adds in a row, in whatever order they come
+--   Every-list-added                             different pairs added in a row are taken
+--   Same-pairs-same-records, Add-undone          lists that hold the same pairs; a pair added and removed
+--   Every-file-read, Read-exact                  every file of different pairs is taken; the pairs held then are exactly those named
 -- Assumes nothing: these are definitions.
 use mathlib.Core.Path.{_≡_}
-use mathlib.Core.Bool.{true, _&&_, _||_, not}
+use mathlib.Core.Bool.{true, false, _&&_, _||_, not}
 use mathlib.Core.List.{List, [], _∷_}
+use mathlib.Core.Logic.{_↔_}
 use Prim.Native.Nat.{ℕ, _+_, _≤_, _<_}
 use lib.ListN.{length, getD, take, drop}
 use Rattle.theory.specs.Basics.{all}
@@ -37,6 +40,38 @@ unfoldable pub Held-once : Type 0
 Held-once =
     (h : Head) (ps : List Pair) (i j : ℕ) → agrees h ps ≡ true → i < h .m → j < h .m → same-ends (pair-at ps i) (pair-at ps j) ≡ true → i ≡ j
 
+-- 2,5 IS THE SAME PAIR AS 5,2: add and remove answer and leave the same, whichever module is named first
+pub record Either-way-round : Type 0 where
+  pub add : (h : Head) (ps : List Pair) (a b : ℕ) (r : Changed) (ps′ : List Pair) → Add-says h ps a b r ps′ → Add-says h ps b a r ps′
+  pub remove : (h : Head) (ps : List Pair) (a b : ℕ) (r : Changed) (ps′ : List Pair) → Remove-says h ps a b r ps′ → Remove-says h ps b a r ps′
+
+-- two different modules of the list, whose pair is not held, and a free record
+pub record Addable (h : Head) (ps : List Pair) (a b : ℕ) : Type 0 where
+  pub agreed : agrees h ps ≡ true
+  pub first : a < h .n
+  pub second : b < h .n
+  pub different : a ≡ b → ⊥
+  pub new : is-held (smaller-first-pair a b) (held-list h ps .pairs) ≡ false
+  pub few : h .m < 4096
+  pub room : h .m < length ps
+
+-- THESE ADDS ARE TAKEN, AND NO OTHERS
+unfoldable pub Add-exactly : Type 0
+Add-exactly = (h : Head) (ps : List Pair) (a b : ℕ) (r : Changed) (ps′ : List Pair) → Add-says h ps a b r ps′ → (r .number ≡ 0) ↔ Addable h ps a b
+
+-- two different modules of the list, whose pair is held
+pub record Removable (h : Head) (ps : List Pair) (a b : ℕ) : Type 0 where
+  pub agreed : agrees h ps ≡ true
+  pub first : a < h .n
+  pub second : b < h .n
+  pub different : a ≡ b → ⊥
+  pub held : is-held (smaller-first-pair a b) (held-list h ps .pairs) ≡ true
+
+-- THESE REMOVES ARE TAKEN, AND NO OTHERS
+unfoldable pub Remove-exactly : Type 0
+Remove-exactly =
+    (h : Head) (ps : List Pair) (a b : ℕ) (r : Changed) (ps′ : List Pair) → Remove-says h ps a b r ps′ → (r .number ≡ 0) ↔ Removable h ps a b
+
 -- the pair of a and b is held now, and otherwise what was held
 pub record Pair-added (h : Head) (ps : List Pair) (a b : ℕ) (h′ : Head) (ps′ : List Pair) : Type 0 where
   pub modules : h′ .n ≡ h .n
@@ -44,10 +79,10 @@ pub record Pair-added (h : Head) (ps : List Pair) (a b : ℕ) (h′ : Head) (ps�
   pub held : (p : Lists.Pair) →
       is-held p (held-list h′ ps′ .pairs) ≡ (same-ends p (smaller-first-pair a b) || is-held p (held-list h ps .pairs))
   -- records past the held ones stay
-  pub long : length ps′ ≡ length ps
+  pub same-length : length ps′ ≡ length ps
   pub past : drop (h′ .m) ps′ ≡ drop (h′ .m) ps
 
--- WHAT ADD ACCEPTS IS HELD AFTERWARDS, AND NOTHING ELSE CHANGED
+-- AFTER AN ADD THAT IS TAKEN ITS PAIR IS HELD, AND NOTHING ELSE CHANGED
 unfoldable pub Add-holds : Type 0
 Add-holds = (h : Head) (ps : List Pair) (a b : ℕ) (r : Changed) (ps′ : List Pair) → Add-says h ps a b r ps′ → r .number ≡ 0 → Pair-added h ps a b (r .head) ps′
 
@@ -57,12 +92,11 @@ pub record Pair-removed (h : Head) (ps : List Pair) (a b : ℕ) (h′ : Head) (p
   pub pairs : h′ .m + 1 ≡ h .m
   pub held : (p : Lists.Pair) →
       is-held p (held-list h′ ps′ .pairs) ≡ (not (same-ends p (smaller-first-pair a b)) && is-held p (held-list h ps .pairs))
-  -- the record freed becomes 0,0; records past the held ones stay
-  pub freed : getD ps′ (h′ .m) blank ≡ blank
-  pub long : length ps′ ≡ length ps
-  pub past : drop (h .m) ps′ ≡ drop (h .m) ps
+  -- the record freed becomes 0,0; records past it stay
+  pub same-length : length ps′ ≡ length ps
+  pub past : drop (h′ .m) ps′ ≡ blank ∷ drop (h .m) ps
 
--- WHAT REMOVE ACCEPTS IS NO LONGER HELD, AND NOTHING ELSE CHANGED
+-- AFTER A REMOVE THAT IS TAKEN ITS PAIR IS NO LONGER HELD, AND NOTHING ELSE CHANGED
 unfoldable pub Remove-drops : Type 0
 Remove-drops =
     (h : Head) (ps : List Pair) (a b : ℕ) (r : Changed) (ps′ : List Pair) → Remove-says h ps a b r ps′ → r .number ≡ 0 → Pair-removed h ps a b (r .head) ps′
@@ -85,27 +119,36 @@ Adds h ps [] h′ ps′ = (h′ ≡ h) × (ps′ ≡ ps)
 Adds h ps (c ∷ cs) h′ ps′ =
     (r : Changed) × (qs : List Pair) × Add-says h ps (c .a) (c .b) r qs × (r .number ≡ 0) × Adds (r .head) qs cs h′ ps′
 
--- the same pairs arrive as often, in any order and whichever module is named first
+-- the same pairs arrive as often, in any order and whichever module is named first (equal multisets)
 unfoldable pub Same-arrivals : (cs ds : List Lists.Pair) → Type 0
 Same-arrivals cs ds = (p : Lists.Pair) → times-named p cs ≡ times-named p ds
 
 -- THE ORDER OF ARRIVAL LEAVES NO TRACE: the same pairs added in any two orders leave the same head and the same records
 unfoldable pub Arrival-traceless : Type 0
 Arrival-traceless =
-    (h : Head) (ps : List Pair) (cs ds : List Lists.Pair) (i j : Head) (qs rs : List Pair) → agrees h ps ≡ true → Same-arrivals cs ds →
+    (h : Head) (ps : List Pair) (cs ds : List Lists.Pair) (i j : Head) (qs rs : List Pair) → Same-arrivals cs ds →
     Adds h ps cs i qs → Adds h ps ds j rs → (i ≡ j) × (qs ≡ rs)
 
--- NOR DOES IT REFUSE ANY: pairs that are taken in one order are taken in every order
+-- NO ORDER OF ARRIVAL IS REFUSED: pairs that are taken in one order are taken in every order
 unfoldable pub Any-order-taken : Type 0
 Any-order-taken =
-    (h : Head) (ps : List Pair) (cs ds : List Lists.Pair) (i : Head) (qs : List Pair) → agrees h ps ≡ true → Same-arrivals cs ds →
+    (h : Head) (ps : List Pair) (cs ds : List Lists.Pair) (i : Head) (qs : List Pair) → Same-arrivals cs ds →
     Adds h ps cs i qs → Adds h ps ds i qs
 
+-- EVERY LIST CAN BE ENTERED PAIR BY PAIR: of 1 to 512 modules and up to 4,096 different pairs, where there is room; it then holds exactly these
+unfoldable pub Every-list-added : Type 0
+Every-list-added =
+    (n : ℕ) (arrivals : List Lists.Pair) (ps : List Pair) →
+    1 ≤ n → n ≤ 512 → length arrivals ≤ 4096 → length arrivals ≤ length ps → all (names-two n) arrivals ≡ true → Different arrivals →
+    (ps′ : List Pair) × Adds (started n .head) ps arrivals (head-of n (length arrivals)) ps′
+    × Names arrivals (held-list (head-of n (length arrivals)) ps′ .pairs)
+
 -- LISTS THAT HOLD THE SAME PAIRS HAVE THE SAME HELD RECORDS, whatever calls made them
-unfoldable pub Records-alone : Type 0
-Records-alone =
+unfoldable pub Same-pairs-same-records : Type 0
+Same-pairs-same-records =
     (h k : Head) (ps qs : List Pair) → agrees h ps ≡ true → agrees k qs ≡ true →
-    ((p : Lists.Pair) → is-held p (held-list h ps .pairs) ≡ is-held p (held-list k qs .pairs)) → take (h .m) ps ≡ take (k .m) qs
+    ((p : Lists.Pair) → is-held p (held-list h ps .pairs) ≡ is-held p (held-list k qs .pairs)) →
+    (h .m ≡ k .m) × (take (h .m) ps ≡ take (k .m) qs)
 
 -- A PAIR ADDED CAN BE REMOVED AGAIN, which leaves head and held records as they were
 unfoldable pub Add-undone : Type 0
@@ -115,7 +158,8 @@ Add-undone =
 
 -- ---- read
 
--- EVERY FILE OF DIFFERENT PAIRS IS TAKEN, in whatever order they come and whichever module stands first on a line, and the list then holds these pairs
+-- EVERY FILE OF DIFFERENT PAIRS IS TAKEN, of 1 to 512 modules and up to 4,096 pairs, where there is room; in whatever order they come and whichever module
+-- stands first on a line; the list then holds exactly these pairs
 unfoldable pub Every-file-read : Type 0
 Every-file-read =
     (n : ℕ) (lines : List Lists.Pair) (ps : List Pair) (work : List ℕ) (r : Changed) (ps′ : List Pair) (work′ : List ℕ) →
@@ -123,7 +167,7 @@ Every-file-read =
     Read-call read-file (file-of n lines) ps work r ps′ work′ →
     (r .number ≡ 0) × (r .head ≡ head-of n (length lines)) × Names lines (held-list (r .head) ps′ .pairs)
 
--- WHAT READ ACCEPTS ARE EXACTLY THE PAIRS NAMED: the bytes are the file of the list that is held then; records past it stay
+-- THE PAIRS HELD AFTER A FILE IS TAKEN ARE EXACTLY THOSE THAT IT NAMES: its bytes are the file of the list that is held then; records past it stay
 unfoldable pub Read-exact : Type 0
 Read-exact =
     (bytes : List ℕ) (ps : List Pair) (work : List ℕ) (r : Changed) (ps′ : List Pair) (work′ : List ℕ) →
