@@ -1,8 +1,9 @@
 /* Kandurzo from C: fault groups of a pair list (document 01).
  *
- * A list has N modules (1 to 512), numbered 0 to N-1, and M pairs (at most 4,096) of two different modules. The caller lends all memory: a head with
+ * A list has N modules (1 to 512), numbered 0 to N-1, and M pairs (at most 4,096) of two different modules. The caller lends every buffer: a head with
  * N and M, and records, smaller module first, in strictly rising order by first and then second number. Of a list, `length` is how many records
- * there are room for; the first M are held.
+ * there are room for; the first M are held. A call uses no heap and no static memory, only some of the caller's stack while it runs; a thread must have
+ * as many bytes free as KANDURZO_STACK_SOLVE and the like say.
  *
  * Each call answers a number: 0, or that of the first cause, in the order given at the call, whose condition holds. A refused call changes no head,
  * list or answer buffer. Lengths are counted in entries. Buffers may be longer than wanted: entries past those named are never written. A buffer that a
@@ -38,6 +39,19 @@ enum {
     KANDURZO_MODULES = 512, /* most modules, and the length of member bytes, core numbers and leaving order that is always enough */
     KANDURZO_PAIRS = 4096,  /* most pairs, and the length of list and shares that is always enough */
     KANDURZO_WORK = 16384   /* words of the work buffer */
+};
+
+/* Bytes of the caller's stack that a call uses at most while it runs. stack.c measures them: each is what was measured and at least 8 KiB of room, for
+ * other builds of the library, other memset and memcpy, and their binding at first use. */
+enum {
+    KANDURZO_STACK_START = 16384,
+    KANDURZO_STACK_ADD = 65536,    /* add and add_to */
+    KANDURZO_STACK_REMOVE = 65536, /* remove and remove_from */
+    KANDURZO_STACK_READ = 16384,
+    KANDURZO_STACK_PEEL = 49152,
+    KANDURZO_STACK_SOLVE = 204800, /* the most: enough for every call */
+    KANDURZO_STACK_CHECK = 16384,
+    KANDURZO_STACK_SURPLUS = 65536
 };
 
 /* A record: the pair's smaller module and its larger. */

@@ -1,8 +1,28 @@
 //! The library's calls over lent buffers, as in `callers/c/kandurzo.h`, with slices for pointers and lengths.
 //!
 //! Every function here is safe: the library tests all lengths and ranges itself and answers with a refusal number, and slices cannot overlap. No value
-//! of a buffer can be invalid, since all fields are whole numbers.
+//! of a buffer can be invalid, since all fields are whole numbers. A call uses no heap and no static memory, only the thread's stack: [`stack`].
 #![allow(unsafe_code)]
+
+/// Bytes of stack that each call uses at most while it runs, as in `callers/c/kandurzo.h`.
+pub mod stack {
+    /// Of [`start`](super::start).
+    pub const START: usize = 16384;
+    /// Of [`add`](super::add) and [`add_to`](super::add_to).
+    pub const ADD: usize = 65536;
+    /// Of [`remove`](super::remove) and [`remove_from`](super::remove_from).
+    pub const REMOVE: usize = 65536;
+    /// Of [`read`](super::read).
+    pub const READ: usize = 16384;
+    /// Of [`peel`](super::peel).
+    pub const PEEL: usize = 49152;
+    /// Of [`solve`](super::solve); the most.
+    pub const SOLVE: usize = 204800;
+    /// Of [`check`](super::check).
+    pub const CHECK: usize = 16384;
+    /// Of [`surplus`](super::surplus).
+    pub const SURPLUS: usize = 65536;
+}
 
 /// A record: the pair's smaller module and its larger.
 #[repr(C)]

@@ -2,7 +2,7 @@
 //!
 //! ```
 //! let tail = b"modules=5\npairs=7\npair=0,1\npair=0,2\npair=0,3\npair=1,2\npair=1,3\npair=2,3\npair=3,4\n";
-//! let list = kandurzo::List::read(tail)?;
+//! let mut list = kandurzo::List::read(tail)?;
 //! let found = list.solve()?;
 //! assert_eq!((found.p, found.q), (6, 4));
 //! assert_eq!(found.group().collect::<Vec<_>>(), [0, 1, 2, 3]);
@@ -10,7 +10,8 @@
 //! # Ok::<(), kandurzo::Refusal>(())
 //! ```
 //!
-//! [`List`] owns its memory; [`ffi`] has the same calls over the caller's own buffers.
+//! [`List`] owns every buffer, also the one that the calls work in, which is why those that need it take `&mut self`; [`ffi`] has the same calls over the
+//! caller's own buffers. A call uses some of its thread's stack besides, at most [`STACK`] bytes; that is more than some threads have.
 
 pub mod ffi;
 
@@ -21,6 +22,8 @@ use std::fmt;
 pub const PAIRS: usize = 4096;
 /// The words of the work buffer.
 pub const WORK: usize = 16384;
+/// Bytes of stack that are enough for any call of the library; [`ffi::stack`] has them by call.
+pub const STACK: usize = ffi::stack::SOLVE;
 
 /// Why a call declined: document 01's number, 1 to 15.
 #[derive(Clone, Copy, Debug, PartialEq, Eq, Hash)]
@@ -71,11 +74,18 @@ impl fmt::Display for Refusal {
 
 impl std::error::Error for Refusal {}
 
-/// A pair list that owns its head and 4,096 records. Head and list always agree.
-#[derive(Clone, Debug)]
+/// A pair list that owns its head, 4,096 records and a work buffer. Head and list always agree.
+#[derive(Clone)]
 pub struct List {
     head: Head,
     records: Vec<Pair>,
+    work: Vec<u32>,
+}
+
+impl fmt::Debug for List {
+    fn fmt(&self, out: &mut fmt::Formatter) -> fmt::Result {
+        out.debug_struct("List").field("modules", &self.modules()).field("pairs", &self.pairs()).finish()
+    }
 }
 
 /// Leaving order and core numbers, N entries each.
@@ -120,15 +130,15 @@ impl List {
     pub fn new(n: u32) -> Result<List, Refusal> {
         let answer = ffi::start(n);
         Refusal::of(answer.number)?;
-        Ok(List { head: answer.head, records: vec![Pair::default(); PAIRS] })
+        Ok(List { head: answer.head, records: vec![Pair::default(); PAIRS], work: vec![0; WORK] })
     }
 
     /// The list of a pair file. Refuses by 1, 2; 1, 3; 1, 4, 5, 10; 6.
     pub fn read(bytes: &[u8]) -> Result<List, Refusal> {
-        let mut records = vec![Pair::default(); PAIRS];
-        let answer = ffi::read(bytes, &mut records, &mut [0; WORK]);
+        let (mut records, mut work) = (vec![Pair::default(); PAIRS], vec![0; WORK]);
+        let answer = ffi::read(bytes, &mut records, &mut work);
         Refusal::of(answer.number)?;
-        Ok(List { head: answer.head, records })
+        Ok(List { head: answer.head, records, work })
     }
 
     /// N.
@@ -152,33 +162,33 @@ impl List {
     }
 
     /// Leaving order and core numbers.
-    pub fn peel(&self) -> Result<Peeling, Refusal> {
+    pub fn peel(&mut self) -> Result<Peeling, Refusal> {
         let n = self.modules();
         let (mut order, mut cores) = (vec![0; n], vec![0; n]);
-        Refusal::of(ffi::peel(self.head, self.pairs(), &mut order, &mut cores, &mut [0; WORK]))?;
+        Refusal::of(ffi::peel(self.head, &self.records, &mut order, &mut cores, &mut self.work))?;
         Ok(Peeling { order, cores })
     }
 
     /// The found group, core numbers and the load sheet.
-    pub fn solve(&self) -> Result<Solution, Refusal> {
+    pub fn solve(&mut self) -> Result<Solution, Refusal> {
         let n = self.modules();
         let (mut members, mut cores, mut shares) = (vec![0; n], vec![0; n], vec![0; self.pairs().len()]);
-        let found = ffi::solve(self.head, self.pairs(), &mut members, &mut cores, &mut shares, &mut [0; WORK]);
+        let found = ffi::solve(self.head, &self.records, &mut members, &mut cores, &mut shares, &mut self.work);
         Refusal::of(found.number)?;
         let ffi::Solved { p, q, k, coresize: core_size, ratio, .. } = found;
         Ok(Solution { p, q, k, core_size, ratio, members, cores, shares })
     }
 
     /// P and Q of a group, if the shares are a split at size Q with no load above P: then no group is denser. Refuses by 12, 7, 8, 9.
-    pub fn check(&self, members: &[u8], shares: &[u16]) -> Result<(u32, u32), Refusal> {
-        let verdict = ffi::check(self.head, self.pairs(), members, shares, &mut [0; WORK]);
+    pub fn check(&mut self, members: &[u8], shares: &[u16]) -> Result<(u32, u32), Refusal> {
+        let verdict = ffi::check(self.head, &self.records, members, shares, &mut self.work);
         Refusal::of(verdict.number)?;
         Ok((verdict.p, verdict.q))
     }
 
     /// The surplus of the first group against the second: above zero exactly if the first is denser. Refuses by 12, 7.
     pub fn surplus(&self, first: &[u8], second: &[u8]) -> Result<i64, Refusal> {
-        let answer = ffi::surplus(self.head, self.pairs(), first, second);
+        let answer = ffi::surplus(self.head, &self.records, first, second);
         Refusal::of(answer.number)?;
         Ok(answer.value)
     }

@@ -16,7 +16,7 @@ fn number<T: std::fmt::Debug>(answer: Result<T, Refusal>) -> u32 {
 }
 
 /// P, Q and the members.
-fn found(list: &List) -> (u32, u32, Vec<usize>) {
+fn found(list: &mut List) -> (u32, u32, Vec<usize>) {
     let found = list.solve().unwrap();
     assert_eq!(list.check(&found.members, &found.shares), Ok((found.p, found.q)));
     (found.p, found.q, found.group().collect())
@@ -26,15 +26,15 @@ const TAIL: [(u32, u32); 7] = [(0, 1), (0, 2), (0, 3), (1, 2), (1, 3), (2, 3), (
 
 #[test]
 fn tried_by_hand() {
-    assert_eq!(found(&list(1, &[])), (0, 1, vec![0]));
-    assert_eq!(found(&list(2, &[(0, 1)])), (1, 2, vec![0, 1]));
-    let path = list(3, &[(0, 1), (1, 2)]);
-    assert_eq!((found(&path), path.peel().unwrap().cores), ((2, 3, vec![0, 1, 2]), vec![1, 1, 1]));
-    assert_eq!(found(&list(6, &[(0, 1), (0, 2), (1, 2), (3, 4), (3, 5), (4, 5)])), (6, 6, (0..6).collect()));
-    assert_eq!(found(&list(4, &[(0, 1), (0, 2), (1, 2)])), (3, 3, vec![0, 1, 2]));
-    assert_eq!(found(&list(4, &[(0, 1), (0, 2), (1, 2), (2, 3)])), (4, 4, vec![0, 1, 2, 3]));
-    let tail = list(5, &TAIL);
-    assert_eq!(found(&tail), (6, 4, vec![0, 1, 2, 3]));
+    assert_eq!(found(&mut list(1, &[])), (0, 1, vec![0]));
+    assert_eq!(found(&mut list(2, &[(0, 1)])), (1, 2, vec![0, 1]));
+    let mut path = list(3, &[(0, 1), (1, 2)]);
+    assert_eq!((found(&mut path), path.peel().unwrap().cores), ((2, 3, vec![0, 1, 2]), vec![1, 1, 1]));
+    assert_eq!(found(&mut list(6, &[(0, 1), (0, 2), (1, 2), (3, 4), (3, 5), (4, 5)])), (6, 6, (0..6).collect()));
+    assert_eq!(found(&mut list(4, &[(0, 1), (0, 2), (1, 2)])), (3, 3, vec![0, 1, 2]));
+    assert_eq!(found(&mut list(4, &[(0, 1), (0, 2), (1, 2), (2, 3)])), (4, 4, vec![0, 1, 2, 3]));
+    let mut tail = list(5, &TAIL);
+    assert_eq!(found(&mut tail), (6, 4, vec![0, 1, 2, 3]));
     let peeled = tail.peel().unwrap();
     assert_eq!((peeled.cores, peeled.order), (vec![3, 3, 3, 3, 1], vec![4, 0, 1, 2, 3]));
     let best = tail.solve().unwrap();
@@ -62,8 +62,15 @@ fn refusals_have_numbers_and_texts() {
     assert_eq!(tail.remove(4, 0).unwrap_err().text(), "the pair to remove is not held");
 }
 
+#[test]
+fn printed_for_debugging() {
+    let mut pair = list(2, &[(1, 0)]);
+    pair.solve().unwrap();
+    assert_eq!(format!("{:?}", pair.clone()), "List { modules: 2, pairs: [Pair { a: 0, b: 1 }] }");
+}
+
 /// The list holds the pairs of the set, and a list read from the set's file is the same.
-fn holds(list: &List, random: &mut Random, held: &BTreeSet<(usize, usize)>) {
+fn holds(list: &mut List, random: &mut Random, held: &BTreeSet<(usize, usize)>) {
     let plain = Plain { n: list.modules(), pairs: held.iter().copied().collect() };
     assert_eq!(list.pairs(), plain.records());
     assert_eq!(List::read(&plain.file(random)).unwrap().pairs(), list.pairs());
@@ -109,7 +116,7 @@ fn edits_against_a_set() {
                 assert_eq!(list.add(a as u32, b as u32).err().map(Refusal::number), wanted);
             }
             if step % 500 == 0 {
-                holds(&list, &mut random, &held);
+                holds(&mut list, &mut random, &held);
             }
         }
     }
@@ -128,5 +135,5 @@ fn a_full_list() {
     list.remove(a as u32, b as u32).unwrap();
     list.add(c as u32, d as u32).unwrap();
     let held = full.pairs.iter().copied().filter(|&pair| pair != (a, b)).chain([(c, d)]).collect();
-    holds(&list, &mut random, &held);
+    holds(&mut list, &mut random, &held);
 }

@@ -1,6 +1,6 @@
 // Whether a sheet is the best there is of the list that a pair file names: `audit FILE SHEET`. Prints the refusal number, or 0 and the ratio. A file that
-// cannot be read has no bytes, and standard error says why. A pair file is decided by its first 65,536 bytes and a sheet by its first 100,000
-// (sheetfile, audit-first). What is printed is proved (texts, audit_text), and that the buffers have room for as many.
+// cannot be opened or read, a folder say, has no bytes, and standard error says why. A pair file is decided by its first 65,536 bytes and a sheet by its
+// first 100,000 (sheetfile, audit-first). What is printed is proved (texts, audit_text), and that the buffers have room for as many.
 ghost use Rattle.io.specs.Counts.{Counts};
 use libc::STDOUT_FILENO;
 
@@ -16,8 +16,18 @@ fn read_argument(i: usize, file: &mut [u8]) -> usize
         return 0;
     }
     let n = io::read_full(fd, file);
+    let taken = n == file.len() || readable(fd);
+    if !taken {
+        os::fail(&path[..length]);
+    }
     libc::close(fd);
-    n
+    if taken { n } else { 0 }
+}
+
+// Whether one more read does not fail: io::read_full stops at a failed read as at the file's end, and does not say which it was.
+fn readable(fd: i32) -> bool {
+    let mut next = [0u8; 1];
+    libc::read(fd, &mut next) >= 0
 }
 
 fn main() {
