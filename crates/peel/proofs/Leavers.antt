@@ -21,7 +21,7 @@ use borrow.Author.Tests.{leb-true, leb-false, eq-eqb, ne-eqb}
 use Rattle.theory.specs.Basics.{table}
 use Rattle.theory.specs.Lists.{Pairs}
 use Rattle.theory.specs.Groups.{is-in, size, bytes-good, is-group}
-use Rattle.theory.specs.Leaving.{leaver, leaving, remainder}
+use Rattle.theory.specs.Leaving.{leaver, leaving, left-behind, remainder}
 use Rattle.theory.specs.Promise.{Leaver-fewest, Leaving-steps, Leaving-everyone}
 use Rattle.theory.proofs.Tests.{no, fails}
 use Rattle.theory.proofs.Tables.{length-table, table-at}
@@ -49,7 +49,7 @@ module _ (g : Pairs) where
 
   -- who has left does not come back
   pub leaver-out : (i j : ℕ) → j < i → is-in (remainder g i) (getD (leaving g) j 0) ≡ false
-  unfolding remainder
+  unfolding remainder left-behind
   leaver-out zero j l = absurd (omega arith)
   leaver-out (suc i) j l = go (leb i j) refl (leaver-out i j)
     where
@@ -64,7 +64,7 @@ module _ (g : Pairs) where
 
   -- later remainders lie in earlier ones
   remainder-sub : (i j : ℕ) → i ≤ j → Sub (remainder g j) (remainder g i)
-  unfolding remainder
+  unfolding remainder left-behind
   remainder-sub i zero l = let same : i ≡ 0 = omega arith in rw same (λ u e. e)
   remainder-sub i (suc j) l = go (leb i j) refl (remainder-sub i j)
     where
@@ -87,13 +87,13 @@ module _ (g : Pairs) where
       go false t x y = absurd (later-apart i j (leb-false i j x) h (sym e))
 
   pub remainder-size : (i : ℕ) → i ≤ g .n → size (remainder g i) + i ≡ g .n
-  unfolding remainder
+  unfolding remainder left-behind
   remainder-size zero h = omega (arith, size-everyone g)
   remainder-size (suc i) h =
       omega (arith, remainder-size i (omega arith), size-leave (remainder g i) (getD (leaving g) i 0) (leaver-in i h))
 
   remainder-bytes : (i : ℕ) → bytes-good (remainder g i) ≡ true
-  unfolding remainder
+  unfolding remainder left-behind
   remainder-bytes zero = everyone-bits g .1
   remainder-bytes (suc i) = good-leave (remainder g i) (getD (leaving g) i 0) (remainder-bytes i)
 

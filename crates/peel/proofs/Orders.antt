@@ -11,7 +11,7 @@ use native.Mathlib.Numerals.{add-one}
 use lib.ListN.{length, getD, set}
 use Rattle.theory.specs.Lists.{Pairs}
 use Rattle.theory.specs.Groups.{everyone}
-use Rattle.theory.specs.Leaving.{leaver, leaving, remainder, leaving-degree}
+use Rattle.theory.specs.Leaving.{leaver, leaving, left-behind, remainder, leaving-degree}
 use Rattle.theory.specs.Words.{list-in, Held-words}
 use Rattle.ranking.specs.declared.Leaver.{Leaver}
 use Rattle.ranking.specs.Ranking.{Some-present, Taken}
@@ -27,7 +27,7 @@ pub record Turns-done (g : Pairs) (i : ℕ) (order finals work order′ finals�
   pub written : Leavers-written g i order finals order′ finals′
 
 pub turns-start : (g : Pairs) (order finals work : List ℕ) → Ranking-of g (everyone g) work → Turns-done g 0 order finals work order finals
-unfolding remainder
+unfolding remainder left-behind
 turns-start g order finals work r =
     record { ranked = r; written = record { order-is = written-none (entry (leaving g)) order; finals-are = written-none (leaving-degree g) finals } }
 
@@ -53,7 +53,7 @@ module _ (n m : ℕ) (ends weights : List ℕ) (h : Held-words n m ends weights)
 
     pub turn-next : (after : List ℕ) → Lowered-by (both-ways ends weights (v .number) m) new after → n ≤ length order → n ≤ length finals →
         Turns-done g (i + 1) order finals after (set order′ i (v .number)) (set finals′ i (v .carried))
-    unfolding remainder entry leaving-degree
+    unfolding remainder left-behind entry leaving-degree
     turn-next after o room space =
         let who : v .number ≡ getD (leaving g) i 0 =
         ranked-first n m ends weights h (remainder g i) work (getD (leaving g) i 0) full (t .ranked) lives new v k in

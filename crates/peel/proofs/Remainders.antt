@@ -20,7 +20,7 @@ use borrow.Author.Tests.{leb-true, leb-false, le-leb}
 use lib.ListN.{getD}
 use Rattle.theory.specs.Lists.{Pairs, is-list}
 use Rattle.theory.specs.Groups.{size, everyone, holds-pair, inside, at-most}
-use Rattle.theory.specs.Leaving.{degree, leaving, remainder, leaving-degree}
+use Rattle.theory.specs.Leaving.{degree, leaving, left-behind, remainder, leaving-degree}
 use Rattle.theory.specs.Words.{word-pair, list-in}
 use Rattle.theory.proofs.Lists.{proper}
 use Rattle.theory.proofs.Tests.{no}
@@ -113,7 +113,7 @@ module _ (n m : ℕ) (ends weights : List ℕ) (h : is-list (list-in n m ends we
 -- each leaver takes its degree out
 module _ (g : Pairs) (h : is-list g ≡ true) where
   pub inside-finals : (i : ℕ) → i ≤ g .n → inside g (remainder g i) + total i (leaving-degree g) ≡ inside g (everyone g)
-  unfolding remainder total inside leaving-degree degree
+  unfolding remainder left-behind total inside leaving-degree degree
   inside-finals zero l = omega arith
   inside-finals (suc i) l =
       omega (

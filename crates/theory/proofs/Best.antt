@@ -14,7 +14,7 @@ use native.Mathlib.Omega.{arith}
 use lib.ListN.{length}
 use borrow.Author.Tests.{ltb-false, not-true, not-false}
 use Rattle.theory.specs.Lists.{Pairs, is-list}
-use Rattle.theory.specs.Groups.{size, bytes-good, is-group, everyone, at-most, subsets, outranks, better, best-of, found-of}
+use Rattle.theory.specs.Groups.{size, bytes-good, is-group, everyone, at-most, subsets, outranks, better-group, best-of, found-of}
 use Rattle.theory.specs.Promise.{Found-there, Found-outright, Found-largest}
 use Rattle.theory.proofs.Tests.{tests, no, by-test, or-cases, or-fails, and-fails}
 use Rattle.theory.proofs.Groups.{Bits, group-bits, everyone-group}
@@ -115,8 +115,8 @@ module _ (g : Pairs) where
   Tops r s ts = (is-group g r ≡ true) × Below s r × Each (λ t. is-group g t ≡ true → Below t r) ts
 
   -- the better of two is above both
-  better-tops : (s t : List ℕ) → is-group g s ≡ true → Tops (better g s t) s (t ∷ [])
-  unfolding better
+  better-tops : (s t : List ℕ) → is-group g s ≡ true → Tops (better-group g s t) s (t ∷ [])
+  unfolding better-group
   better-tops s t h = go (is-group g t && outranks g t s) refl
     where
       go : (b : Bool) → (is-group g t && outranks g t s) ≡ b → Tops (cond b t s) s (t ∷ [])
@@ -129,9 +129,9 @@ module _ (g : Pairs) where
   best-tops s [] h = (h, below-self s, tt)
   best-tops s (t ∷ ts) h =
       let b = better-tops s t h in
-      let r = best-tops (better g s t) ts (b .0) in
-      let up : (u : List ℕ) → is-group g u ≡ true → Below u (better g s t) → Below u (best-of g (better g s t) ts) =
-      λ u i c. below-trans u (better g s t) (best-of g (better g s t) ts) i (b .0) (r .0) c (r .1) in
+      let r = best-tops (better-group g s t) ts (b .0) in
+      let up : (u : List ℕ) → is-group g u ≡ true → Below u (better-group g s t) → Below u (best-of g (better-group g s t) ts) =
+      λ u i c. below-trans u (better-group g s t) (best-of g (better-group g s t) ts) i (b .0) (r .0) c (r .1) in
       (r .0, up s h (b .1), (λ i. up t i (b .2 .0 i), r .2))
 
 -- no group goes before the one found: it is densest, and no densest group has more modules

@@ -4,6 +4,7 @@
 --   split-densest, split-there    its split
 --   found-in-core, core-exact, core-members    cores
 --   leaver-fewest to outside-first    the leaving order
+--   first-given, none-given    refusals
 --   floats-in-order, ratios-in-order, rounded-once, surplus-signed    ratios
 --   starred-cases    the ten starred cases
 -- Assumes nothing.
@@ -11,7 +12,7 @@ use Rattle.theory.specs.Promise.{Weak-duality, Equal-best, Check-best, A
 use Rattle.theory.specs.Promise.{Found-outright, Found-largest, Found-no-pairs}
 use Rattle.theory.specs.Promise.{Split-densest, Split-there, Found-in-core, Core-exact, Core-members, Union-densest, Shared-densest, Leaver-fewest}
 use Rattle.theory.specs.Promise.{Leaver-lowest, Leaver-there, Leaving-steps, Leaving-everyone, Leaver-core, Cores-never-fall, Outside-first}
-use Rattle.theory.specs.Promise.{Floats-in-order, Ratios-in-order, Rounded-once, Surplus-signed}
+use Rattle.theory.specs.Promise.{First-given, None-given, Floats-in-order, Ratios-in-order, Rounded-once, Surplus-signed}
 use Rattle.theory.specs.Cases.{Starred-cases}
 use Rattle.theory.proofs.Densest as densest
 use Rattle.theory.proofs.Duality as duality
@@ -20,6 +21,7 @@ use Rattle.theory.proofs.Cores as cores
 use Rattle.theory.proofs.Leaving as order
 use Rattle.theory.proofs.Peeling as peeling
 use Rattle.theory.proofs.Splits as splits
+use Rattle.theory.proofs.Refusals as refusals
 use Rattle.theory.proofs.Floats as floats
 use Rattle.theory.proofs.Bounds as bounds
 use Rattle.theory.proofs.Surplus as difference
@@ -112,6 +114,14 @@ cores-never-fall = peeling.cores-never-fall
 
 pub outside-first : Outside-first
 outside-first = order.outside-first
+
+-- ---- refusals
+
+pub first-given : First-given
+first-given = refusals.first-given
+
+pub none-given : None-given
+none-given = refusals.none-given
 
 -- ---- ratios
 
