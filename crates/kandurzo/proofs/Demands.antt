@@ -1,30 +1,33 @@
 -- What the calls do with every list, and what their answers are: the theorems of specs/Promise.antt.
---   lent-agrees, lent-held, lent-passes    a list that is lent is the one held, and with buffers long enough neither 13 nor 12 comes
+--   lent-agrees, lent-list, lent-held, lent-passes    a list that is lent is the one held, and with buffers long enough neither 13 nor 12 comes
 --   every-list-peeled, every-list-solved, every-list-judged, every-list-compared    so every list is served
 --   refusals-keep, fifteen-never           refusals
---   peel-exact, check-exact, solve-accepted    what is written, and what is accepted
+--   peel-exact, check-exact, solve-alone, solve-accepted    what is written, and what is accepted
 -- Assumes nothing.
 use mathlib.Core.Path.{_≡_, refl, sym, ap, _∙_}
-use mathlib.Core.Bool.{Bool, true, false, not, cond}
+use mathlib.Core.Bool.{Bool, true, false, _||_, not, cond}
 use mathlib.Core.Option.{some}
 use mathlib.Core.List.{List, [], _∷_}
 use Prim.Native.Nat.{ℕ, zero, suc, _≤_, _<_}
 use native.Mathlib.Omega.{arith}
-use lib.ListN.{length, getD, take, List·getD-append}
-use borrow.Author.Tests.{ne-eqb}
+use lib.Dec.{eqb}
+use lib.ListN.{length, getD, take, drop, List·getD-append}
+use lib.Seq.{getD-take}
+use borrow.Author.Tests.{eqb-true, eqb-false, ne-eqb}
 use Rattle.theory.specs.Lists as Lists
-use Rattle.theory.specs.Lists.{Pairs, is-list}
-use Rattle.theory.specs.Groups.{size, is-group}
-use Rattle.theory.specs.Leaving.{leaving}
+use Rattle.theory.specs.Lists.{Pairs, pair, is-list}
+use Rattle.theory.specs.Groups.{size, is-group, everyone}
+use Rattle.theory.specs.Leaving.{leaving, remainder}
 use Rattle.theory.specs.Cores.{core-number, core-numbers}
-use Rattle.theory.specs.Splits.{shares-good, is-split}
+use Rattle.theory.specs.Splits.{shares-good, is-split, pair-in-core, wholly-first, outside-good}
 use Rattle.theory.specs.Refusals.{Cause, cause, refusal, if-taken}
 use Rattle.theory.specs.Check.{check-causes, check-number}
 use Rattle.theory.specs.Surplus.{surplus-number}
 use Rattle.theory.specs.Promise.{Accepted-exactly, Best-accepted, Core-exact, Leaving-steps, Leaving-everyone}
 use Rattle.theory.proofs.Promises.{accepted-exactly, best-accepted, core-exact, leaving-steps, leaving-everyone}
 use Rattle.theory.proofs.Tables.{table-at, length-table}
-use Rattle.theory.proofs.Tests.{tests, no}
+use Rattle.theory.proofs.Tests.{tests, and-iff, no, by-test}
+use Rattle.theory.proofs.Leaving.{left-behind-same}
 use Rattle.pairs.proofs.Keeps.{counts-once}
 use Rattle.lines.specs.Outcomes.{Outcome, refused, taken}
 use Rattle.pairfile.specs.Promise.{ones}
@@ -34,30 +37,33 @@ use Rattle.records.specs.declared.Pair.{Pair}
 use Rattle.records.specs.declared.Head.{Head}
 use Rattle.records.specs.Records.{held-list, agrees}
 use Rattle.kandurzo.specs.declared.Solved.{Solved}
-use Rattle.kandurzo.specs.Buffers.{Buffer, buffer, any-short, in-front, work-words}
+use Rattle.kandurzo.specs.Buffers.{Buffer, buffer, any-short, in-front, work-words, work-left}
 use Rattle.kandurzo.specs.Gate.{gate-number}
 use Rattle.kandurzo.specs.Listing.{head-of, as-records}
 use Rattle.kandurzo.specs.Reading.{records-front}
 use Rattle.kandurzo.specs.Peeling.{peel-buffers, peel-call-causes, Peel-call}
 use Rattle.kandurzo.specs.Judging.{check-buffers, check-call-causes, Check-call, surplus-buffers, surplus-call-causes}
-use Rattle.kandurzo.specs.Solving.{solve-buffers, solve-call-causes, Solve-call}
+use Rattle.kandurzo.specs.Solving.{solve-buffers, solve-call-causes, declined, Solve-call}
 use Rattle.kandurzo.specs.Promise.{
   Lent,
+  Lent-held,
   Every-list-peeled,
   Every-list-solved,
   Every-list-judged,
   Every-list-compared,
   Refusals-keep,
   Fifteen-never,
-  Exact-peel,
+  Peeling-of,
   Peel-exact,
   Check-exact,
+  Alike,
+  Solve-alone,
   Solve-accepted,
 }
 use Rattle.kandurzo.proofs.Filling.{work-zeros, left-open}
 use Rattle.kandurzo.proofs.Gates.{Long-enough, all-long, gate-open}
 use Rattle.kandurzo.proofs.Judgements.{check-few, gate-then}
-use Rattle.kandurzo.proofs.Taken.{as-pairs-back, length-as-records, held-is-list, length-held}
+use Rattle.kandurzo.proofs.Taken.{as-pairs-back, length-as-records, held-is-list, length-held, held-ones, held-records}
 
 -- one share for each pair
 shares-length : (q : ℕ) (ps : List Lists.Pair) (xs : List ℕ) → shares-good q ps xs ≡ true → length xs ≡ length ps
@@ -88,9 +94,9 @@ module _ {g : Pairs} {h : Head} {ps : List Pair} (lent : Lent g h ps) where
   m-is = ap (λ (k : Head). k .m) (lent .head)
 
   -- it is the list held
-  pub lent-held : held-list h ps ≡ g
+  pub lent-list : held-list h ps ≡ g
   unfolding held-list ones counts-once
-  lent-held =
+  lent-list =
       rw (n-is, m-is, lent .records) (ap (λ (qs : List Lists.Pair). record { n = g .n; pairs = qs }) (as-pairs-back (g .pairs) (lent .once)))
 
   -- and head and list agree
@@ -98,13 +104,29 @@ module _ {g : Pairs} {h : Head} {ps : List Pair} (lent : Lent g h ps) where
   unfolding agrees
   lent-agrees =
       let long : m ≤ length ps = front-long m ps (ap length (lent .records) ∙ length-as-records (g .pairs)) in
-      rw lent-held (simp tests (omega (arith, m-is, long), lent .list))
+      rw lent-list (simp tests (omega (arith, m-is, long), lent .list))
 
   -- with buffers long enough, neither 13 nor 12 comes
   pub lent-passes : (bs : List Buffer) (rest : List Cause) → Long-enough bs →
       refusal (cause 13 (not (agrees h ps)) ∷ cause 12 (any-short bs) ∷ rest) ≡ refusal rest
   unfolding gate-number refusal cause
   lent-passes bs rest long = gate-then (agrees h ps) (any-short bs) rest (rw (lent-agrees, all-long bs long) refl)
+
+-- head and list that agree hold a list that is lent
+held-lent : (h : Head) (ps : List Pair) → agrees h ps ≡ true → Lent (held-list h ps) h ps
+unfolding ones counts-once head-of
+held-lent h ps agreed =
+    let m : length (held-list h ps .pairs) ≡ h .m = length-held h ps agreed in
+    record {
+      list = held-is-list h ps agreed;
+      once = held-ones h ps agreed;
+      head = unfold held-list in cc (sym m);
+      records = rw m (sym (held-records h ps agreed));
+    }
+
+pub lent-held : Lent-held
+unfolding Lent-held
+lent-held g h ps = (λ lent. (lent-agrees lent, lent-list lent), λ e. rw (e .1) at (held-lent h ps (e .0)))
 
 -- ---- every list
 
@@ -115,8 +137,8 @@ every-list-peeled g h ps order cores work r order′ cores′ work′ lent o c w
     (omega (arith, n-is lent), (omega (arith, n-is lent), w)) in
     record {
       number = z;
-      order-is = rw (z, lent-held lent) at (call .order-is);
-      cores-are = rw (z, lent-held lent) at (call .cores-are);
+      order-is = rw (z, lent-list lent) at (call .order-is);
+      cores-are = rw (z, lent-list lent) at (call .cores-are);
       left = call .left ∙ left-open work z;
     }
 
@@ -126,7 +148,7 @@ every-list-solved g h ps members cores shares work r members′ cores′ shares�
     let z : r .number ≡ 0 = call .number .outright
     ∙ lent-passes lent (solve-buffers h (length members) (length cores) (length shares) (length work)) []
     (omega (arith, n-is lent), (omega (arith, n-is lent), (omega (arith, m-is lent), w))) in
-    record { number = z; handed = rw (lent-held lent) at (call .handed z); left = call .left ∙ left-open work z }
+    record { number = z; handed = rw (lent-list lent) at (call .handed z); left = call .left ∙ left-open work z }
 
 -- the number of check is the sheet's
 module _ {g : Pairs} {h : Head} {ps : List Pair} (lent : Lent g h ps) (members shares work : List ℕ)
@@ -136,20 +158,33 @@ module _ {g : Pairs} {h : Head} {ps : List Pair} (lent : Lent g h ps) (members s
   unfolding check-call-causes check-buffers buffer work-words check-number
   sheet-number =
       call .number ∙ lent-passes lent (check-buffers h (length members) (length shares) (length work)) _
-      (omega (arith, n-is lent), (omega (arith, m-is lent), w)) ∙ rw (lent-held lent, n-is lent, m-is lent)
+      (omega (arith, n-is lent), (omega (arith, m-is lent), w)) ∙ rw (lent-list lent, n-is lent, m-is lent)
 
 pub every-list-judged : Every-list-judged
 unfolding Every-list-judged
 every-list-judged g h ps members shares work v work′ lent a d w call =
     let number = sheet-number lent members shares work a d w call in
-    let low = check-few g (take (g .n) members) (take (length (g .pairs)) shares) in
-    (number, call .left ∙ work-zeros (v .number) work (λ x. omega (arith, number, low)) (λ x. omega (arith, number, low)))
+    let low = check-few g (take (g .n) members) (take (length (g .pairs)) shares) in (
+      record {
+        number = number;
+        p = rw (number, lent-list lent, n-is lent) at (call .p);
+        q = rw (number, n-is lent) at (call .q);
+        optimal = λ z. rw (lent-list lent, n-is lent, m-is lent) at (call .optimal z);
+      },
+      call .left ∙ work-zeros (v .number) work (λ x. omega (arith, number, low)) (λ x. omega (arith, number, low)),
+    )
 
 pub every-list-compared : Every-list-compared
 unfolding Every-list-compared surplus-call-causes surplus-buffers buffer surplus-number
 every-list-compared g h ps t s d lent a b call =
+    let number : d .number ≡ surplus-number g (take (g .n) t) (take (g .n) s) =
     call .number ∙ lent-passes lent (surplus-buffers h (length t) (length s)) _ (omega (arith, n-is lent), omega (arith, n-is lent))
-    ∙ rw (lent-held lent, n-is lent)
+    ∙ rw (lent-list lent, n-is lent) in
+    record {
+      number = number;
+      value = rw (number, lent-list lent, n-is lent) at (call .value);
+      signs = λ z. rw (lent-list lent, n-is lent) at (call .signs z);
+    }
 
 -- ---- refusals
 
@@ -213,12 +248,13 @@ module _ (h : Head) (ps : List Pair) (order cores work : List ℕ) {r : ℕ} {or
       front-at (core-numbers g) cores cores′ v (rw z at (call .cores-are)) (omega (arith, length-table (g .n) (core-number g)))
       ∙ table-at (g .n) (core-number g) v 0 l
 
-  exact : Exact-peel g order′ cores′
-  unfolding Leaving-steps Leaving-everyone Core-exact
+  exact : Peeling-of g order′ cores′
+  unfolding Leaving-steps Leaving-everyone Core-exact remainder
   exact = record {
-    leavers = λ i l. leaving-steps g .1 i l ∙ ap some (sym (place-is i l));
-    everyone = λ v l. let p = leaving-everyone g v l in (p .0, p .1, place-is (p .0) (p .1) ∙ p .2);
-    orders = λ v l. rw (number-is v l) (core-exact g v peeled-list l);
+    leavers = λ i l.
+        rw (left-behind-same order′ (leaving g) (everyone g) i (λ j b. place-is j (omega (arith, l)))) (leaving-steps g .1 i l ∙ ap some (sym (place-is i l)));
+    places = λ v l. let p = leaving-everyone g v l in (p .0, p .1, place-is (p .0) (p .1) ∙ p .2);
+    numbers = λ v l. rw (number-is v l) (core-exact g v peeled-list l);
   }
 
 pub peel-exact : Peel-exact
@@ -229,10 +265,75 @@ pub check-exact : Check-exact
 unfolding Check-exact Best-accepted
 check-exact g h ps members shares work v work′ lent a d w call = (
   λ z.
-      let o = rw (lent-held lent, n-is lent, m-is lent) at (call .optimal z) in
+      let o = rw (lent-list lent, n-is lent, m-is lent) at (call .optimal z) in
       record { group = o .is-a-group; split = rw (o .modules) at (o .is-a-split); best = rw (o .modules) at (o .best) },
   λ b. sheet-number lent members shares work a d w call ∙ best-accepted g _ _ (lent .list) (b .group) (b .split) (b .best),
 )
+
+-- the share of a pair with an end outside the core
+outside-at : (g : Pairs) (k q : ℕ) (ps : List Lists.Pair) (xs : List ℕ) (j : ℕ) → outside-good g k q ps xs ≡ true → j < length ps →
+    pair-in-core g k (getD ps j (pair 0 0)) ≡ false → getD xs j 0 ≡ wholly-first g q (getD ps j (pair 0 0))
+unfolding outside-good
+outside-at g k q [] xs j e l n = absurd (omega arith)
+outside-at g k q (p ∷ ps) [] j e l n = no e
+outside-at g k q (p ∷ ps) (x ∷ xs) zero e l n = eqb-true _ _ ((simp tests at (rw n at e)) .0)
+outside-at g k q (p ∷ ps) (x ∷ xs) (suc j) e l n = outside-at g k q ps xs j (and-iff (pair-in-core g k p || eqb x (wholly-first g q p)) _ .0 e .1) (omega arith) n
+
+-- two answers of solve to one input
+module _ (h : Head) (ps : List Pair) (members cores shares work : List ℕ) {r s : Solved}
+    {members′ cores′ shares′ work′ members″ cores″ shares″ work″ : List ℕ}
+    (one : Solve-call h ps members cores shares work r members′ cores′ shares′ work′)
+    (two : Solve-call h ps members cores shares work s members″ cores″ shares″ work″) where
+  same-number : r .number ≡ s .number
+  same-number = one .number .outright ∙ sym (two .number .outright)
+
+  same-work : work′ ≡ work″
+  same-work = one .left ∙ ap (λ (k : ℕ). work-left k work) same-number ∙ sym (two .left)
+
+  abbrev Same : Type 0
+  Same = (r ≡ s) × (members′ ≡ members″) × (cores′ ≡ cores″) × Alike (held-list h ps) (r .k) shares′ shares″ × (work′ ≡ work″)
+
+  -- where nothing is refused
+  taken-same : r .number ≡ 0 → Same
+  taken-same z =
+      let a = one .handed z in
+      let b = two .handed (sym same-number ∙ z) in
+      let m : members′ ≡ members″ = a .members-are ∙ sym (b .members-are) in
+      let p : r .p ≡ s .p = a .optimal .inside-count ∙ rw m (sym (b .optimal .inside-count)) in
+      let q : r .q ≡ s .q = a .optimal .modules ∙ rw m (sym (b .optimal .modules)) in
+      let k : r .k ≡ s .k = a .order ∙ rw (p, q) (sym (b .order)) in
+      let c : r .coresize ≡ s .coresize = a .core-size ∙ rw k (sym (b .core-size)) in
+      let f : r .ratio ≡ s .ratio = a .float ∙ rw (p, q) (sym (b .float)) in (
+        λ i. record { number = same-number i; p = p i; q = q i; k = k i; coresize = c i; ratio = f i },
+        m,
+        a .cores-are ∙ sym (b .cores-are),
+        record {
+          outside = λ j l n.
+              sym (getD-take _ shares′ j 0 l) ∙ outside-at _ (r .k) (r .q) _ _ j (a .outside) l n
+              ∙ rw q (sym (outside-at _ (s .k) (s .q) _ _ j (b .outside) l (rw (← k) n))) ∙ getD-take _ shares″ j 0 l;
+          past = a .shares-rest ∙ sym (b .shares-rest);
+        },
+        same-work,
+      )
+
+  -- and where the call is refused
+  refused-same : (r .number ≡ 0 → ⊥) → Same
+  refused-same n =
+      let a = one .refused n in
+      let b = two .refused (λ z. n (same-number ∙ z)) in
+      let d : shares′ ≡ shares″ = a .3 ∙ sym (b .3) in (
+        a .0 ∙ ap declined same-number ∙ sym (b .0),
+        a .1 ∙ sym (b .1),
+        a .2 ∙ sym (b .2),
+        record { outside = λ j l o. ap (λ (xs : List ℕ). getD xs j 0) d; past = ap (drop _) d },
+        same-work,
+      )
+
+pub solve-alone : Solve-alone
+unfolding Solve-alone
+solve-alone h ps members cores shares work r s members′ cores′ shares′ work′ members″ cores″ shares″ work″ one two =
+    by-test (eqb (r .number) 0) (λ e. taken-same h ps members cores shares work one two (eqb-true _ 0 e))
+    (λ e. refused-same h ps members cores shares work one two (eqb-false _ 0 e))
 
 -- what solve hands out, put to check
 module _ (h : Head) (ps : List Pair) (members cores shares work : List ℕ) {r : Solved} {members′ cores′ shares′ work′ : List ℕ}

@@ -1,13 +1,13 @@
 -- One theorem for each statement of specs/Promise.antt and of specs/Keeping.antt, in their order.
---   every-list-peeled, every-list-solved, every-list-judged, every-list-compared    every list
+--   lent-held, every-list-peeled, every-list-solved, every-list-judged, every-list-compared    every list
 --   refusals-keep, unsplit-never, fifteen-never    refusals
---   peel-exact, check-exact, solve-accepted, records-in-order    answers
+--   peel-exact, check-exact, solve-alone, solve-accepted, records-in-order    answers
 --   held-once, add-holds, remove-drops, thirteen-never-follows    one pair more, one pair less
 --   arrival-traceless, any-order-taken, records-alone, add-undone    the order of arrival
 --   every-file-read, read-exact    read
 -- Assumes nothing.
-use Rattle.kandurzo.specs.Promise.{Every-list-peeled, Every-list-solved, Every-list-judged, Every-list-compared, Refusals-keep, Unsplit-never}
-use Rattle.kandurzo.specs.Promise.{Fifteen-never, Peel-exact, Check-exact, Solve-accepted, Records-in-order}
+use Rattle.kandurzo.specs.Promise.{Lent-held, Every-list-peeled, Every-list-solved, Every-list-judged, Every-list-compared, Refusals-keep, Unsplit-never}
+use Rattle.kandurzo.specs.Promise.{Fifteen-never, Peel-exact, Check-exact, Solve-alone, Solve-accepted, Records-in-order}
 use Rattle.kandurzo.specs.Keeping.{Held-once, Add-holds, Remove-drops, Thirteen-never-follows, Arrival-traceless, Any-order-taken}
 use Rattle.kandurzo.specs.Keeping.{Records-alone, Add-undone, Every-file-read, Read-exact}
 use Rattle.kandurzo.proofs.Demands as demands
@@ -17,6 +17,9 @@ use Rattle.kandurzo.proofs.Arrivals as arrivals
 use Rattle.kandurzo.proofs.ReadKeeps as reading
 
 -- ---- every list
+
+pub lent-held : Lent-held
+lent-held = demands.lent-held
 
 pub every-list-peeled : Every-list-peeled
 every-list-peeled = demands.every-list-peeled
@@ -48,6 +51,9 @@ peel-exact = demands.peel-exact
 
 pub check-exact : Check-exact
 check-exact = demands.check-exact
+
+pub solve-alone : Solve-alone
+solve-alone = demands.solve-alone
 
 pub solve-accepted : Solve-accepted
 solve-accepted = demands.solve-accepted

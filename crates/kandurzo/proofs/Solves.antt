@@ -99,4 +99,6 @@ records-in-order h i ps qs ms cs xs ws ms′ cs′ xs′ ws′ ns ds ys vs ns′
       less = rw (a .float, b .float, a .optimal .inside-count, b .optimal .inside-count, a .optimal .modules, b .optimal .modules) (o .less);
       at-most = rw (a .float, b .float, a .optimal .inside-count, b .optimal .inside-count, a .optimal .modules, b .optimal .modules) (o .at-most);
       equal = rw (a .float, b .float, a .optimal .inside-count, b .optimal .inside-count, a .optimal .modules, b .optimal .modules) (o .equal);
+      one-float = rw (a .float, b .float, a .optimal .inside-count, b .optimal .inside-count, a .optimal .modules, b .optimal .modules) (o .one-float);
+      one-ratio = rw (a .float, b .float, a .optimal .inside-count, b .optimal .inside-count, a .optimal .modules, b .optimal .modules) (o .one-ratio);
     }

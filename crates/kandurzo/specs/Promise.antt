@@ -3,36 +3,37 @@
 --   1. Every list, with buffers of the stated sizes, gets its group, core numbers and load sheet; a call that meets a refusal condition gets that
 --      number and changes no head, list or answer buffer.
 --   2. The group is the largest of all groups of greatest ratio; core numbers, leaving order, surplus and file reading are those of document 01.
---   3. What solve hands out, and whatever check accepts, is best among all groups and all splits (theory, specs/Promise.antt).
+--   3. For every list, group and split: ratio and greatest load over share size are equal exactly when both are best among all groups and all splits at
+--      every share size. What solve hands out, and whatever check accepts, reaches that equality; P and Q returned are the group's, and the greatest load
+--      at share size Q is exactly P. (The equality: theory, specs/Promise.antt; of solve and check: Optimal, in Handed and in Check-call.)
 -- The statements:
---   every list    Lent; Peel-served, Every-list-peeled; Solve-served, Every-list-solved; Every-list-judged, Every-list-compared
+--   every list    Lent, Lent-held; Peel-served, Every-list-peeled; Solve-served, Every-list-solved; Every-list-judged, Every-list-compared
 --   refusals      Refusals-keep; Unsplit-never, Fifteen-never
---   answers       Exact-peel, Peel-exact; Best-sheet, Check-exact, Solve-accepted; Compare-alike, Records-in-order
+--   answers       Peeling-of, Peel-exact; Best-sheet, Check-exact; Alike, Solve-alone, Solve-accepted; Compare-alike, Records-in-order
 -- Those of start, add, remove and read are in Keeping. Assumes nothing: these are definitions.
 use mathlib.Core.Path.{_≡_}
-use mathlib.Core.Bool.{true}
+use mathlib.Core.Bool.{true, false}
 use mathlib.Core.List.{List}
 use mathlib.Core.Logic.{_↔_}
 use mathlib.Core.Option.{some}
 use Prim.Native.Nat.{ℕ, _*_, _≤_, _<_}
 use lib.Dec.{ltb, leb, eqb}
-use lib.ListN.{length, getD, take}
+use lib.ListN.{length, getD, take, drop}
 use lib.Ieee.{lt, le, eq}
-use Rattle.theory.specs.Lists.{Pairs, is-list}
-use Rattle.theory.specs.Groups.{size, is-group}
-use Rattle.theory.specs.Leaving.{leaver, leaving, remainder}
+use Rattle.theory.specs.Lists.{Pairs, pair, is-list}
+use Rattle.theory.specs.Groups.{size, is-group, everyone}
+use Rattle.theory.specs.Leaving.{leaver, leaving, left-behind}
 use Rattle.theory.specs.Cores.{core-numbers}
-use Rattle.theory.specs.Splits.{is-split}
-use Rattle.theory.specs.Check.{check-number}
-use Rattle.theory.specs.Surplus.{surplus-number}
+use Rattle.theory.specs.Splits.{is-split, pair-in-core}
 use Rattle.theory.specs.Promise.{Both-best, Largest-order}
 use Rattle.verify.specs.declared.Verdict.{Verdict}
 use Rattle.verify.specs.declared.Difference.{Difference}
+use Rattle.verify.specs.Answers.{Check-says, Surplus-says}
 use Rattle.pairfile.specs.File.{read-file}
 use Rattle.pairfile.specs.Promise.{ones}
 use Rattle.records.specs.declared.Pair.{Pair}
 use Rattle.records.specs.declared.Head.{Head}
-use Rattle.records.specs.Records.{held-list}
+use Rattle.records.specs.Records.{held-list, agrees}
 use Rattle.kandurzo.specs.declared.Changed.{Changed}
 use Rattle.kandurzo.specs.declared.Solved.{Solved}
 use Rattle.kandurzo.specs.Buffers.{in-front, cleared}
@@ -51,6 +52,10 @@ pub record Lent (g : Pairs) (h : Head) (ps : List Pair) : Type 0 where
   pub once : ones (g .pairs) ≡ true
   pub head : h ≡ head-of (g .n) (length (g .pairs))
   pub records : take (length (g .pairs)) ps ≡ as-records (g .pairs)
+
+-- A LIST IS LENT exactly where head and list agree and hold it
+unfoldable pub Lent-held : Type 0
+Lent-held = (g : Pairs) (h : Head) (ps : List Pair) → Lent g h ps ↔ ((agrees h ps ≡ true) × (held-list h ps ≡ g))
 
 -- a list is peeled: no refusal; in front of the buffers stand its leaving order and core numbers; the work buffer is cleared
 pub record Peel-served (g : Pairs) (order cores work : List ℕ) (r : ℕ) (order′ cores′ work′ : List ℕ) : Type 0 where
@@ -79,19 +84,19 @@ Every-list-solved =
     Lent g h ps → g .n ≤ length members → g .n ≤ length cores → length (g .pairs) ≤ length shares → 16384 ≤ length work →
     Solve-call h ps members cores shares work r members′ cores′ shares′ work′ → Solve-served g members cores shares work r members′ cores′ shares′ work′
 
--- CHECK LOOKS AT THE SHEET OF EVERY SUCH LIST: neither 13 nor 12 comes, and 7, 8, 9 and 0 are said of the list, the group and the shares that are lent
+-- CHECK LOOKS AT THE SHEET OF EVERY SUCH LIST: neither 13 nor 12 comes; 7, 8, 9 or 0, P and Q are said of that list, the group and the shares
 unfoldable pub Every-list-judged : Type 0
 Every-list-judged =
     (g : Pairs) (h : Head) (ps : List Pair) (members shares work : List ℕ) (v : Verdict) (work′ : List ℕ) →
     Lent g h ps → g .n ≤ length members → length (g .pairs) ≤ length shares → 16384 ≤ length work →
     Check-call h ps members shares work v work′ →
-    (v .number ≡ check-number g (take (g .n) members) (take (length (g .pairs)) shares)) × (work′ ≡ cleared work)
+    Check-says g (take (g .n) members) (take (length (g .pairs)) shares) v × (work′ ≡ cleared work)
 
--- AND SURPLUS AT THE TWO GROUPS: 7 or 0
+-- SURPLUS LOOKS AT THE TWO GROUPS OF EVERY SUCH LIST: neither 13 nor 12 comes; 7 or 0, and the value, are said of that list and the two groups
 unfoldable pub Every-list-compared : Type 0
 Every-list-compared =
     (g : Pairs) (h : Head) (ps : List Pair) (t s : List ℕ) (d : Difference) → Lent g h ps → g .n ≤ length t → g .n ≤ length s →
-    Surplus-call h ps t s d → d .number ≡ surplus-number g (take (g .n) t) (take (g .n) s)
+    Surplus-call h ps t s d → Surplus-says g (take (g .n) t) (take (g .n) s) d
 
 -- ---- refusals
 
@@ -121,20 +126,20 @@ Fifteen-never =
 
 -- ---- answers
 
--- what a leaving order and core numbers are
-pub record Exact-peel (g : Pairs) (order cores : List ℕ) : Type 0 where
-  -- at each place stands the leaver among those whom the ones before it have left behind
-  pub leavers : (i : ℕ) → i < g .n → leaver g (remainder g i) ≡ some (getD order i 0)
+-- an order and core numbers, the first N of each, are the leaving order and the core numbers of a list
+pub record Peeling-of (g : Pairs) (order cores : List ℕ) : Type 0 where
+  -- at each place stands the leaver among those whom the ones before it in this order have left behind
+  pub leavers : (i : ℕ) → i < g .n → leaver g (left-behind order (everyone g) i) ≡ some (getD order i 0)
   -- each module has its place
-  pub everyone : (m : ℕ) → m < g .n → (i : ℕ) × (i < g .n) × (getD order i 0 ≡ m)
+  pub places : (m : ℕ) → m < g .n → (i : ℕ) × (i < g .n) × (getD order i 0 ≡ m)
   -- each core number is the largest k such that the module belongs to a group in which each member has at least k pairs inside
-  pub orders : (m : ℕ) → m < g .n → Largest-order g m (getD cores m 0)
+  pub numbers : (m : ℕ) → m < g .n → Largest-order g m (getD cores m 0)
 
 -- WHAT PEEL WRITES are the leavers and the core numbers of document 01
 unfoldable pub Peel-exact : Type 0
 Peel-exact =
     (h : Head) (ps : List Pair) (order cores work : List ℕ) (r : ℕ) (order′ cores′ work′ : List ℕ) →
-    Peel-call h ps order cores work r order′ cores′ work′ → r ≡ 0 → Exact-peel (held-list h ps) order′ cores′
+    Peel-call h ps order cores work r order′ cores′ work′ → r ≡ 0 → Peeling-of (held-list h ps) order′ cores′
 
 -- a group than which none is denser, and a split at its size than which none has a lower greatest load over its share size
 pub record Best-sheet (g : Pairs) (s xs : List ℕ) : Type 0 where
@@ -150,6 +155,19 @@ Check-exact =
     Check-call h ps members shares work v work′ →
     (v .number ≡ 0) ↔ Best-sheet g (take (g .n) members) (take (length (g .pairs)) shares)
 
+-- shares of a list that are the same for each pair with an end outside the core of order k, and past the first M
+pub record Alike (g : Pairs) (k : ℕ) (xs ys : List ℕ) : Type 0 where
+  pub outside : (j : ℕ) → j < length (g .pairs) → pair-in-core g k (getD (g .pairs) j (pair 0 0)) ≡ false → getD xs j 0 ≡ getD ys j 0
+  pub past : drop (length (g .pairs)) xs ≡ drop (length (g .pairs)) ys
+
+-- WHAT SOLVE ANSWERS AND LEAVES FOLLOWS FROM THE INPUT ALONE: free are only the shares of pairs inside the core of order K
+unfoldable pub Solve-alone : Type 0
+Solve-alone =
+    (h : Head) (ps : List Pair) (members cores shares work : List ℕ) (r s : Solved)
+    (members′ cores′ shares′ work′ members″ cores″ shares″ work″ : List ℕ) →
+    Solve-call h ps members cores shares work r members′ cores′ shares′ work′ → Solve-call h ps members cores shares work s members″ cores″ shares″ work″ →
+    (r ≡ s) × (members′ ≡ members″) × (cores′ ≡ cores″) × Alike (held-list h ps) (r .k) shares′ shares″ × (work′ ≡ work″)
+
 -- WHAT SOLVE HANDS OUT CHECK ACCEPTS, with the same P and Q
 unfoldable pub Solve-accepted : Type 0
 Solve-accepted =
@@ -164,6 +182,9 @@ pub record Compare-alike (r s : Solved) : Type 0 where
   pub less : lt (r .ratio) (s .ratio) ≡ ltb (r .p * s .q) (s .p * r .q)
   pub at-most : le (r .ratio) (s .ratio) ≡ leb (r .p * s .q) (s .p * r .q)
   pub equal : eq (r .ratio) (s .ratio) ≡ eqb (r .p * s .q) (s .p * r .q)
+  -- equal ratios give the same float, and one float comes of equal ratios only
+  pub one-float : r .p * s .q ≡ s .p * r .q → r .ratio ≡ s .ratio
+  pub one-ratio : r .ratio ≡ s .ratio → r .p * s .q ≡ s .p * r .q
 
 -- TWO RECORDS' FLOATS ARE IN THE ORDER OF THEIR RATIOS, of one list or of two: whatever two calls return that refuse nothing
 unfoldable pub Records-in-order : Type 0
