@@ -1,9 +1,9 @@
 -- From what read and solve say, one after the other, to the answer.
 --   answer-of         the answer, of what read and solve return
+--   found-front       the found group's bytes, read back from the front
 --   out-past          copy_out leaves the words past the pairs as they were
 --   room-out, length-out    what copy_out asks, and that it leaves as many words
 --   sheeted           the contract of sheet_file
---   answers           the contract of solve_file, from it
 -- Assumes nothing.
 use mathlib.Core.Path.{_≡_, refl, sym, ap, _∙_, subst}
 use mathlib.Core.Bool.{Bool, true, false, _||_, cond}
@@ -12,23 +12,25 @@ use Prim.Native.Nat.{ℕ, _+_, _*_, _≤_}
 use native.Mathlib.Omega.{arith}
 use borrow.Author.Tests.{le-ltb}
 use lib.ListN.{length, take, length-map}
-use lib.Seq.{length-take-le}
+use lib.Seq.{length-take-le, take-at}
 use Rattle.theory.specs.Lists.{Pairs, is-list}
+use Rattle.theory.specs.Groups.{size, inside, found-of}
+use Rattle.theory.specs.Splits.{core-order}
 use Rattle.theory.specs.Refusals.{cause, refusal}
 use Rattle.theory.specs.Words.{laid-pairs, put-at}
+use Rattle.theory.proofs.Best.{found-length}
 use Rattle.theory.proofs.Lists.{Listed, listed}
 use Rattle.theory.proofs.Words.{length-put, put-below, put-past, put-drop}
 use Rattle.lines.specs.Outcomes.{Outcome, refused, taken}
 use Rattle.pairfile.specs.File.{read-file}
 use Rattle.pairfile.specs.Answers.{reading-of, pairs-of, Same-past}
-use Rattle.pairfile.proofs.Accepts.{accepted}
 use Rattle.records.specs.declared.Pair.{Pair}
 use Rattle.records.specs.declared.Head.{Head}
 use Rattle.records.specs.Records.{as-pair, held-list, agrees, ends-of, weights-of, copied-ends, copied-out, Room-out}
 use Rattle.records.proofs.Copies.{length-ends-of, length-copied-out, copied-out-none, copied-out-pairs, agrees-room}
 use Rattle.kandurzo.specs.declared.Changed.{Changed}
 use Rattle.kandurzo.specs.declared.Solved.{Solved}
-use Rattle.kandurzo.specs.Buffers.{buffer, any-short, work-words}
+use Rattle.kandurzo.specs.Buffers.{buffer, any-short, in-front, work-words}
 use Rattle.kandurzo.specs.Gate.{gate-number}
 use Rattle.kandurzo.specs.Listing.{head-of}
 use Rattle.kandurzo.specs.Reading.{read-buffers, read-outcome, read-head, records-front, Read-call}
@@ -36,9 +38,8 @@ use Rattle.kandurzo.specs.Solving.{solve-buffers, solve-call-causes, declined, 
 use Rattle.kandurzo.proofs.Gates.{gate-open}
 use Rattle.kandurzo.proofs.Readings.{reads-file, read-held, read-agrees}
 use Rattle.kandurzo.proofs.Taken.{held-is-list}
-use Rattle.kandurzo.proofs.Sheets.{members-rest}
 use Rattle.answer.specs.declared.Answer.{Answer}
-use Rattle.answer.specs.Answers.{refusal-of, Room-enough, solved-of, Handed-over, Sheeted, Answers}
+use Rattle.answer.specs.Answers.{refusal-of, group-answer, answer-to, members-after, Answers, Room-enough, solved-of, Handed-over, Sheeted}
 
 abbrev pub answer-of : Changed → Solved → Answer
 answer-of file found = record {
@@ -50,6 +51,11 @@ answer-of file found = record {
   k = found .k;
   coresize = found .coresize;
 }
+
+-- the found group's bytes in front are read back
+pub found-front : (g : Pairs) → is-list g ≡ true → (members : List ℕ) → take (g .n) (in-front (found-of g) members) ≡ found-of g
+unfolding in-front
+found-front g held members = take-at (found-of g) _ _ (found-length g held)
 
 -- the words past the first m pairs are as they were
 out-past : (ps : List Pair) (ws : List ℕ) (m : ℕ) → Room-out ps ws m → 12288 ≤ length ws → Same-past m ws (copied-out ps ws m)
@@ -174,6 +180,31 @@ module _ (bytes : List ℕ) (ps : List Pair) (work : List ℕ) (list-long : leng
       unfolding reading-of
       number-none = number-as (taken g) e
 
+      -- the member bytes in front are the found group's, and solve's numbers are that group's
+      group-as : take (g .n) members′ ≡ found-of g
+      group-as = rw (handed .members-are) (found-front g (good g e) members)
+
+      p-as : found .p ≡ inside g (found-of g)
+      p-as = rw group-as at (handed .optimal .inside-count)
+
+      q-as : found .q ≡ size (found-of g)
+      q-as = rw group-as at (handed .optimal .modules)
+
+      k-as : found .k ≡ core-order g (found-of g)
+      k-as = rw (p-as, q-as) at (handed .order)
+
+      answer-some : answer-of file found ≡ group-answer g (found-of g)
+      unfolding group-answer
+      answer-some i = record {
+        number = number-none i;
+        n = n-as g e i;
+        m = m-as g e i;
+        p = p-as i;
+        q = q-as i;
+        k = k-as i;
+        coresize = (rw k-as at (handed .core-size)) i;
+      }
+
       -- solve's record is the answer's
       record-as : found ≡ solved-of (answer-of file found)
       unfolding solved-of
@@ -192,9 +223,6 @@ module _ (bytes : List ℕ) (ps : List Pair) (work : List ℕ) (list-long : leng
 
       over : Handed-over g members cores shares words (answer-of file found) members′ cores′ shares′ (copied-out ps′ words (h .m))
       over = record {
-        number = number-none;
-        modules = n-as g e;
-        pairs = m-as g e;
         handed = subst (λ (u : Solved). Handed g members cores shares u members′ cores′ shares′) record-as handed;
         pairs-are = pairs-as g e words out;
         words-rest = out-past ps′ words (h .m) out (room .words-long);
@@ -225,30 +253,17 @@ module _ (bytes : List ℕ) (ps : List Pair) (work : List ℕ) (list-long : leng
       unfolding head-of
       words-stay = ap (λ (u : Head). copied-out ps′ words (u .m)) (none-read k e) ∙ copied-out-none ps′ words
 
+    answered : Answers bytes members (answer-of file found) members′
+    unfolding answer-to members-after
+    answered = go (read-file 4096 bytes) refl
+      where
+        go : (o : Outcome Pairs) → read-file 4096 bytes ≡ o → Answers bytes members (answer-of file found) members′
+        go (refused k) e = record { answer-is = rw e (answer-none k e); members-are = rw e (declines k e .1) }
+        go (taken g) e = record { answer-is = rw e (answer-some g e); members-are = rw e (handed g e .members-are) }
+
     pub sheeted : Sheeted bytes members cores shares words (answer-of file found) members′ cores′ shares′ (copied-out ps′ words (h .m))
     sheeted = record {
+      answers = answered;
       taken = over;
-      refused = λ k e. let d = declines k e in (answer-none k e, d .1, d .2, d .3, words-stay k e);
+      refused = λ k e. let d = declines k e in (d .2, d .3, words-stay k e);
     }
-
--- the group alone
-pub answers : {bytes members cores shares words : List ℕ} {r : Answer} {members′ cores′ shares′ words′ : List ℕ} →
-    Sheeted bytes members cores shares words r members′ cores′ shares′ words′ → Answers bytes members r members′
-unfolding solved-of
-answers {bytes} {members} {members′ = members′} s = record {
-  taken = λ g e.
-      let o = s .taken g e in
-      let h = o .handed in
-      record {
-        number = o .number;
-        found = h .found;
-        rest = members-rest g (accepted 4096 bytes g e .list) members members′ (h .members-are);
-        modules-there = o .modules;
-        pairs-there = o .pairs;
-        inside-count = h .optimal .inside-count;
-        modules = h .optimal .modules;
-        order = h .order;
-        core-size = h .core-size;
-      };
-  refused = λ k e. let d = s .refused k e in (d .0, d .1);
-}

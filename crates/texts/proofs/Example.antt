@@ -1,22 +1,22 @@
 -- What `group` prints of the list *tail*.
 --   tail-printed    Tail-printed: the file names *tail*, its found group is the paper's, and the text is run
 -- Assumes nothing.
-use mathlib.Core.Path.{_≡_, refl, ap, _∙_}
+use mathlib.Core.Path.{_≡_, refl}
 use mathlib.Core.Bool.{Bool, true, false, cond}
 use mathlib.Core.List.{List, [], _∷_, _++_}
 use Prim.Native.Nat.{ℕ}
 use lib.ListN.{getD, drop}
 use Rattle.theory.specs.Basics.{table, mark}
 use Rattle.theory.specs.Lists.{pair, stands-before, is-list}
-use Rattle.theory.specs.Groups.{is-in, size, everyone, inside, Found}
+use Rattle.theory.specs.Groups.{is-in, size, everyone, inside, Found, found-of}
 use Rattle.theory.specs.Leaving.{joins, degree-of, degree}
 use Rattle.theory.specs.Cores.{stays, kept, rounds, core}
 use Rattle.theory.specs.Splits.{rounded-up}
-use Rattle.theory.specs.Promise.{Found-alone}
+use Rattle.theory.specs.Promise.{Found-alone, Found-outright}
 use Rattle.theory.specs.Refusals.{cause, refusal}
 use Rattle.theory.specs.Cases.{of-modules, tail, tail-found, row, starred, Meets, Each, Holds, Starred-cases}
 use Rattle.theory.proofs.Cases.{starred-cases}
-use Rattle.theory.proofs.Promises.{found-alone}
+use Rattle.theory.proofs.Promises.{found-alone, found-outright}
 use Rattle.pairs.specs.Held.{same-ends, is-held, insert-pair, smaller-first-pair}
 use Rattle.pairs.specs.Causes.{module-unknown, self-paired, pair-causes}
 use Rattle.lines.specs.Text.{text, between}
@@ -40,7 +40,7 @@ use Rattle.lines.specs.Lines.{is-place, first, second, with-numbers, after-numb
 use Rattle.lines.specs.Outcomes.{taken, _>>=_, _>>_, passed, judge, line-or, line-due}
 use Rattle.sheetfile.specs.Sheet.{head-form, member-form}
 use Rattle.sheetfile.specs.Writer.{member-lines}
-use Rattle.texts.specs.Texts.{group-text}
+use Rattle.texts.specs.Texts.{group-text, group-printed}
 use Rattle.texts.specs.Example.{tail-file, tail-text, Tail-printed}
 
 -- the file names *tail*
@@ -55,6 +55,11 @@ tail-named = refl
 tail-holds : (is-list tail ≡ true) × Found tail tail-found × (inside tail tail-found ≡ 6) × (size tail-found ≡ 4)
 unfolding Starred-cases Holds Each starred row Meets
 tail-holds = let r = starred-cases .1 .1 .1 .1 .1 .1 .0 in (r .is-held, r .met .0 .0, r .met .0 .1, r .met .0 .2)
+
+-- its found group is the paper's, since a list has only one
+tail-group : found-of tail ≡ tail-found
+unfolding Found-alone Found-outright
+tail-group = found-alone tail (found-of tail) tail-found (tail-holds .0) (found-outright tail (tail-holds .0)) (tail-holds .1)
 
 -- its core of order 2
 core-of-two : size (core tail 2) ≡ 4
@@ -94,7 +99,5 @@ unfolding group-text
 tail-lines = rw (tail-holds .2, tail-holds .3, order-of-two, core-of-two, filled-run head-form (6 ∷ 4 ∷ 2 ∷ 4 ∷ [])) lines-run
 
 pub tail-printed : Tail-printed
-unfolding Tail-printed Found-alone
-tail-printed printed d =
-    let p = d .taken tail tail-named in
-    p .is ∙ ap (group-text tail) (found-alone tail (p .members) tail-found (tail-holds .0) (p .found) (tail-holds .1)) ∙ tail-lines
+unfolding Tail-printed group-printed
+tail-printed = rw (tail-named, tail-group) tail-lines

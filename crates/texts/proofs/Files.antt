@@ -1,8 +1,8 @@
 -- What is printed of a pair file.
 --   prints                                       a right text that has been written
 --   group-first                                  Group-first: a sheet's text begins with the group's
---   refusal-due                                  a refused file
---   modules-few, answer-length, group-due        the group of a file that names a list
+--   refusal-printed, refusal-due                 a refused file
+--   modules-few, answer-length, group-lines      the group of a file that names a list
 --   pairs-few, lines-length, sheet-due           and its sheet
 -- Assumes nothing.
 use mathlib.Core.Path.{_≡_, refl, sym, ap, _∙_}
@@ -13,14 +13,14 @@ use native.Mathlib.Omega.{arith}
 use lib.ListN.{length, take}
 use lib.Seq.{length-take-le, take-at}
 use Rattle.theory.specs.Lists.{Pairs, is-list}
-use Rattle.theory.specs.Groups.{inside, size, Found}
+use Rattle.theory.specs.Groups.{inside, size, Found, found-of}
 use Rattle.theory.specs.Cores.{core-number, core-numbers}
-use Rattle.theory.specs.Promise.{Optimal, Split-there}
+use Rattle.theory.specs.Promise.{Optimal, Split-there, Found-outright}
 use Rattle.theory.specs.Words.{laid-pairs}
 use Rattle.theory.proofs.Lists.{Listed, listed}
 use Rattle.theory.proofs.Tables.{length-table}
 use Rattle.theory.proofs.Duality.{optimal}
-use Rattle.theory.proofs.Promises.{split-there}
+use Rattle.theory.proofs.Promises.{split-there, found-outright}
 use Rattle.lines.specs.Outcomes.{Outcome, refused, taken}
 use Rattle.pairfile.specs.File.{read-file}
 use Rattle.pairfile.proofs.Accepts.{accepted}
@@ -33,10 +33,10 @@ use Rattle.sheetfile.specs.Audit.{audit}
 use Rattle.sheetfile.proofs.BestSheets.{best-writable}
 use Rattle.sheetfile.proofs.ReadsBack.{accepts-back}
 use Rattle.answer.specs.declared.Answer.{Answer}
-use Rattle.answer.specs.Answers.{refusal-of, solved-of, Sheeted, Answers}
-use Rattle.answer.proofs.Answering.{answers}
-use Rattle.texts.specs.Texts.{refusal-text, group-text, certificate, Group-first}
-use Rattle.texts.specs.Contracts.{Prints, Of-file, Group-due, Sheet-due, answer-lines, sheet-lines}
+use Rattle.answer.specs.Answers.{refusal-of, group-answer, answer-to, members-after, Answers, solved-of, Sheeted}
+use Rattle.answer.proofs.Answering.{found-front}
+use Rattle.texts.specs.Texts.{refusal-text, group-text, group-printed, certificate, Group-first}
+use Rattle.texts.specs.Contracts.{Prints, Of-file, Sheet-due, answer-lines, sheet-lines}
 use Rattle.texts.proofs.Lengths.{group-length, sheet-length}
 
 pub prints : {Right : List ℕ → Type 0} {text out out′ : List ℕ} {r : ℕ} → Right text → Puts text out 0 out′ r → length text ≤ length out →
@@ -58,10 +58,13 @@ group-first g s xs = rw append-assoc
 
 -- ---- the numbers of a best sheet
 
--- a found group has shares with which it is best
-found-best : (g : Pairs) (s : List ℕ) → is-list g ≡ true → Found g s → (xs : List ℕ) × Optimal g s xs (inside g s) (size s)
-unfolding Split-there
-found-best g s l f = let t = split-there g s l f in (t .0, optimal g s (t .0) l (f .group) (t .1) (omega (arith, t .2)))
+-- the found group has shares with which it is best
+found-best : (g : Pairs) → is-list g ≡ true → (xs : List ℕ) × Optimal g (found-of g) xs (inside g (found-of g)) (size (found-of g))
+unfolding Split-there Found-outright
+found-best g l =
+    let f : Found g (found-of g) = found-outright g l in
+    let t = split-there g (found-of g) l f in
+    (t .0, optimal g (found-of g) (t .0) l (f .group) (t .1) (omega (arith, t .2)))
 
 certificate-writable : (file : List ℕ) (g : Pairs) (s xs : List ℕ) → read-file 4096 file ≡ taken g → Optimal g s xs (inside g s) (size s) →
     Writable g (certificate g s xs)
@@ -76,9 +79,16 @@ accepted-certificate file g s xs e o = accepts-back file g (certificate g s xs) 
 -- ---- any file
 
 module _ {file members : List ℕ} {r : Answer} {members′ : List ℕ} (a : Answers file members r members′) where
+  answer-as : (o : Outcome Pairs) → read-file 4096 file ≡ o → r ≡ answer-to o
+  answer-as o e = a .answer-is ∙ ap answer-to e
+
   refused-by : (k : ℕ) → read-file 4096 file ≡ refused k → r .number ≡ k
-  unfolding refusal-of
-  refused-by k e = ap (λ (b : Answer). b .number) (a .refused k e .0)
+  unfolding answer-to refusal-of
+  refused-by k e = ap (λ (b : Answer). b .number) (answer-as (refused k) e)
+
+  taken-by : (g : Pairs) → read-file 4096 file ≡ taken g → r ≡ group-answer g (found-of g)
+  unfolding answer-to
+  taken-by g e = answer-as (taken g) e
 
   named : r .number ≡ 0 → (g : Pairs) × (read-file 4096 file ≡ taken g)
   named z = go (read-file 4096 file) refl
@@ -87,33 +97,50 @@ module _ {file members : List ℕ} {r : Answer} {members′ : List ℕ} (a : Ans
       go (refused k) e = absurd (omega (arith, file-numbers 4096 file k e, refused-by k e, z))
       go (taken g) e = (g, e)
 
-  pub refusal-due : {Due : Pairs → List ℕ → Type 0} → (r .number ≡ 0 → ⊥) → Of-file file Due (refusal-text (r .number))
-  refusal-due n = record { taken = λ g e. absurd (n (a .taken g e .number)); refused = λ k e. ap refusal-text (refused-by k e) }
+  module _ (n : r .number ≡ 0 → ⊥) where
+    none-taken : (g : Pairs) → read-file 4096 file ≡ taken g → ⊥
+    unfolding group-answer
+    none-taken g e = n (ap (λ (b : Answer). b .number) (taken-by g e))
+
+    pub refusal-due : {Due : Pairs → List ℕ → List ℕ → Type 0} → Of-file file Due (refusal-text (r .number))
+    refusal-due = record { taken = λ g e. absurd (none-taken g e); refused = λ k e. ap refusal-text (refused-by k e) }
+
+    pub refusal-printed : refusal-text (r .number) ≡ group-printed (read-file 4096 file)
+    unfolding group-printed
+    refusal-printed = go (read-file 4096 file) refl
+      where
+        go : (o : Outcome Pairs) → read-file 4096 file ≡ o → refusal-text (r .number) ≡ group-printed (read-file 4096 file)
+        go (refused k) e = rw (refused-by k e, e)
+        go (taken g) e = absurd (none-taken g e)
 
   -- a file that names a list
 
   module _ (g : Pairs) (e : read-file 4096 file ≡ taken g) where
-    abbrev group : List ℕ
-    group = take (g .n) members′
-
     list : is-list g ≡ true
     list = accepted 4096 file g e .list
 
-    n-few : r .n ≤ 512
-    n-few = omega (arith, a .taken g e .modules-there, listed g list .few)
+    n-as : r .n ≡ g .n
+    unfolding group-answer
+    n-as = ap (λ (b : Answer). b .n) (taken-by g e)
 
-    lines-as : answer-lines r (take (r .n) members′) ≡ group-text g group
-    unfolding answer-lines group-text
-    lines-as =
-        let b = a .taken g e in
-        rw (b .modules-there, b .core-size, b .order, b .inside-count, b .modules)
+    n-few : r .n ≤ 512
+    n-few = omega (arith, n-as, listed g list .few)
+
+    -- the member bytes in front are the found group's
+    group-as : take (g .n) members′ ≡ found-of g
+    unfolding members-after
+    group-as = rw (a .members-are, e) (found-front g list members)
+
+    lines-as : answer-lines r (take (r .n) members′) ≡ group-text g (found-of g)
+    unfolding answer-lines group-text group-answer
+    lines-as = rw (n-as, group-as, taken-by g e)
 
     text-length : length (answer-lines r (take (r .n) members′)) ≤ 6184
     unfolding group-text certificate
     text-length =
-        let best = found-best g group list (a .taken g e .found) in
-        let w = certificate-writable file g group (best .0) e (best .1) in
-        rw lines-as (omega (arith, group-length g (certificate g group (best .0)) list w, listed g list .few))
+        let best = found-best g list in
+        let w = certificate-writable file g (found-of g) (best .0) e (best .1) in
+        rw lines-as (omega (arith, group-length g (certificate g (found-of g) (best .0)) list w, listed g list .few))
 
   module _ (z : r .number ≡ 0) where
     pub modules-few : r .n ≤ 512
@@ -125,11 +152,9 @@ module _ {file members : List ℕ} {r : Answer} {members′ : List ℕ} (a : Ans
     not-refused : (k : ℕ) → read-file 4096 file ≡ refused k → ⊥
     not-refused k e = omega (arith, file-numbers 4096 file k e, refused-by k e, z)
 
-    pub group-due : Of-file file Group-due (answer-lines r (take (r .n) members′))
-    group-due = record {
-      taken = λ g e. record { members = take (g .n) members′; found = a .taken g e .found; is = lines-as g e };
-      refused = λ k e. absurd (not-refused k e);
-    }
+    pub group-lines : answer-lines r (take (r .n) members′) ≡ group-printed (read-file 4096 file)
+    unfolding group-printed
+    group-lines = let g = named z in rw (g .1) (lines-as (g .0) (g .1))
 
 -- ---- its sheet
 
@@ -137,65 +162,60 @@ module _ {file members cores shares words : List ℕ} {r : Answer} {members′ c
     (s : Sheeted file members cores shares words r members′ cores′ shares′ words′)
     (shares-long : 4096 ≤ length shares′) (words-long : 12288 ≤ length words′) where
   module _ (g : Pairs) (e : read-file 4096 file ≡ taken g) where
-    abbrev members-of : List ℕ
-    members-of = take (g .n) members′
-
     abbrev shares-of : List ℕ
     shares-of = take (length (g .pairs)) shares′
 
     held : Listed g
     held = listed g (accepted 4096 file g e .list)
 
+    m-as : r .m ≡ length (g .pairs)
+    unfolding group-answer
+    m-as = ap (λ (b : Answer). b .m) (taken-by (s .answers) g e)
+
     m-few : r .m ≤ 4096
-    m-few = omega (arith, s .taken g e .pairs, held .short)
+    m-few = omega (arith, m-as, held .short)
 
     shares-count : length (take (r .m) shares′) ≡ r .m
     shares-count = length-take-le (r .m) shares′ (omega (arith, m-few))
 
     cores-as : take (r .n) cores′ ≡ core-numbers g
     unfolding in-front core-numbers
-    cores-as =
-        let h = s .taken g e in
-        rw (h .modules, h .handed .cores-are) (take-at (core-numbers g) _ _ (length-table (g .n) (core-number g)))
+    cores-as = rw (n-as (s .answers) g e, s .taken g e .handed .cores-are) (take-at (core-numbers g) _ _ (length-table (g .n) (core-number g)))
 
     pairs-as : laid-pairs (length (take (r .m) shares′)) words′ ≡ g .pairs
     pairs-as = ap (λ (m : ℕ). laid-pairs m words′) shares-count ∙ s .taken g e .pairs-are
 
     sheet-as :
-        sheet-lines r (take (r .n) members′) (take (r .n) cores′) words′ (take (r .m) shares′) ≡ sheet-file g (certificate g members-of shares-of)
+        sheet-lines r (take (r .n) members′) (take (r .n) cores′) words′ (take (r .m) shares′) ≡ sheet-file g (certificate g (found-of g) shares-of)
     unfolding sheet-lines Group-first
-    sheet-as = rw (lines-as (answers s) g e, cores-as, pairs-as, s .taken g e .pairs) (sym (group-first g members-of shares-of))
+    sheet-as = rw (lines-as (s .answers) g e, cores-as, pairs-as, m-as) (sym (group-first g (found-of g) shares-of))
 
-    own : Optimal g members-of shares-of (inside g members-of) (size members-of)
-    unfolding solved-of
-    own = let o = s .taken g e .handed .optimal in rw (o .inside-count, o .modules) at o
+    own : Optimal g (found-of g) shares-of (inside g (found-of g)) (size (found-of g))
+    unfolding solved-of group-answer
+    own = rw (group-as (s .answers) g e, taken-by (s .answers) g e) at (s .taken g e .handed .optimal)
 
-    written : Writable g (certificate g members-of shares-of)
-    written = certificate-writable file g members-of shares-of e own
+    written : Writable g (certificate g (found-of g) shares-of)
+    written = certificate-writable file g (found-of g) shares-of e own
 
-    due-of : Sheet-due file g (sheet-lines r (take (r .n) members′) (take (r .n) cores′) words′ (take (r .m) shares′))
-    unfolding solved-of Accepts-back
-    due-of =
-        let h = s .taken g e .handed in
-        record {
-          members = members-of;
-          shares = shares-of;
-          found = h .found;
-          optimal = own;
-          outside = rw (h .order, h .optimal .inside-count, h .optimal .modules) at (h .outside);
-          is = sheet-as;
-          accepted = rw sheet-as (accepted-certificate file g members-of shares-of e own);
-        }
+    due-of : Sheet-due file g (found-of g) (sheet-lines r (take (r .n) members′) (take (r .n) cores′) words′ (take (r .m) shares′))
+    unfolding solved-of group-answer
+    due-of = record {
+      shares = shares-of;
+      optimal = own;
+      outside = rw (taken-by (s .answers) g e) at (s .taken g e .handed .outside);
+      is = sheet-as;
+      accepted = rw sheet-as (accepted-certificate file g (found-of g) shares-of e own);
+    }
 
   module _ (z : r .number ≡ 0) where
     pub pairs-few : r .m ≤ 4096
-    pairs-few = let g = named (answers s) z in m-few (g .0) (g .1)
+    pairs-few = let g = named (s .answers) z in m-few (g .0) (g .1)
 
     pub lines-length : length (sheet-lines r (take (r .n) members′) (take (r .n) cores′) words′ (take (r .m) shares′)) ≤ 98344
     lines-length =
-        let g = named (answers s) z in
-        let best = certificate (g .0) (members-of (g .0) (g .1)) (shares-of (g .0) (g .1)) in
+        let g = named (s .answers) z in
+        let best = certificate (g .0) (found-of (g .0)) (shares-of (g .0) (g .1)) in
         rw (sheet-as (g .0) (g .1)) (sheet-length (g .0) best (accepted 4096 file (g .0) (g .1) .list) (written (g .0) (g .1)))
 
     pub sheet-due : Of-file file (Sheet-due file) (sheet-lines r (take (r .n) members′) (take (r .n) cores′) words′ (take (r .m) shares′))
-    sheet-due = record { taken = due-of; refused = λ k e. absurd (not-refused (answers s) z k e) }
+    sheet-due = record { taken = due-of; refused = λ k e. absurd (not-refused (s .answers) z k e) }

@@ -13,8 +13,8 @@ use Rattle.pairfile.proofs.Promises.{reads-first}
 use Rattle.sheetfile.specs.Audit.{audit}
 use Rattle.sheetfile.specs.Promise.{Audit-first}
 use Rattle.sheetfile.proofs.Prefix.{audit-first}
-use Rattle.texts.specs.Texts.{certificate, audit-text}
-use Rattle.texts.specs.Contracts.{Of-file, Group-due, Sheet-due, Read-of, Group-read, Sheet-read, Audit-read, Sheet-answered}
+use Rattle.texts.specs.Texts.{group-printed, certificate, audit-text}
+use Rattle.texts.specs.Contracts.{Of-file, Sheet-due, Read-of, Group-read, Sheet-read, Audit-read, Sheet-answered}
 
 module _ {buffer : List ℕ} {n : ℕ} (room : 65536 ≤ length buffer) where
   -- what was read is taken or refused as the whole file is
@@ -22,19 +22,13 @@ module _ {buffer : List ℕ} {n : ℕ} (room : 65536 ≤ length buffer) where
   unfolding Reads-first
   read-as {file = file} e = ap (read-file 4096) (e .front) ∙ reads-first 4096 (length buffer) file room
 
-  of-file : {Due Due′ : Pairs → List ℕ → Type 0} {file text : List ℕ} → Read-of buffer n file → ((g : Pairs) → Due g text → Due′ g text) →
-      Of-file (take n buffer) Due text → Of-file file Due′ text
-  of-file e due o = record { taken = λ g t. due g (o .taken g (read-as e ∙ t)); refused = λ k t. o .refused k (read-as e ∙ t) }
+  pub group-read : {text : List ℕ} → text ≡ group-printed (read-file 4096 (take n buffer)) → Group-read buffer n text
+  group-read is = record { due = λ file e. is ∙ ap group-printed (read-as e) }
 
-  pub group-read : {text : List ℕ} → Of-file (take n buffer) Group-due text → Group-read buffer n text
-  group-read o = record { due = λ file e. of-file e (λ g d. d) o }
-
-  sheet-same : {file text : List ℕ} → Read-of buffer n file → (g : Pairs) → Sheet-due (take n buffer) g text → Sheet-due file g text
+  sheet-same : {file s text : List ℕ} → Read-of buffer n file → (g : Pairs) → Sheet-due (take n buffer) g s text → Sheet-due file g s text
   unfolding audit
   sheet-same e g d = record {
-    members = d .members;
     shares = d .shares;
-    found = d .found;
     optimal = d .optimal;
     outside = d .outside;
     is = d .is;
@@ -42,7 +36,9 @@ module _ {buffer : List ℕ} {n : ℕ} (room : 65536 ≤ length buffer) where
   }
 
   pub sheet-read : {text : List ℕ} → Of-file (take n buffer) (Sheet-due (take n buffer)) text → Sheet-read buffer n text
-  sheet-read o = record { due = λ file e. of-file e (sheet-same e) o }
+  sheet-read o = record {
+    due = λ file e. record { taken = λ g t. sheet-same e g (o .taken g (read-as e ∙ t)); refused = λ k t. o .refused k (read-as e ∙ t) };
+  }
 
   pub audit-read : {buffer′ : List ℕ} {k : ℕ} {text : List ℕ} → 100000 ≤ length buffer′ →
       text ≡ audit-text (audit (take n buffer) (take k buffer′)) → Audit-read buffer n buffer′ k text
@@ -53,6 +49,4 @@ module _ {buffer : List ℕ} {n : ℕ} (room : 65536 ≤ length buffer) where
 
 pub sheet-answered : Sheet-answered
 unfolding Sheet-answered audit-text certificate
-sheet-answered buffer n out out′ r p file h g e =
-    let d = p .right .due file h .taken g e in
-    (d .members, d .found, rw (p .front, d .accepted))
+sheet-answered buffer n out out′ r p file h g e = rw (p .front, p .right .due file h .taken g e .accepted)

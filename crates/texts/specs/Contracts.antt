@@ -1,8 +1,7 @@
 -- What the functions promise that write the programs' texts into a lent buffer.
 --   Prints                     a right text stands in front of the buffer, and the rest is as it was
---   Of-file                    what is due of the list that a pair file names, or the refusal's text
---   Group-due                  what `group` prints of a list
---   Sheet-due                  what `sheet` prints of a list, and that `audit` accepts it
+--   Of-file                    what is due of the list that a pair file names and of its found group, or the refusal's text
+--   Sheet-due                  what `sheet` prints of them, and that `audit` accepts it
 --   Input                      a buffer with room for every byte that decides, and how many bytes were read into it
 --   Read-of                    these bytes are a file's, to its end or the buffer's
 --   Group-read, Sheet-read, Audit-read    what is right of whatever files were read
@@ -15,7 +14,7 @@ use mathlib.Core.List.{List, [], _∷_, _++_}
 use Prim.Native.Nat.{ℕ, _≤_}
 use lib.ListN.{length, take}
 use Rattle.theory.specs.Lists.{Pairs}
-use Rattle.theory.specs.Groups.{inside, size, Found}
+use Rattle.theory.specs.Groups.{inside, size, found-of}
 use Rattle.theory.specs.Splits.{core-order, outside-good}
 use Rattle.theory.specs.Promise.{Optimal}
 use Rattle.theory.specs.Words.{laid-pairs}
@@ -27,7 +26,7 @@ use Rattle.lines.specs.Lines.{filled}
 use Rattle.sheetfile.specs.Sheet.{head-form}
 use Rattle.sheetfile.specs.Writer.{member-lines, number-lines, share-lines, sheet-file}
 use Rattle.answer.specs.declared.Answer.{Answer}
-use Rattle.texts.specs.Texts.{refusal-text, group-text, certificate, accepted-form, audit-text}
+use Rattle.texts.specs.Texts.{refusal-text, group-printed, certificate, accepted-form, audit-text}
 
 -- the first r bytes of the buffer are a right text, and those behind it are as they were
 pub record Prints (Right : List ℕ → Type 0) (out out′ : List ℕ) (r : ℕ) : Type 0 where
@@ -39,29 +38,21 @@ pub record Prints (Right : List ℕ → Type 0) (out out′ : List ℕ) (r : ℕ
   pub within : r ≤ length out′
   pub counted : r ≡ length (take r out′)
 
--- of any bytes: what is due of the list that they name, or the refusal's text
-pub record Of-file (file : List ℕ) (Due : Pairs → List ℕ → Type 0) (text : List ℕ) : Type 0 where
-  pub taken : (g : Pairs) → read-file 4096 file ≡ taken g → Due g text
+-- of any bytes: what is due of the list that they name and of its found group, or the refusal's text
+pub record Of-file (file : List ℕ) (Due : Pairs → (s : List ℕ) → List ℕ → Type 0) (text : List ℕ) : Type 0 where
+  pub taken : (g : Pairs) → read-file 4096 file ≡ taken g → Due g (found-of g) text
   pub refused : (k : ℕ) → read-file 4096 file ≡ refused k → text ≡ refusal-text k
 
--- of a list: the text of its found group
-pub record Group-due (g : Pairs) (text : List ℕ) : Type 0 where
-  pub members : List ℕ
-  pub found : Found g members
-  pub is : text ≡ group-text g members
-
--- of a list: the sheet of its found group. Free are only the shares of pairs inside the core of order K
-pub record Sheet-due (file : List ℕ) (g : Pairs) (text : List ℕ) : Type 0 where
-  pub members : List ℕ
+-- of a list and its found group s: the group's sheet. Free are only the shares of pairs inside the core of order K
+pub record Sheet-due (file : List ℕ) (g : Pairs) (s : List ℕ) (text : List ℕ) : Type 0 where
   pub shares : List ℕ
-  pub found : Found g members
   -- group and shares are the best of all groups and of all splits
-  pub optimal : Optimal g members shares (inside g members) (size members)
+  pub optimal : Optimal g s shares (inside g s) (size s)
   -- a pair with an end outside the core of order K goes wholly to the end that left first
-  pub outside : outside-good g (core-order g members) (size members) (g .pairs) shares ≡ true
-  pub is : text ≡ sheet-file g (certificate g members shares)
+  pub outside : outside-good g (core-order g s) (size s) (g .pairs) shares ≡ true
+  pub is : text ≡ sheet-file g (certificate g s shares)
   -- beside the same pair file the text is accepted
-  pub accepted : audit file text ≡ taken (certificate g members shares)
+  pub accepted : audit file text ≡ taken (certificate g s shares)
 
 -- n bytes were read into a buffer that has room for the first `decide` bytes of a file
 abbrev pub Input : (decide : ℕ) (buffer : List ℕ) (n : ℕ) → Type 0
@@ -72,15 +63,15 @@ Input decide buffer n = (decide ≤ length buffer) × (n ≤ length buffer)
 pub record Read-of (buffer : List ℕ) (n : ℕ) (file : List ℕ) : Type 0 where
   pub front : take n buffer ≡ take (length buffer) file
 
--- WHATEVER PAIR FILE WAS READ, the text of `group` is the one due of the whole file,
+-- WHATEVER PAIR FILE WAS READ, the text of `group` is that of the whole file,
 pub record Group-read (buffer : List ℕ) (n : ℕ) (text : List ℕ) : Type 0 where
-  pub due : (file : List ℕ) → Read-of buffer n file → Of-file file Group-due text
+  pub due : (file : List ℕ) → Read-of buffer n file → text ≡ group-printed (read-file 4096 file)
 
--- so is that of `sheet`,
+-- the text of `sheet` is one that is due of it,
 pub record Sheet-read (buffer : List ℕ) (n : ℕ) (text : List ℕ) : Type 0 where
   pub due : (file : List ℕ) → Read-of buffer n file → Of-file file (Sheet-due file) text
 
--- and that of `audit`, of both files
+-- and the text of `audit` is that of both files
 pub record Audit-read (buffer : List ℕ) (n : ℕ) (buffer′ : List ℕ) (k : ℕ) (text : List ℕ) : Type 0 where
   pub due : (file sheet : List ℕ) → Read-of buffer n file → Read-of buffer′ k sheet → text ≡ audit-text (audit file sheet)
 
@@ -89,7 +80,7 @@ unfoldable pub Sheet-answered : Type 0
 Sheet-answered =
     (buffer : List ℕ) (n : ℕ) (out out′ : List ℕ) (r : ℕ) → Prints (Sheet-read buffer n) out out′ r →
     (file : List ℕ) → Read-of buffer n file → (g : Pairs) → read-file 4096 file ≡ taken g →
-    (s : List ℕ) × Found g s × (audit-text (audit file (take r out′)) ≡ filled accepted-form (inside g s ∷ size s ∷ []))
+    audit-text (audit file (take r out′)) ≡ filled accepted-form (inside g (found-of g) ∷ size (found-of g) ∷ [])
 
 -- the lines of an answer and of member bytes
 unfoldable pub answer-lines : Answer → (members : List ℕ) → List ℕ

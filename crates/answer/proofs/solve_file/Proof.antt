@@ -1,11 +1,10 @@
--- `solve_file` meets its contract: what sheet_file says, of the group alone. Assumes nothing.
+-- `solve_file` meets its contract: what sheet_file says of the answer and the member bytes. Assumes nothing.
 use borrow.Author.Needs.{needs}
 use Rattle.answer.proofs.solve_file.Statement.{statement}
 use Rattle.answer.proofs.solve_file.Tie as tie
-use Rattle.answer.proofs.Answering.{answers}
 
 returns : tie.Need-returns
-returns c = answers (c .before .before .before .before .before .sheet-file .ensures)
+returns c = c .before .before .before .before .before .sheet-file .ensures .answers
 
 pub solve-file-spec : {M : Type 1} → statement M
 solve-file-spec =
