@@ -1,5 +1,5 @@
 // Reads a pair file on standard input, as `group` does, and prints the found group's certificate: what `group` prints, then a line `number=C` for
-// each module's core number, and a line `share=A,B,U` for each pair in list order: of the pair's Q units the smaller module A bears U.
+// each module's core number, and a line `share=A,B,U` for each pair in list order: of the pair's Q units the smaller module A receives U.
 // A refused file has the first line only. The program `audit` answers whether a sheet is the best there is; what is printed here it accepts
 // (texts, sheet_text).
 use libc::STDIN_FILENO;

@@ -36,7 +36,7 @@ use Rattle.answer.specs.declared.Answer.{Answer}
 use Rattle.answer.specs.Answers.{refusal-of, group-answer, answer-to, members-after, Answers, solved-of, Sheeted}
 use Rattle.answer.proofs.Answering.{found-front}
 use Rattle.texts.specs.Texts.{refusal-text, group-text, group-printed, certificate, Group-first}
-use Rattle.texts.specs.Contracts.{Prints, Of-file, Sheet-due, answer-lines, sheet-lines}
+use Rattle.texts.specs.Contracts.{Prints, Sheet-due, Sheet-printed, answer-lines, sheet-lines}
 use Rattle.texts.proofs.Lengths.{group-length, sheet-length}
 
 pub prints : {Right : List ℕ → Type 0} {text out out′ : List ℕ} {r : ℕ} → Right text → Puts text out 0 out′ r → length text ≤ length out →
@@ -102,7 +102,7 @@ module _ {file members : List ℕ} {r : Answer} {members′ : List ℕ} (a : Ans
     unfolding group-answer
     none-taken g e = n (ap (λ (b : Answer). b .number) (taken-by g e))
 
-    pub refusal-due : {Due : Pairs → List ℕ → List ℕ → Type 0} → Of-file file Due (refusal-text (r .number))
+    pub refusal-due : Sheet-printed file (refusal-text (r .number))
     refusal-due = record { taken = λ g e. absurd (none-taken g e); refused = λ k e. ap refusal-text (refused-by k e) }
 
     pub refusal-printed : refusal-text (r .number) ≡ group-printed (read-file 4096 file)
@@ -217,5 +217,5 @@ module _ {file members cores shares words : List ℕ} {r : Answer} {members′ c
         let best = certificate (g .0) (found-of (g .0)) (shares-of (g .0) (g .1)) in
         rw (sheet-as (g .0) (g .1)) (sheet-length (g .0) best (accepted 4096 file (g .0) (g .1) .list) (written (g .0) (g .1)))
 
-    pub sheet-due : Of-file file (Sheet-due file) (sheet-lines r (take (r .n) members′) (take (r .n) cores′) words′ (take (r .m) shares′))
+    pub sheet-due : Sheet-printed file (sheet-lines r (take (r .n) members′) (take (r .n) cores′) words′ (take (r .m) shares′))
     sheet-due = record { taken = due-of; refused = λ k e. absurd (not-refused (s .answers) z k e) }

@@ -14,7 +14,7 @@ use Rattle.sheetfile.specs.Audit.{audit}
 use Rattle.sheetfile.specs.Promise.{Audit-first}
 use Rattle.sheetfile.proofs.Prefix.{audit-first}
 use Rattle.texts.specs.Texts.{group-printed, certificate, audit-text}
-use Rattle.texts.specs.Contracts.{Of-file, Sheet-due, Read-of, Group-read, Sheet-read, Audit-read, Sheet-answered}
+use Rattle.texts.specs.Contracts.{Sheet-due, Sheet-printed, Read-of, Group-read, Sheet-read, Audit-read, Sheet-answered}
 
 module _ {buffer : List ℕ} {n : ℕ} (room : 65536 ≤ length buffer) where
   -- what was read is taken or refused as the whole file is
@@ -35,7 +35,7 @@ module _ {buffer : List ℕ} {n : ℕ} (room : 65536 ≤ length buffer) where
     accepted = rw (← read-as e) (d .accepted);
   }
 
-  pub sheet-read : {text : List ℕ} → Of-file (take n buffer) (Sheet-due (take n buffer)) text → Sheet-read buffer n text
+  pub sheet-read : {text : List ℕ} → Sheet-printed (take n buffer) text → Sheet-read buffer n text
   sheet-read o = record {
     due = λ file e. record { taken = λ g t. sheet-same e g (o .taken g (read-as e ∙ t)); refused = λ k t. o .refused k (read-as e ∙ t) };
   }

@@ -1,7 +1,6 @@
 -- What the functions promise that write the programs' texts into a lent buffer.
 --   Prints                     a right text stands in front of the buffer, and the rest is as it was
---   Of-file                    what is due of the list that a pair file names and of its found group, or the refusal's text
---   Sheet-due                  what `sheet` prints of them, and that `audit` accepts it
+--   Sheet-due, Sheet-printed   a sheet of a list that is right, and that `audit` accepts it; what `sheet` prints of a file
 --   Input                      a buffer with room for every byte that decides, and how many bytes were read into it
 --   Read-of                    these bytes are a file's, to its end or the buffer's
 --   Group-read, Sheet-read, Audit-read    what is right of whatever files were read
@@ -38,11 +37,6 @@ pub record Prints (Right : List ℕ → Type 0) (out out′ : List ℕ) (r : ℕ
   pub within : r ≤ length out′
   pub counted : r ≡ length (take r out′)
 
--- of any bytes: what is due of the list that they name and of its found group, or the refusal's text
-pub record Of-file (file : List ℕ) (Due : Pairs → (s : List ℕ) → List ℕ → Type 0) (text : List ℕ) : Type 0 where
-  pub taken : (g : Pairs) → read-file 4096 file ≡ taken g → Due g (found-of g) text
-  pub refused : (k : ℕ) → read-file 4096 file ≡ refused k → text ≡ refusal-text k
-
 -- of a list and its found group s: the group's sheet. Free are only the shares of pairs inside the core of order K
 pub record Sheet-due (file : List ℕ) (g : Pairs) (s : List ℕ) (text : List ℕ) : Type 0 where
   pub shares : List ℕ
@@ -53,6 +47,11 @@ pub record Sheet-due (file : List ℕ) (g : Pairs) (s : List ℕ) (text : List �
   pub is : text ≡ sheet-file g (certificate g s shares)
   -- beside the same pair file the text is accepted
   pub accepted : audit file text ≡ taken (certificate g s shares)
+
+-- WHAT `sheet` PRINTS OF A FILE: a sheet of the list that it names and of its found group, or the refusal's text
+pub record Sheet-printed (file text : List ℕ) : Type 0 where
+  pub taken : (g : Pairs) → read-file 4096 file ≡ taken g → Sheet-due file g (found-of g) text
+  pub refused : (k : ℕ) → read-file 4096 file ≡ refused k → text ≡ refusal-text k
 
 -- n bytes were read into a buffer that has room for the first `decide` bytes of a file
 abbrev pub Input : (decide : ℕ) (buffer : List ℕ) (n : ℕ) → Type 0
@@ -69,7 +68,7 @@ pub record Group-read (buffer : List ℕ) (n : ℕ) (text : List ℕ) : Type 0 w
 
 -- the text of `sheet` is one that is due of it,
 pub record Sheet-read (buffer : List ℕ) (n : ℕ) (text : List ℕ) : Type 0 where
-  pub due : (file : List ℕ) → Read-of buffer n file → Of-file file (Sheet-due file) text
+  pub due : (file : List ℕ) → Read-of buffer n file → Sheet-printed file text
 
 -- and the text of `audit` is that of both files
 pub record Audit-read (buffer : List ℕ) (n : ℕ) (buffer′ : List ℕ) (k : ℕ) (text : List ℕ) : Type 0 where
