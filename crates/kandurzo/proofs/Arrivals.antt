@@ -1,4 +1,4 @@
--- The order in which pairs arrive leaves no trace, and refuses none: the theorems of specs/Keeping.antt on adds in a row.
+-- The order in which pairs arrive leaves no trace, and none is refused: the theorems of specs/Keeping.antt on adds in a row.
 --   Reached                        head and list hold, beside what is held already, each pair of some arrivals once
 --   adds-reach, reached-adds       adds in a row leave such a head and list; and adds in any order lead to these
 --   adds-only                      adds in a row leave one head and one list
@@ -6,9 +6,9 @@
 --   every-list-added               different pairs added in a row are taken
 -- Assumes nothing.
 use mathlib.Core.Path.{_≡_, refl, sym, ap, _∙_}
-use mathlib.Core.Bool.{true, false}
+use mathlib.Core.Bool.{true}
 use mathlib.Core.List.{List, [], _∷_, _++_}
-use Prim.Native.Nat.{ℕ, _+_, _≤_, _<_}
+use Prim.Native.Nat.{ℕ, _+_, _≤_}
 use native.Mathlib.Omega.{arith}
 use lib.ListN.{length, drop, length-append, length-drop, take-append-drop}
 use lib.Seq.{drop-at}
@@ -86,7 +86,7 @@ reached-from n l d t g =
     record { agreed = g .agreed; modules = g .modules ∙ n; named = λ p. t p ∙ g .named p; long = g .long ∙ l; past = g .past ∙ d }
 
 module _ (h : Head) (ps : List Pair) (cs : List Lists.Pair) (i : Head) (qs : List Pair) (agreed : agrees h ps ≡ true) (goal : Reached h ps cs i qs) where
-  -- and so is what is held in the end
+  -- what is held in the end, as the laws of pair files ask it
   goal-kept : Kept (h .n) (held-list i qs .pairs)
   unfolding held-list
   goal-kept = rw (goal .modules) at (held-kept i qs (goal .agreed))
@@ -187,7 +187,7 @@ reached-adds (c ∷ cs) h i ps qs agreed g =
     next-adds h ps c cs i qs taken
     (reached-adds cs (next-head h ps c) i (next-list h ps c) qs (added-agrees h ps (c .a) (c .b) taken) (reached-after h ps c cs i qs taken agreed g))
 
--- pairs that are taken in one order are taken in every order
+-- pairs that are taken in one order are taken in every order: the first add that is taken says that head and list agree, and where none comes none does
 pub any-order-taken : Any-order-taken
 unfolding Any-order-taken Same-arrivals times-named mark
 any-order-taken h ps [] [] i qs same x = x
@@ -203,21 +203,20 @@ arrival-traceless h ps cs ds i j qs rs same x y = adds-only ds h i j ps qs rs (a
 
 -- ---- every list
 
-module _ (n : ℕ) (arrivals : List Lists.Pair) (ps : List Pair) (fits : length arrivals ≤ length ps) (t : Gathered n arrivals) where
-  -- the list of the pairs that arrive
+module _ (n : ℕ) (arrivals : List Lists.Pair) (ps : List Pair) (t : Gathered n arrivals) where
+  -- the records of the pairs that arrive, in front of those that are not needed
   abbrev goal-list : List Pair
   goal-list = as-records (t .pairs) ++ drop (length arrivals) ps
 
-  goal-held : held-list (head-of n (length arrivals)) goal-list ≡ record { n = n; pairs = t .pairs }
-  goal-held = held-front n (length arrivals) (t .pairs) (drop (length arrivals) ps) (t .size) (t .kept .once)
-
+  -- hold exactly these pairs
   goal-named : Names arrivals (held-list (head-of n (length arrivals)) goal-list .pairs)
-  goal-named = rw goal-held (t .named)
+  goal-named = rw (held-front n (length arrivals) (t .pairs) (drop (length arrivals) ps) (t .size) (t .kept .once)) (t .named)
 
-  -- is reached from a head without pairs
-  goal-reached : 1 ≤ n → n ≤ 512 → length arrivals ≤ 4096 → Reached (head-of n 0) ps arrivals (head-of n (length arrivals)) goal-list
+  -- and are reached from a head without pairs
+  goal-reached : 1 ≤ n → n ≤ 512 → length arrivals ≤ 4096 → length arrivals ≤ length ps →
+      Reached (head-of n 0) ps arrivals (head-of n (length arrivals)) goal-list
   unfolding head-of held-list as-pairs is-held mark Names
-  goal-reached low high short =
+  goal-reached low high short fits =
       let m : ℕ = length arrivals in
       let long = length-as-records (t .pairs) ∙ t .size in
       record {
@@ -234,9 +233,7 @@ unfolding Every-list-added
 every-list-added n arrivals ps low high short fits two once =
     let t = gathered n arrivals two once in
     let none : started n .number ≡ 0 = unfold started in (modules-fit n low high) in
-    let after = goal-list n arrivals ps fits t in (
-      after,
-      reached-adds arrivals (started n .head) (head-of n (length arrivals)) ps after (start-agrees n ps none)
-          (rw (start-head n none) (goal-reached n arrivals ps fits t low high short)),
-      goal-named n arrivals ps fits t,
-    )
+    let after = goal-list n arrivals ps t in
+    let reached : Reached (started n .head) ps arrivals (head-of n (length arrivals)) after =
+    rw (start-head n none) (goal-reached n arrivals ps t low high short fits) in
+    (after, reached-adds arrivals _ _ ps after (start-agrees n ps none) reached, goal-named n arrivals ps t)

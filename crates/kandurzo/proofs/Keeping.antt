@@ -2,21 +2,23 @@
 --   held-once                          no pair is held twice
 --   Passed, add-passed, remove-passed  what a call that is taken answers and leaves, from what it says
 --   add-says                           and back, for add
+--   either-way-round                   2,5 is the same pair as 5,2
 --   add-exactly, remove-exactly        which adds and which removes are taken
 --   pair-added, add-holds              what is held after an add that is taken, and that nothing else changed
 --   pair-removed, remove-drops         and after a remove
---   start-head, start-agrees, add-agrees, remove-agrees    head and list agree after every taken call
+--   start-head                         a head without pairs
+--   start-agrees, add-agrees, remove-agrees    head and list agree after every taken call
 --   same-pairs-same-records, add-undone    lists that hold the same pairs; a pair added and removed
 -- Assumes nothing.
 use mathlib.Core.Path.{_≡_, refl, sym, ap, _∙_}
-use mathlib.Core.Bool.{true, false, or-comm}
+use mathlib.Core.Bool.{true, false}
 use mathlib.Core.List.{List, [], _∷_}
 use Prim.Native.Nat.{ℕ, _+_, _-_, _<_, min, max}
 use native.Mathlib.Omega.{arith}
-use lib.Dec.{leb, ltb, eqb}
+use lib.Dec.{ltb}
 use lib.ListN.{length, getD, take, drop, length-append, length-drop, List·getD-map}
-use lib.Seq.{take-at, drop-at, drop-append-add, getD-at, getD-take}
-use borrow.Author.Tests.{ltb-true, ltb-false, eqb-true, eqb-false, eq-eqb, ne-eqb}
+use lib.Seq.{take-at, drop-at, getD-take}
+use borrow.Author.Tests.{ltb-true, ltb-false}
 use Rattle.theory.specs.Basics.{all}
 use Rattle.theory.specs.Lists as Lists
 use Rattle.theory.specs.Lists.{Pairs, pair, smaller-first, rising, is-list}
@@ -24,8 +26,9 @@ use Rattle.theory.specs.Refusals.{refusal, if-taken}
 use Rattle.theory.proofs.Tests.{tests, no, by-test}
 use Rattle.theory.proofs.Lists.{listed, is-listed}
 use Rattle.pairs.specs.Held.{same-ends, is-held, insert-pair, remove-pair, with-pair, without-pair, smaller-first-pair}
-use Rattle.pairs.specs.Causes.{module-unknown, self-paired, pair-causes, add-causes, remove-causes}
+use Rattle.pairs.specs.Causes.{add-causes, remove-causes}
 use Rattle.pairs.proofs.Order.{before-not-same, same-refl, same-sym}
+use Rattle.pairs.proofs.Causes.{pair-round, causes-round}
 use Rattle.pairs.proofs.General.{all-at}
 use Rattle.pairs.proofs.Rising.{rising-at}
 use Rattle.pairs.proofs.Changes.{insert-held, remove-held, insert-remove}
@@ -40,7 +43,7 @@ use Rattle.kandurzo.specs.Listing.{head-of, changed-to, started, as-reco
 use Rattle.kandurzo.specs.Keeping.{pair-at, Held-once, Either-way-round, Add-exactly, Remove-exactly, Pair-added, Add-holds, Pair-removed, Remove-drops}
 use Rattle.kandurzo.specs.Keeping.{Same-pairs-same-records, Add-undone}
 use Rattle.kandurzo.proofs.Taken.{length-as-records, held-few, held-is-list, length-held, held-ones, held-records, agrees-front}
-use Rattle.kandurzo.proofs.Taken.{taken-addable, addable-taken, taken-removable, removable-taken, added-length, held-added, added-agrees}
+use Rattle.kandurzo.proofs.Taken.{taken-addable, addable-taken, held-removable, taken-removable, removable-taken, added-length, held-added, added-agrees}
 use Rattle.kandurzo.proofs.Taken.{removed-one, held-removed, removed-agrees}
 
 -- ---- no pair is held twice
@@ -131,54 +134,25 @@ add-says h ps a b e = record { number = sym e; head = sym (if-taken-new _ _ _ e)
 
 -- ---- either way round
 
-pair-round : (a b : ℕ) → smaller-first-pair a b ≡ smaller-first-pair b a
-unfolding smaller-first-pair
-pair-round a b =
-    let low : min a b ≡ min b a = omega arith in
-    let high : max a b ≡ max b a = omega arith in
-    rw (low, high)
-
-eqb-round : (a b : ℕ) → eqb a b ≡ eqb b a
-eqb-round a b =
-    by-test (eqb a b) (λ t. t ∙ sym (eq-eqb b a (sym (eqb-true a b t)))) (λ t. t ∙ sym (ne-eqb b a (λ e. eqb-false a b t (sym e))))
-
-causes-round : (n a b : ℕ) → pair-causes n a b ≡ pair-causes n b a
-unfolding pair-causes module-unknown self-paired
-causes-round n a b = rw (or-comm (leb n a) (leb n b), eqb-round a b)
-
-module _ (h : Head) (ps : List Pair) (a b : ℕ) where
-  add-number-round : add-number h ps a b ≡ add-number h ps b a
-  unfolding add-number add-causes
-  add-number-round = rw (causes-round (held-list h ps .n) a b, pair-round a b)
-
-  added-round : added h ps a b ≡ added h ps b a
+module _ (h : Head) (ps : List Pair) (a b : ℕ) (r : Changed) (ps′ : List Pair) where
+  -- what add says of a and b it says of b and a
+  add-round : Add-says h ps a b r ps′ → Add-says h ps b a r ps′
   unfolding added
-  added-round = rw (pair-round a b)
+  add-round says =
+      let k : add-number h ps a b ≡ add-number h ps b a = unfold add-number add-causes in (rw (causes-round a b (held-list h ps .n), pair-round a b)) in
+      record { number = says .number ∙ k; head = rw k at (says .head); list = rw (k, pair-round a b) at (says .list) }
 
-  remove-number-round : remove-number h ps a b ≡ remove-number h ps b a
-  unfolding remove-number remove-causes
-  remove-number-round = rw (causes-round (held-list h ps .n) a b, pair-round a b)
-
-  removed-round : removed h ps a b ≡ removed h ps b a
+  -- and so does remove
+  remove-round : Remove-says h ps a b r ps′ → Remove-says h ps b a r ps′
   unfolding removed
-  removed-round = rw (pair-round a b)
+  remove-round says =
+      let k : remove-number h ps a b ≡ remove-number h ps b a =
+      unfold remove-number remove-causes in (rw (causes-round a b (held-list h ps .n), pair-round a b)) in
+      record { number = says .number ∙ k; head = rw k at (says .head); list = rw (k, pair-round a b) at (says .list) }
 
 -- 2,5 is the same pair as 5,2: add and remove answer and leave the same, whichever module is named first
 pub either-way-round : Either-way-round
-either-way-round = record {
-  add =
-      λ h ps a b r ps′ s. record {
-        number = s .number ∙ add-number-round h ps a b;
-        head = rw (add-number-round h ps a b) at (s .head);
-        list = rw (add-number-round h ps a b, added-round h ps a b) at (s .list);
-      };
-  remove =
-      λ h ps a b r ps′ s. record {
-        number = s .number ∙ remove-number-round h ps a b;
-        head = rw (remove-number-round h ps a b) at (s .head);
-        list = rw (remove-number-round h ps a b, removed-round h ps a b) at (s .list);
-      };
-}
+either-way-round = record { add = add-round; remove = remove-round }
 
 -- ---- which calls are taken
 
@@ -276,17 +250,10 @@ module _ (h : Head) (ps : List Pair) (a b : ℕ) (taken : add-number h ps a b �
 
   -- removing it is taken
   undo-taken : remove-number more (added h ps a b) a b ≡ 0
-  unfolding head-of
   undo-taken =
       let new : Lists.Pair = smaller-first-pair a b in
-      let x = taken-addable h ps a b taken in
-      removable-taken more (added h ps a b) a b (record {
-        agreed = added-agrees h ps a b taken;
-        first = x .first;
-        second = x .second;
-        different = x .different;
-        held = pair-added h ps a b taken .held new ∙ rw (same-refl new);
-      })
+      let own : is-held new (held-list more (added h ps a b) .pairs) ≡ true = pair-added h ps a b taken .held new ∙ rw (same-refl new) in
+      removable-taken more (added h ps a b) a b (held-removable more (added h ps a b) a b (added-agrees h ps a b taken) own)
 
   -- and leaves the held records as they were
   undo-records : take (h .m) (removed more (added h ps a b) a b) ≡ take (h .m) ps

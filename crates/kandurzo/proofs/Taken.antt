@@ -5,7 +5,7 @@
 --   held-kept                           they are as the laws of pair files ask it
 --   held-front, agrees-front            records of pairs in front of others
 --   taken-addable, addable-taken        an add is taken where its pair is new and a record is free, and only there
---   taken-removable, removable-taken    a remove where its pair is held
+--   held-removable, taken-removable, removable-taken    a remove where its pair is held
 --   added-length, removed-one           a pair more and a pair less
 --   held-added, held-removed            the held pairs after a taken call
 --   added-agrees, removed-agrees        head and list agree afterwards
@@ -143,7 +143,7 @@ module _ (h : Head) (ps : List Pair) (a b : ℕ) where
       (list-not-full h (length ps) (x .few) (x .room))
 
   -- a pair that is held can be removed: its modules are two of the list
-  held-removable : agrees h ps ≡ true → is-held (smaller-first-pair a b) (held-list h ps .pairs) ≡ true → Removable h ps a b
+  pub held-removable : agrees h ps ≡ true → is-held (smaller-first-pair a b) (held-list h ps .pairs) ≡ true → Removable h ps a b
   held-removable agreed held =
       let ends = ends-held (h .n) a b (held-list h ps .pairs) (held-kept h ps agreed) held in
       record { agreed = agreed; first = ends .0; second = ends .1; different = ends .2; held = held }
