@@ -113,16 +113,18 @@ module _ {g : Pairs} {h : Head} {ps : List Pair} (lent : Lent g h ps) where
   lent-passes bs rest long = gate-then (agrees h ps) (any-short bs) rest (rw (lent-agrees, all-long bs long) refl)
 
 -- head and list that agree hold a list that is lent
+held-head : (h : Head) (ps : List Pair) → agrees h ps ≡ true → h ≡ head-of (held-list h ps .n) (length (held-list h ps .pairs))
+unfolding head-of held-list
+held-head h ps agreed i = record { n = h .n; m = sym (length-held h ps agreed) i }
+
 held-lent : (h : Head) (ps : List Pair) → agrees h ps ≡ true → Lent (held-list h ps) h ps
-unfolding ones counts-once head-of
-held-lent h ps agreed =
-    let m : length (held-list h ps .pairs) ≡ h .m = length-held h ps agreed in
-    record {
-      list = held-is-list h ps agreed;
-      once = held-ones h ps agreed;
-      head = unfold held-list in cc (sym m);
-      records = rw m (sym (held-records h ps agreed));
-    }
+unfolding ones counts-once
+held-lent h ps agreed = record {
+  list = held-is-list h ps agreed;
+  once = held-ones h ps agreed;
+  head = held-head h ps agreed;
+  records = rw (length-held h ps agreed) (sym (held-records h ps agreed));
+}
 
 pub lent-held : Lent-held
 unfolding Lent-held
@@ -271,13 +273,14 @@ check-exact g h ps members shares work v work′ lent a d w call = (
 )
 
 -- the share of a pair with an end outside the core
-outside-at : (g : Pairs) (k q : ℕ) (ps : List Lists.Pair) (xs : List ℕ) (j : ℕ) → outside-good g k q ps xs ≡ true → j < length ps →
-    pair-in-core g k (getD ps j (pair 0 0)) ≡ false → getD xs j 0 ≡ wholly-first g q (getD ps j (pair 0 0))
+outside-at : (u : Pairs) (k q : ℕ) (ps : List Lists.Pair) (xs : List ℕ) (j : ℕ) → outside-good u k q ps xs ≡ true → j < length ps →
+    pair-in-core u k (getD ps j (pair 0 0)) ≡ false → getD xs j 0 ≡ wholly-first u q (getD ps j (pair 0 0))
 unfolding outside-good
-outside-at g k q [] xs j e l n = absurd (omega arith)
-outside-at g k q (p ∷ ps) [] j e l n = no e
-outside-at g k q (p ∷ ps) (x ∷ xs) zero e l n = eqb-true _ _ ((simp tests at (rw n at e)) .0)
-outside-at g k q (p ∷ ps) (x ∷ xs) (suc j) e l n = outside-at g k q ps xs j (and-iff (pair-in-core g k p || eqb x (wholly-first g q p)) _ .0 e .1) (omega arith) n
+outside-at u k q [] xs j e l n = absurd (omega arith)
+outside-at u k q (p ∷ ps) [] j e l n = no e
+outside-at u k q (p ∷ ps) (x ∷ xs) zero e l n = (simp tests at (rw n at e)) .0
+outside-at u k q (p ∷ ps) (x ∷ xs) (suc j) e l n =
+    outside-at u k q ps xs j (and-iff (pair-in-core u k p || eqb x (wholly-first u q p)) (outside-good u k q ps xs) .0 e .1) (omega arith) n
 
 -- two answers of solve to one input
 module _ (h : Head) (ps : List Pair) (members cores shares work : List ℕ) {r s : Solved}
@@ -325,7 +328,7 @@ module _ (h : Head) (ps : List Pair) (members cores shares work : List ℕ) {r s
         a .0 ∙ ap declined same-number ∙ sym (b .0),
         a .1 ∙ sym (b .1),
         a .2 ∙ sym (b .2),
-        record { outside = λ j l o. ap (λ (xs : List ℕ). getD xs j 0) d; past = ap (drop _) d },
+        record { outside = λ j l o. ap (λ (xs : List ℕ). getD xs j 0) d; past = ap (drop (length (held-list h ps .pairs))) d },
         same-work,
       )
 

@@ -2,10 +2,13 @@
 --   held-once                          no pair is held twice
 --   Passed, add-passed, remove-passed  what a call that is taken answers and leaves, from what it says
 --   add-says                           and back, for add
---   pair-added, add-holds              what add accepts is held afterwards, and nothing else changed
---   pair-removed, remove-drops         what remove accepts is no longer held, and nothing else changed
+--   either-way-round                   2,5 is the same pair as 5,2
+--   add-exactly, remove-exactly        which adds and which removes are taken
+--   pair-added, add-holds              what is held after an add that is taken, and that nothing else changed
+--   pair-removed, remove-drops         and after a remove
+--   start-head                         a head without pairs
 --   start-agrees, add-agrees, remove-agrees    head and list agree after every taken call
---   records-alone, add-undone          lists that hold the same pairs; a pair added and removed
+--   same-pairs-same-records, add-undone    lists that hold the same pairs; a pair added and removed
 -- Assumes nothing.
 use mathlib.Core.Path.{_≡_, refl, sym, ap, _∙_}
 use mathlib.Core.Bool.{true, false}
@@ -14,7 +17,7 @@ use Prim.Native.Nat.{ℕ, _+_, _-_, _<_, min, max}
 use native.Mathlib.Omega.{arith}
 use lib.Dec.{ltb}
 use lib.ListN.{length, getD, take, drop, length-append, length-drop, List·getD-map}
-use lib.Seq.{take-at, drop-at, drop-append-add, getD-at, getD-take}
+use lib.Seq.{take-at, drop-at, getD-take}
 use borrow.Author.Tests.{ltb-true, ltb-false}
 use Rattle.theory.specs.Basics.{all}
 use Rattle.theory.specs.Lists as Lists
@@ -23,8 +26,9 @@ use Rattle.theory.specs.Refusals.{refusal, if-taken}
 use Rattle.theory.proofs.Tests.{tests, no, by-test}
 use Rattle.theory.proofs.Lists.{listed, is-listed}
 use Rattle.pairs.specs.Held.{same-ends, is-held, insert-pair, remove-pair, with-pair, without-pair, smaller-first-pair}
-use Rattle.pairs.specs.Causes.{pair-causes}
+use Rattle.pairs.specs.Causes.{add-causes, remove-causes}
 use Rattle.pairs.proofs.Order.{before-not-same, same-refl, same-sym}
+use Rattle.pairs.proofs.Causes.{pair-round, causes-round}
 use Rattle.pairs.proofs.General.{all-at}
 use Rattle.pairs.proofs.Rising.{rising-at}
 use Rattle.pairs.proofs.Changes.{insert-held, remove-held, insert-remove}
@@ -36,11 +40,11 @@ use Rattle.records.specs.declared.Head.{Head}
 use Rattle.records.specs.Records.{as-pair, as-pairs, held-list, agrees, blank}
 use Rattle.kandurzo.specs.declared.Changed.{Changed}
 use Rattle.kandurzo.specs.Listing.{head-of, changed-to, started, as-records, add-number, added, Add-says, remove-number, removed, Remove-says}
-use Rattle.kandurzo.specs.Keeping.{pair-at, Held-once, Pair-added, Add-holds, Pair-removed, Remove-drops, Records-alone, Add-undone}
-use Rattle.kandurzo.proofs.Orders.{none-first, remove-taken}
-use Rattle.kandurzo.proofs.Taken.{add-number-none, remove-number-none, length-as-records, held-few, held-is-list, length-held, held-ones}
-use Rattle.kandurzo.proofs.Taken.{held-records, agrees-front, not-full, added-length, held-added, added-agrees, removed-one, held-removed}
-use Rattle.kandurzo.proofs.Taken.{removed-agrees}
+use Rattle.kandurzo.specs.Keeping.{pair-at, Held-once, Either-way-round, Add-exactly, Remove-exactly, Pair-added, Add-holds, Pair-removed, Remove-drops}
+use Rattle.kandurzo.specs.Keeping.{Same-pairs-same-records, Add-undone}
+use Rattle.kandurzo.proofs.Taken.{length-as-records, held-few, held-is-list, length-held, held-ones, held-records, agrees-front}
+use Rattle.kandurzo.proofs.Taken.{taken-addable, addable-taken, held-removable, taken-removable, removable-taken, added-length, held-added, added-agrees}
+use Rattle.kandurzo.proofs.Taken.{removed-one, held-removed, removed-agrees}
 
 -- ---- no pair is held twice
 
@@ -82,14 +86,13 @@ held-once h ps i j agreed l k same =
     (λ u. omega (arith, ltb-false i j t, ltb-false j i u)))
 
 -- lists that hold the same pairs have the same held records, whatever calls made them
-pub records-alone : Records-alone
-unfolding Records-alone
-records-alone h k ps qs x y same =
-    sym (held-records h ps x)
-    ∙ ap as-records
-    (ones-alone (held-list h ps .pairs) (held-list k qs .pairs) (listed _ (held-is-list h ps x) .rises) (listed _ (held-is-list k qs y) .rises)
-    (held-ones h ps x) (held-ones k qs y) same)
-    ∙ held-records k qs y
+pub same-pairs-same-records : Same-pairs-same-records
+unfolding Same-pairs-same-records
+same-pairs-same-records h k ps qs x y same =
+    let pairs : held-list h ps .pairs ≡ held-list k qs .pairs =
+    ones-alone (held-list h ps .pairs) (held-list k qs .pairs) (listed _ (held-is-list h ps x) .rises) (listed _ (held-is-list k qs y) .rises)
+    (held-ones h ps x) (held-ones k qs y) same in
+    (sym (length-held h ps x) ∙ ap length pairs ∙ length-held k qs y, sym (held-records h ps x) ∙ ap as-records pairs ∙ held-records k qs y)
 
 -- ---- a call that is taken
 
@@ -129,16 +132,57 @@ pub add-says : (h : Head) (ps : List Pair) (a b : ℕ) → add-number h ps a b �
 unfolding changed-to
 add-says h ps a b e = record { number = sym e; head = sym (if-taken-new _ _ _ e); list = sym (if-taken-new _ _ _ e) }
 
+-- ---- either way round
+
+module _ (h : Head) (ps : List Pair) (a b : ℕ) (r : Changed) (ps′ : List Pair) where
+  -- what add says of a and b it says of b and a
+  add-round : Add-says h ps a b r ps′ → Add-says h ps b a r ps′
+  unfolding added
+  add-round says =
+      let k : add-number h ps a b ≡ add-number h ps b a = unfold add-number add-causes in (rw (causes-round a b (held-list h ps .n), pair-round a b)) in
+      record { number = says .number ∙ k; head = rw k at (says .head); list = rw (k, pair-round a b) at (says .list) }
+
+  -- and so does remove
+  remove-round : Remove-says h ps a b r ps′ → Remove-says h ps b a r ps′
+  unfolding removed
+  remove-round says =
+      let k : remove-number h ps a b ≡ remove-number h ps b a =
+      unfold remove-number remove-causes in (rw (causes-round a b (held-list h ps .n), pair-round a b)) in
+      record { number = says .number ∙ k; head = rw k at (says .head); list = rw (k, pair-round a b) at (says .list) }
+
+-- 2,5 is the same pair as 5,2: add and remove answer and leave the same, whichever module is named first
+pub either-way-round : Either-way-round
+either-way-round = record { add = add-round; remove = remove-round }
+
+-- ---- which calls are taken
+
+-- an add is taken where its pair is new, of two different modules, and a record is free; no other is
+pub add-exactly : Add-exactly
+unfolding Add-exactly
+add-exactly h ps a b r ps′ says =
+    (λ none. taken-addable h ps a b (sym (says .number) ∙ none), λ x. says .number ∙ addable-taken h ps a b x)
+
+-- a remove is taken where its pair is held; no other is
+pub remove-exactly : Remove-exactly
+unfolding Remove-exactly
+remove-exactly h ps a b r ps′ says =
+    (λ none. taken-removable h ps a b (sym (says .number) ∙ none), λ x. says .number ∙ removable-taken h ps a b x)
+
 -- ---- start, add and remove
 
--- a head without pairs agrees with whatever records are lent
+-- where start is taken its head is one without pairs
+pub start-head : (n : ℕ) → started n .number ≡ 0 → started n .head ≡ head-of n 0
+unfolding started
+start-head n e = if-taken-new (refusal (modules-causes n)) (head-of n 0) (head-of 0 0) e
+
+-- which agrees with whatever records are lent
 pub start-agrees : (n : ℕ) (ps : List Pair) → started n .number ≡ 0 → agrees (started n .head) ps ≡ true
 unfolding started as-records all rising
 start-agrees n ps e =
     let k = modules-unmet n e in
     let none : is-list (record { n = n; pairs = [] }) ≡ true =
     is-listed _ record { some = k .0; few = k .1; short = omega arith; ends = refl; first = refl; weights = refl; rises = refl } in
-    rw (if-taken-new (refusal (modules-causes n)) (head-of n 0) (head-of 0 0) e) (agrees-front n 0 [] ps refl refl none)
+    rw (start-head n e) (agrees-front n 0 [] ps refl refl none)
 
 -- the list of a taken add
 pub pair-added : (h : Head) (ps : List Pair) (a b : ℕ) → add-number h ps a b ≡ 0 →
@@ -151,11 +195,12 @@ pair-added h ps a b e =
       modules = refl;
       pairs = refl;
       held = λ p. ap (λ (g : Pairs). is-held p (g .pairs)) (held-added h ps a b e) ∙ insert-held p (smaller-first-pair a b) (held-list h ps .pairs);
-      long = omega (arith, length-append (as-records new) (drop (h .m + 1) ps), long, length-drop (h .m + 1) ps, not-full h ps a b e .1);
+      same-length =
+          omega (arith, length-append (as-records new) (drop (h .m + 1) ps), long, length-drop (h .m + 1) ps, taken-addable h ps a b e .room);
       past = drop-at (as-records new) (drop (h .m + 1) ps) (h .m + 1) long;
     }
 
--- what add accepts is held afterwards, and nothing else changed
+-- after an add that is taken its pair is held, and nothing else changed
 pub add-holds : Add-holds
 unfolding Add-holds
 add-holds h ps a b r ps′ says none =
@@ -172,7 +217,7 @@ pub pair-removed : (h : Head) (ps : List Pair) (a b : ℕ) → remove-number h p
     Pair-removed h ps a b (head-of (h .n) (h .m - 1)) (removed h ps a b)
 unfolding head-of removed without-pair
 pair-removed h ps a b e =
-    let agreed = remove-number-none h ps a b e .agreed in
+    let agreed = taken-removable h ps a b e .agreed in
     let rest : List Lists.Pair = remove-pair (smaller-first-pair a b) (held-list h ps .pairs) in
     let one : length (as-records rest) + 1 ≡ h .m = ap (λ (k : ℕ). k + 1) (length-as-records rest) ∙ removed-one h ps a b e in
     record {
@@ -181,12 +226,11 @@ pair-removed h ps a b e =
       held =
           λ p. ap (λ (g : Pairs). is-held p (g .pairs)) (held-removed h ps a b e)
           ∙ remove-held p (smaller-first-pair a b) (held-list h ps .pairs) (listed _ (held-is-list h ps agreed) .rises);
-      freed = getD-at (as-records rest) blank (drop (h .m) ps) blank (h .m - 1) (omega arith);
-      long = omega (arith, length-append (as-records rest) (blank ∷ drop (h .m) ps), one, length-drop (h .m) ps, held-few h ps agreed);
-      past = ap (λ (k : ℕ). drop k (removed h ps a b)) (sym one) ∙ drop-append-add (as-records rest) (blank ∷ drop (h .m) ps) 1;
+      same-length = omega (arith, length-append (as-records rest) (blank ∷ drop (h .m) ps), one, length-drop (h .m) ps, held-few h ps agreed);
+      past = drop-at (as-records rest) (blank ∷ drop (h .m) ps) (h .m - 1) (omega (arith, one));
     }
 
--- what remove accepts is no longer held, and nothing else changed
+-- after a remove that is taken its pair is no longer held, and nothing else changed
 pub remove-drops : Remove-drops
 unfolding Remove-drops
 remove-drops h ps a b r ps′ says none =
@@ -206,19 +250,16 @@ module _ (h : Head) (ps : List Pair) (a b : ℕ) (taken : add-number h ps a b �
 
   -- removing it is taken
   undo-taken : remove-number more (added h ps a b) a b ≡ 0
-  unfolding remove-number
   undo-taken =
       let new : Lists.Pair = smaller-first-pair a b in
       let own : is-held new (held-list more (added h ps a b) .pairs) ≡ true = pair-added h ps a b taken .held new ∙ rw (same-refl new) in
-      let n : ℕ = held-list more (added h ps a b) .n in
-      let fine : refusal (pair-causes n a b) ≡ 0 = unfold held-list head-of in (add-number-none h ps a b taken .fine) in
-      remove-taken _ _ a b (none-first _ n a b (rw (added-agrees h ps a b taken)) fine) own
+      removable-taken more (added h ps a b) a b (held-removable more (added h ps a b) a b (added-agrees h ps a b taken) own)
 
   -- and leaves the held records as they were
   undo-records : take (h .m) (removed more (added h ps a b) a b) ≡ take (h .m) ps
   unfolding removed with-pair
   undo-records =
-      let agreed = add-number-none h ps a b taken .agreed in
+      let agreed = taken-addable h ps a b taken .agreed in
       let back : remove-pair (smaller-first-pair a b) (held-list more (added h ps a b) .pairs) ≡ held-list h ps .pairs =
       ap (λ (g : Pairs). remove-pair (smaller-first-pair a b) (g .pairs)) (held-added h ps a b taken)
       ∙ insert-remove (smaller-first-pair a b) (held-list h ps .pairs) in

@@ -2,14 +2,15 @@
 --   lent-held, every-list-peeled, every-list-solved, every-list-judged, every-list-compared    every list
 --   refusals-keep, unsplit-never, fifteen-never    refusals
 --   peel-exact, check-exact, solve-alone, solve-accepted, records-in-order    answers
---   held-once, add-holds, remove-drops, thirteen-never-follows    one pair more, one pair less
---   arrival-traceless, any-order-taken, records-alone, add-undone    the order of arrival
+--   held-once, either-way-round, add-exactly, remove-exactly, add-holds, remove-drops, thirteen-never-follows    one pair more, one pair less
+--   arrival-traceless, any-order-taken, every-list-added, same-pairs-same-records, add-undone    the order of arrival
 --   every-file-read, read-exact    read
 -- Assumes nothing.
 use Rattle.kandurzo.specs.Promise.{Lent-held, Every-list-peeled, Every-list-solved, Every-list-judged, Every-list-compared, Refusals-keep, Unsplit-never}
 use Rattle.kandurzo.specs.Promise.{Fifteen-never, Peel-exact, Check-exact, Solve-alone, Solve-accepted, Records-in-order}
-use Rattle.kandurzo.specs.Keeping.{Held-once, Add-holds, Remove-drops, Thirteen-never-follows, Arrival-traceless, Any-order-taken}
-use Rattle.kandurzo.specs.Keeping.{Records-alone, Add-undone, Every-file-read, Read-exact}
+use Rattle.kandurzo.specs.Keeping.{Held-once, Either-way-round, Add-exactly, Remove-exactly, Add-holds, Remove-drops, Thirteen-never-follows}
+use Rattle.kandurzo.specs.Keeping.{Arrival-traceless, Any-order-taken, Every-list-added, Same-pairs-same-records, Add-undone}
+use Rattle.kandurzo.specs.Keeping.{Every-file-read, Read-exact}
 use Rattle.kandurzo.proofs.Demands as demands
 use Rattle.kandurzo.proofs.Solves as solves
 use Rattle.kandurzo.proofs.Keeping as keeping
@@ -66,6 +67,15 @@ records-in-order = solves.records-in-order
 pub held-once : Held-once
 held-once = keeping.held-once
 
+pub either-way-round : Either-way-round
+either-way-round = keeping.either-way-round
+
+pub add-exactly : Add-exactly
+add-exactly = keeping.add-exactly
+
+pub remove-exactly : Remove-exactly
+remove-exactly = keeping.remove-exactly
+
 pub add-holds : Add-holds
 add-holds = keeping.add-holds
 
@@ -84,8 +94,11 @@ arrival-traceless = arrivals.arrival-traceless
 pub any-order-taken : Any-order-taken
 any-order-taken = arrivals.any-order-taken
 
-pub records-alone : Records-alone
-records-alone = keeping.records-alone
+pub every-list-added : Every-list-added
+every-list-added = arrivals.every-list-added
+
+pub same-pairs-same-records : Same-pairs-same-records
+same-pairs-same-records = keeping.same-pairs-same-records
 
 pub add-undone : Add-undone
 add-undone = keeping.add-undone

@@ -1,63 +1,41 @@
--- What follows where add or remove is taken, and what the lent records then hold.
---   Add-taken, add-number-none          no cause of add is met
---   Remove-taken, remove-number-none    nor of remove
+-- Which adds and removes are taken, and what the lent records then hold.
 --   as-pairs-back, as-records-back      records and pairs of weight 1 are the same
 --   held-few, held-is-list, length-held what head and list hold where they agree
 --   held-ones, held-records             each held pair counts once, and the held records are those of the held pairs
+--   held-kept                           they are as the laws of pair files ask it
 --   held-front, agrees-front            records of pairs in front of others
---   not-full, added-length, removed-one    there is room where add is taken; a pair more and a pair less
+--   taken-addable, addable-taken        an add is taken where its pair is new and a record is free, and only there
+--   held-removable, taken-removable, removable-taken    a remove where its pair is held
+--   added-length, removed-one           a pair more and a pair less
 --   held-added, held-removed            the held pairs after a taken call
 --   added-agrees, removed-agrees        head and list agree afterwards
 -- proofs/Keeping.antt has what the planner is promised of them. Assumes nothing.
 use mathlib.Core.Path.{_≡_, refl, ap, _∙_}
-use mathlib.Core.Bool.{true, false}
+use mathlib.Core.Bool.{true, false, not}
 use mathlib.Core.List.{List, [], _∷_, _++_}
 use Prim.Native.Nat.{ℕ, _+_, _-_, _≤_, _<_}
 use native.Mathlib.Omega.{arith}
 use lib.ListN.{length, take, length-map, length-append}
 use lib.Seq.{length-take-le, take-at}
-use borrow.Author.Tests.{not-false}
+use borrow.Author.Tests.{not-false, ne-eqb}
 use Rattle.theory.specs.Basics.{all}
 use Rattle.theory.specs.Lists as Lists
 use Rattle.theory.specs.Lists.{pair, is-list}
-use Rattle.theory.specs.Refusals.{refusal}
 use Rattle.theory.proofs.Tests.{tests}
 use Rattle.theory.proofs.Lists.{listed}
 use Rattle.pairs.specs.Held.{is-held, insert-pair, remove-pair, with-pair, without-pair, smaller-first-pair}
-use Rattle.pairs.specs.Causes.{pair-causes}
-use Rattle.pairs.proofs.Causes.{pair-good}
+use Rattle.pairs.proofs.Causes.{pair-taken, pair-good}
 use Rattle.pairs.proofs.Changes.{insert-length, remove-length, insert-all, remove-all}
 use Rattle.pairs.proofs.Keeps.{insert-list, remove-list, counts-once}
+use Rattle.pairfile.proofs.Names.{Kept}
+use Rattle.pairfile.proofs.Naming.{ends-held, ends-fit}
 use Rattle.records.specs.declared.Pair.{Pair}
 use Rattle.records.specs.declared.Head.{Head}
 use Rattle.records.specs.Records.{as-pair, as-pairs, held-list, agrees}
 use Rattle.kandurzo.specs.Listing.{head-of, as-record, as-records, is-full, add-number, added, remove-number, removed}
-use Rattle.kandurzo.proofs.Orders.{add-none, remove-none}
+use Rattle.kandurzo.specs.Keeping.{Addable, Removable}
+use Rattle.kandurzo.proofs.Orders.{First, none-first, add-taken, add-none, remove-taken, remove-none}
 use Rattle.kandurzo.proofs.Changes.{full-less}
-
--- ---- what a taken call passed
-
-pub record Add-taken (h : Head) (ps : List Pair) (a b : ℕ) : Type 0 where
-  pub agreed : agrees h ps ≡ true
-  pub fine : refusal (pair-causes (h .n) a b) ≡ 0
-  pub new : is-held (smaller-first-pair a b) (held-list h ps .pairs) ≡ false
-  pub room : is-full h (length ps) ≡ false
-
-pub add-number-none : (h : Head) (ps : List Pair) (a b : ℕ) → add-number h ps a b ≡ 0 → Add-taken h ps a b
-unfolding add-number
-add-number-none h ps a b e =
-    let x = add-none _ (held-list h ps) _ a b e in
-    record { agreed = not-false _ (x .0); fine = unfold held-list in (x .1); new = x .2; room = x .3 }
-
-pub record Remove-taken (h : Head) (ps : List Pair) (a b : ℕ) : Type 0 where
-  pub agreed : agrees h ps ≡ true
-  pub held : is-held (smaller-first-pair a b) (held-list h ps .pairs) ≡ true
-
-pub remove-number-none : (h : Head) (ps : List Pair) (a b : ℕ) → remove-number h ps a b ≡ 0 → Remove-taken h ps a b
-unfolding remove-number
-remove-number-none h ps a b e =
-    let x = remove-none _ (held-list h ps) a b e in
-    record { agreed = not-false _ (x .0); held = x .1 }
 
 -- ---- records and pairs
 
@@ -113,6 +91,13 @@ module _ (h : Head) (ps : List Pair) (agreed : agrees h ps ≡ true) where
   unfolding held-list
   held-records = as-records-back (take (h .m) ps)
 
+  -- the held pairs, as the laws of pair files ask it
+  pub held-kept : Kept (h .n) (held-list h ps .pairs)
+  unfolding held-list
+  held-kept =
+      let l = listed (held-list h ps) held-is-list in
+      record { rises = l .rises; ends = l .ends; first = l .first; once = held-ones }
+
 -- the records of m pairs in front of others: the held pairs are these
 pub held-front : (n m : ℕ) (qs : List Lists.Pair) (rest : List Pair) → length qs ≡ m → all counts-once qs ≡ true →
     held-list (head-of n m) (as-records qs ++ rest) ≡ record { n = n; pairs = qs }
@@ -127,14 +112,60 @@ unfolding agrees
 agrees-front n m qs rest l o e =
     simp tests (unfold head-of in (omega (arith, length-append (as-records qs) rest, length-as-records qs)), rw (held-front n m qs rest l o) e)
 
+-- ---- which calls are taken
+
+-- a list with a free record is not full
+list-not-full : (h : Head) (len : ℕ) → h .m < 4096 → h .m < len → is-full h len ≡ false
+unfolding is-full
+list-not-full h len few fits = rw (ne-eqb (h .m) 4096 (λ e. omega arith), ne-eqb (h .m) len (λ e. omega arith))
+
+module _ (h : Head) (ps : List Pair) (a b : ℕ) where
+  -- where head and list agree, two different modules pass the causes that come first
+  ends-first : agrees h ps ≡ true → a < h .n → b < h .n → (a ≡ b → ⊥) → First (not (agrees h ps)) (held-list h ps .n) a b ≡ 0
+  ends-first agreed l k d = none-first _ (held-list h ps .n) a b (rw agreed) (unfold held-list in (ends-fit (h .n) a b l k d))
+
+  -- an add that is taken is of a new pair, and a record is free
+  pub taken-addable : add-number h ps a b ≡ 0 → Addable h ps a b
+  unfolding add-number
+  taken-addable e =
+      let x = add-none _ (held-list h ps) _ a b e in
+      let agreed = not-false _ (x .0) in
+      let ends = pair-taken (h .n) a b (unfold held-list in (x .1)) in
+      let few = listed (held-list h ps) (held-is-list h ps agreed) .short in
+      let free = full-less h (length ps) (omega (arith, few, length-held h ps agreed)) (held-few h ps agreed) (x .3) in
+      record { agreed = agreed; first = ends .0; second = ends .1; different = ends .2; new = x .2; few = free .0; room = free .1 }
+
+  -- and every such add is taken
+  pub addable-taken : Addable h ps a b → add-number h ps a b ≡ 0
+  unfolding add-number
+  addable-taken x =
+      add-taken _ (held-list h ps) _ a b (ends-first (x .agreed) (x .first) (x .second) (x .different)) (x .new)
+      (list-not-full h (length ps) (x .few) (x .room))
+
+  -- a pair that is held can be removed: its modules are two of the list
+  pub held-removable : agrees h ps ≡ true → is-held (smaller-first-pair a b) (held-list h ps .pairs) ≡ true → Removable h ps a b
+  held-removable agreed held =
+      let ends = ends-held (h .n) a b (held-list h ps .pairs) (held-kept h ps agreed) held in
+      record { agreed = agreed; first = ends .0; second = ends .1; different = ends .2; held = held }
+
+  -- a remove that is taken is of a held pair
+  pub taken-removable : remove-number h ps a b ≡ 0 → Removable h ps a b
+  unfolding remove-number
+  taken-removable e = let x = remove-none _ (held-list h ps) a b e in held-removable (not-false _ (x .0)) (x .1)
+
+  -- and every such remove is taken
+  pub removable-taken : Removable h ps a b → remove-number h ps a b ≡ 0
+  unfolding remove-number
+  removable-taken x = remove-taken _ (held-list h ps) a b (ends-first (x .agreed) (x .first) (x .second) (x .different)) (x .held)
+
 -- ---- after a taken add
 
 module _ (h : Head) (ps : List Pair) (a b : ℕ) (taken : add-number h ps a b ≡ 0) where
   abbrev new-pair : Lists.Pair
   new-pair = smaller-first-pair a b
 
-  passed : Add-taken h ps a b
-  passed = add-number-none h ps a b taken
+  passed : Addable h ps a b
+  passed = taken-addable h ps a b taken
 
   added-once : all counts-once (insert-pair new-pair (held-list h ps .pairs)) ≡ true
   added-once = insert-all counts-once new-pair _ (unfold counts-once smaller-first-pair pair in refl) (held-ones h ps (passed .agreed))
@@ -149,17 +180,11 @@ module _ (h : Head) (ps : List Pair) (a b : ℕ) (taken : add-number h ps a b �
       held-front (h .n) (h .m + 1) (insert-pair new-pair (held-list h ps .pairs)) _ added-length added-once
       ∙ (unfold held-list in refl)
 
-  -- a record is free
-  pub not-full : (h .m < 4096) × (h .m < length ps)
-  not-full =
-      let l = listed (held-list h ps) (held-is-list h ps (passed .agreed)) in
-      full-less h (length ps) (omega (arith, l .short, length-held h ps (passed .agreed))) (held-few h ps (passed .agreed)) (passed .room)
-
   pub added-list : is-list (with-pair new-pair (held-list h ps)) ≡ true
   added-list =
-      let good = pair-good (h .n) a b (passed .fine) in
+      let good = pair-good (h .n) a b (ends-fit (h .n) a b (passed .first) (passed .second) (passed .different)) in
       insert-list (held-list h ps) new-pair (held-is-list h ps (passed .agreed)) (unfold held-list in (good .0)) (good .1) (good .2) (passed .new)
-      (omega (arith, length-held h ps (passed .agreed), not-full .0))
+      (omega (arith, length-held h ps (passed .agreed), passed .few))
 
   -- 13 never follows a taken add
   pub added-agrees : agrees (head-of (h .n) (h .m + 1)) (added h ps a b) ≡ true
@@ -171,8 +196,8 @@ module _ (h : Head) (ps : List Pair) (a b : ℕ) (taken : add-number h ps a b �
 -- ---- after a taken remove
 
 module _ (h : Head) (ps : List Pair) (a b : ℕ) (taken : remove-number h ps a b ≡ 0) where
-  passed-out : Remove-taken h ps a b
-  passed-out = remove-number-none h ps a b taken
+  passed-out : Removable h ps a b
+  passed-out = taken-removable h ps a b taken
 
   removed-once : all counts-once (remove-pair (smaller-first-pair a b) (held-list h ps .pairs)) ≡ true
   removed-once = remove-all counts-once (smaller-first-pair a b) _ (held-ones h ps (passed-out .agreed))
