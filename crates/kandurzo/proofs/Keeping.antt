@@ -43,8 +43,8 @@ use Rattle.kandurzo.specs.Listing.{head-of, changed-to, started, as-reco
 use Rattle.kandurzo.specs.Keeping.{pair-at, Held-once, Either-way-round, Add-exactly, Remove-exactly, Pair-added, Add-holds, Pair-removed, Remove-drops}
 use Rattle.kandurzo.specs.Keeping.{Same-pairs-same-records, Add-undone}
 use Rattle.kandurzo.proofs.Taken.{length-as-records, held-few, held-is-list, length-held, held-ones, held-records, agrees-front}
-use Rattle.kandurzo.proofs.Taken.{taken-addable, addable-taken, held-removable, taken-removable, removable-taken, added-length, held-added, added-agrees}
-use Rattle.kandurzo.proofs.Taken.{removed-one, held-removed, removed-agrees}
+use Rattle.kandurzo.proofs.Taken.{taken-addable, addable-taken, held-removable, taken-removable, removable-taken}
+use Rattle.kandurzo.proofs.Taken.{added-length, held-added, added-agrees, removed-one, held-removed, removed-agrees}
 
 -- ---- no pair is held twice
 
