@@ -12,6 +12,7 @@ use Rattle.kandurzo.specs.Keeping.{Held-once, Either-way-round, Add-exac
 use Rattle.kandurzo.specs.Keeping.{Arrival-traceless, Any-order-taken, Every-list-added, Same-pairs-same-records, Add-undone}
 use Rattle.kandurzo.specs.Keeping.{Every-file-read, Read-exact}
 use Rattle.kandurzo.proofs.Demands as demands
+use Rattle.kandurzo.proofs.Exact as exact
 use Rattle.kandurzo.proofs.Solves as solves
 use Rattle.kandurzo.proofs.Keeping as keeping
 use Rattle.kandurzo.proofs.Arrivals as arrivals
@@ -48,16 +49,16 @@ fifteen-never = demands.fifteen-never
 -- ---- answers
 
 pub peel-exact : Peel-exact
-peel-exact = demands.peel-exact
+peel-exact = exact.peel-exact
 
 pub check-exact : Check-exact
-check-exact = demands.check-exact
+check-exact = exact.check-exact
 
 pub solve-alone : Solve-alone
-solve-alone = demands.solve-alone
+solve-alone = exact.solve-alone
 
 pub solve-accepted : Solve-accepted
-solve-accepted = demands.solve-accepted
+solve-accepted = exact.solve-accepted
 
 pub records-in-order : Records-in-order
 records-in-order = solves.records-in-order

@@ -68,7 +68,7 @@ pub read-agrees-after : (bytes : List ℕ) (ps : List Pair) (work : List ℕ) (r
     Read-call read-file bytes ps work r ps′ work′ → r .number ≡ 0 → agrees (r .head) ps′ ≡ true
 read-agrees-after bytes ps work r ps′ work′ call z = let t = list-taken call z in list-agrees call (t .0) (t .1)
 
--- what read accepts are exactly the pairs named: the bytes are the file of the list that is held then
+-- the pairs held after a file is taken are exactly those that it names
 pub read-exact : Read-exact
 unfolding Read-exact
 read-exact bytes ps work r ps′ work′ call z =

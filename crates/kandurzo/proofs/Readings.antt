@@ -24,7 +24,7 @@ use Rattle.pairs.proofs.Keeps.{counts-once}
 use Rattle.lines.specs.Outcomes.{Outcome, refused, taken}
 use Rattle.lines.proofs.Taken.{refused-not-taken}
 use Rattle.pairfile.specs.File.{read-file}
-use Rattle.pairfile.specs.Promise.{ones}
+use Rattle.pairfile.specs.Promise.{all-once}
 use Rattle.pairfile.specs.Answers.{reading-of, pairs-of, FileRead}
 use Rattle.pairfile.specs.declared.Reading.{Reading}
 use Rattle.pairfile.proofs.Accepts.{accepted}
@@ -115,7 +115,7 @@ pub record Reads (read : Reader) : Type 0 where
   pub once : (room : ℕ) (bytes : List ℕ) (g : Pairs) → read room bytes ≡ taken g → all counts-once (g .pairs) ≡ true
 
 pub reads-file : Reads read-file
-unfolding counts-once ones
+unfolding counts-once all-once
 reads-file = record {
   list = λ room bytes g e. accepted room bytes g e .list;
   fits = λ room bytes g e. accepted room bytes g e .fits;

@@ -30,7 +30,7 @@ use Rattle.verify.specs.declared.Verdict.{Verdict}
 use Rattle.verify.specs.declared.Difference.{Difference}
 use Rattle.verify.specs.Answers.{Check-says, Surplus-says}
 use Rattle.pairfile.specs.File.{read-file}
-use Rattle.pairfile.specs.Promise.{ones}
+use Rattle.pairfile.specs.Promise.{all-once}
 use Rattle.records.specs.declared.Pair.{Pair}
 use Rattle.records.specs.declared.Head.{Head}
 use Rattle.records.specs.Records.{held-list, agrees}
@@ -49,7 +49,7 @@ use Rattle.kandurzo.specs.Judging.{Check-call, Surplus-call}
 pub record Lent (g : Pairs) (h : Head) (ps : List Pair) : Type 0 where
   pub list : is-list g ≡ true
   -- each pair counts once, as in all of document 01
-  pub once : ones (g .pairs) ≡ true
+  pub once : all-once (g .pairs) ≡ true
   pub head : h ≡ head-of (g .n) (length (g .pairs))
   pub records : take (length (g .pairs)) ps ≡ as-records (g .pairs)
 

@@ -22,7 +22,7 @@ use Rattle.pairs.proofs.Changes.{insert-length}
 use Rattle.pairs.proofs.Keeps.{counts-once}
 use Rattle.lines.specs.Outcomes.{taken}
 use Rattle.pairfile.specs.File.{read-file, file-of}
-use Rattle.pairfile.specs.Promise.{times-named, Names, ones, names-two, Different}
+use Rattle.pairfile.specs.Promise.{times-named, Names, all-once, names-two, Different}
 use Rattle.pairfile.proofs.Names.{Kept, kept-none, kept-insert, kept-list, insert-mark, mark-same}
 use Rattle.pairfile.proofs.Naming.{ends-fit}
 use Rattle.pairfile.proofs.ReadsBack.{read-back}
@@ -72,7 +72,7 @@ gathered n (l ∷ ls) e d =
 -- the file of such lines is taken as that list
 pub gathered-read : (room n : ℕ) (lines : List Pair) (t : Gathered n lines) → 1 ≤ n → n ≤ 512 → length lines ≤ 4096 → length lines ≤ room →
     read-file room (file-of n lines) ≡ taken (record { n = n; pairs = t .pairs })
-unfolding ones counts-once
+unfolding all-once counts-once
 gathered-read room n ls t low high short fits =
     let list = kept-list n (t .pairs) low high (omega (arith, t .size)) (t .kept) in
     read-back room (record { n = n; pairs = t .pairs }) ls list (t .kept .once) (omega (arith, t .size)) (t .named)

@@ -18,7 +18,7 @@ use Rattle.theory.proofs.Tests.{tests, no}
 use Rattle.theory.proofs.Lists.{listed}
 use Rattle.theory.proofs.Bounds.{total, inside-le-total, size-bound, size-le-length, core-number-le}
 use Rattle.theory.proofs.Cores.{core-bits}
-use Rattle.pairfile.specs.Promise.{ones}
+use Rattle.pairfile.specs.Promise.{all-once}
 use Rattle.lines.specs.Outcomes.{taken}
 use Rattle.pairfile.specs.File.{read-file}
 use Rattle.pairfile.proofs.Accepts.{accepted}
@@ -26,14 +26,14 @@ use Rattle.sheetfile.specs.Sheet.{Sheet}
 use Rattle.sheetfile.specs.Writer.{four-digits, Writable}
 
 -- of pairs that count once
-total-ones : (ps : List Pair) → ones ps ≡ true → total ps ≡ length ps
-unfolding total ones all
+total-ones : (ps : List Pair) → all-once ps ≡ true → total ps ≡ length ps
+unfolding total all-once all
 total-ones [] e = refl
 total-ones (p ∷ ps) e = let h = simp tests at e in omega (arith, h .0, total-ones ps (h .1))
 
-shares-digits : (q : ℕ) (ps : List Pair) (xs : List ℕ) → q ≤ 9999 → ones ps ≡ true → shares-good q ps xs ≡ true →
+shares-digits : (q : ℕ) (ps : List Pair) (xs : List ℕ) → q ≤ 9999 → all-once ps ≡ true → shares-good q ps xs ≡ true →
     (length xs ≡ length ps) × four-digits xs
-unfolding ones all shares-good units four-digits
+unfolding all-once all shares-good units four-digits
 shares-digits q [] [] l o e = (refl, refl)
 shares-digits q [] (x ∷ xs) l o e = no e
 shares-digits q (p ∷ ps) [] l o e = no e
