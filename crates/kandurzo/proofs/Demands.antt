@@ -33,7 +33,8 @@ use Rattle.kandurzo.specs.Reading.{records-front}
 use Rattle.kandurzo.specs.Peeling.{peel-buffers, peel-call-causes}
 use Rattle.kandurzo.specs.Judging.{check-buffers, check-call-causes, Check-call, surplus-buffers, surplus-call-causes}
 use Rattle.kandurzo.specs.Solving.{solve-buffers, solve-call-causes}
-use Rattle.kandurzo.specs.Promise.{Lent, Lent-held, Every-list-peeled, Every-list-solved, Every-list-judged, Every-list-compared, Refusals-keep, Fifteen-never}
+use Rattle.kandurzo.specs.Promise.{Lent, Lent-held, Every-list-peeled, Every-list-solved, Every-list-judged, Every-list-compared}
+use Rattle.kandurzo.specs.Promise.{Refusals-keep, Fifteen-never}
 use Rattle.kandurzo.proofs.Filling.{work-zeros, left-open}
 use Rattle.kandurzo.proofs.Gates.{Long-enough, all-long}
 use Rattle.kandurzo.proofs.Judgements.{check-few, gate-then}
