@@ -12,7 +12,7 @@ use lib.Seq.{drop-at}
 use Rattle.theory.specs.Lists.{Pairs}
 use Rattle.lines.specs.Outcomes.{Outcome, taken}
 use Rattle.pairfile.specs.File.{read-file, file-of}
-use Rattle.pairfile.specs.Promise.{Accepted}
+use Rattle.pairfile.specs.Promise.{Taken-as}
 use Rattle.pairfile.specs.Answers.{reading-of, pairs-of}
 use Rattle.pairfile.proofs.Accepts.{accepted}
 use Rattle.pairfile.proofs.ReadsEvery.{gathered, gathered-read}
@@ -56,7 +56,7 @@ module _ {bytes : List ℕ} {ps : List Pair} {work : List ℕ} {r : Changed} {ps
         rw (head-is, records-are) (drop-at (as-records (g .pairs)) (drop m ps) m (length-as-records (g .pairs)))
 
     -- the bytes are the file of what is held
-    file-held : Accepted (length ps) bytes (held-list (r .head) ps′)
+    file-held : Taken-as (length ps) bytes (held-list (r .head) ps′)
     file-held = rw held-is (accepted (length ps) bytes g (outcome-taken read-file (length ps) (length work) bytes g due .1))
 
   -- number 0: a list is taken

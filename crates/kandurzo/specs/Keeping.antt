@@ -1,5 +1,6 @@
 -- What the planner is promised of the list that start, add, remove and read make. A statement is a type; proofs/Promises.antt has a theorem for
--- each, of the same name in small letters. Document 01: no pair is held twice, and 2,5 is the same pair as 5,2; the order in which pairs arrived
+-- each, of the same name in small letters; pair-at, Addable, Removable, Pair-added, Pair-removed, Adds and Same-arrivals are what statements say of one
+-- place, pair, call or row of calls. Document 01: no pair is held twice, and 2,5 is the same pair as 5,2; the order in which pairs arrived
 -- leaves no trace in the first M records.
 --   Held-once, Either-way-round                  no pair is held twice, and 2,5 is the same pair as 5,2
 --   Addable, Add-exactly, Removable, Remove-exactly    which adds and which removes are taken
@@ -21,7 +22,7 @@ use Rattle.theory.specs.Basics.{all}
 use Rattle.theory.specs.Lists as Lists
 use Rattle.pairs.specs.Held.{same-ends, is-held, smaller-first-pair}
 use Rattle.pairfile.specs.File.{read-file, file-of}
-use Rattle.pairfile.specs.Promise.{times-named, Names, names-two, Different, Accepted}
+use Rattle.pairfile.specs.Promise.{times-named, Names, names-two, Different, Taken-as}
 use Rattle.records.specs.declared.Pair.{Pair}
 use Rattle.records.specs.declared.Head.{Head}
 use Rattle.records.specs.Records.{held-list, agrees, blank}
@@ -172,4 +173,4 @@ unfoldable pub Read-exact : Type 0
 Read-exact =
     (bytes : List ℕ) (ps : List Pair) (work : List ℕ) (r : Changed) (ps′ : List Pair) (work′ : List ℕ) →
     Read-call read-file bytes ps work r ps′ work′ → r .number ≡ 0 →
-    Accepted (length ps) bytes (held-list (r .head) ps′) × (drop (r .head .m) ps′ ≡ drop (r .head .m) ps)
+    Taken-as (length ps) bytes (held-list (r .head) ps′) × (drop (r .head .m) ps′ ≡ drop (r .head .m) ps)

@@ -1,5 +1,6 @@
 -- What the planner is promised of the calls. A statement is a type; proofs/Promises.antt has a theorem for each, of the same name in small letters.
--- A statement speaks of a call by what its contract in src/lib.rt says of it (Add-says, Peel-call and so on). The planner's demands:
+-- Lent, Peel-served, Solve-served, Peeling-of, Best-both, Shares-alike and Compare-alike are what statements say of one list, call or answer. A statement
+-- speaks of a call by what its contract in src/lib.rt says of it (Add-says, Peel-call and so on). The planner's demands:
 --   1. Every list, with buffers of the stated sizes, gets its group, core numbers and load sheet; a call that meets a refusal condition gets that
 --      number and changes no head, list or answer buffer.
 --   2. The group is the largest of all groups of greatest ratio; core numbers, leaving order, surplus and file reading are those of document 01.
@@ -9,7 +10,7 @@
 -- The statements:
 --   every list    Lent, Lent-held; Peel-served, Every-list-peeled; Solve-served, Every-list-solved; Every-list-judged, Every-list-compared
 --   refusals      Refusals-keep; Unsplit-never, Fifteen-never
---   answers       Peeling-of, Peel-exact; Best-sheet, Check-exact; Alike, Solve-alone, Solve-accepted; Compare-alike, Records-in-order
+--   answers       Peeling-of, Peel-exact; Best-both, Check-exact; Shares-alike, Solve-alone, Solve-accepted; Compare-alike, Records-in-order
 -- Those of start, add, remove and read are in Keeping. Assumes nothing: these are definitions.
 use mathlib.Core.Path.{_≡_}
 use mathlib.Core.Bool.{true, false}
@@ -84,7 +85,7 @@ Every-list-solved =
     Lent g h ps → g .n ≤ length members → g .n ≤ length cores → length (g .pairs) ≤ length shares → 16384 ≤ length work →
     Solve-call h ps members cores shares work r members′ cores′ shares′ work′ → Solve-served g members cores shares work r members′ cores′ shares′ work′
 
--- CHECK LOOKS AT THE SHEET OF EVERY SUCH LIST: neither 13 nor 12 comes; 7, 8, 9 or 0, P and Q are said of that list, the group and the shares
+-- CHECK LOOKS AT THE GROUP AND THE SHARES FOR EVERY SUCH LIST: neither 13 nor 12 comes; 7, 8, 9 or 0, P and Q are said of that list, that group and those shares
 unfoldable pub Every-list-judged : Type 0
 Every-list-judged =
     (g : Pairs) (h : Head) (ps : List Pair) (members shares work : List ℕ) (v : Verdict) (work′ : List ℕ) →
@@ -100,7 +101,7 @@ Every-list-compared =
 
 -- ---- refusals
 
--- A REFUSED CALL CHANGES NO HEAD, LIST OR ANSWER BUFFER (start has none of them; check and surplus write in none)
+-- A REFUSED CALL CHANGES NO HEAD, LIST OR ANSWER BUFFER (start has none of them; peel, solve, check and surplus only read head and list)
 pub record Refusals-keep : Type 0 where
   pub add : (h : Head) (ps : List Pair) (a b : ℕ) (r : Changed) (ps′ : List Pair) →
       Add-says h ps a b r ps′ → (r .number ≡ 0 → ⊥) → (r .head ≡ h) × (ps′ ≡ ps)
@@ -128,6 +129,8 @@ Fifteen-never =
 
 -- an order and core numbers, the first N of each, are the leaving order and the core numbers of a list
 pub record Peeling-of (g : Pairs) (order cores : List ℕ) : Type 0 where
+  pub order-long : g .n ≤ length order
+  pub cores-long : g .n ≤ length cores
   -- at each place stands the leaver among those whom the ones before it in this order have left behind
   pub leavers : (i : ℕ) → i < g .n → leaver g (left-behind order (everyone g) i) ≡ some (getD order i 0)
   -- each module has its place
@@ -142,7 +145,7 @@ Peel-exact =
     Peel-call h ps order cores work r order′ cores′ work′ → r ≡ 0 → Peeling-of (held-list h ps) order′ cores′
 
 -- a group than which none is denser, and a split at its size than which none has a lower greatest load over its share size
-pub record Best-sheet (g : Pairs) (s xs : List ℕ) : Type 0 where
+pub record Best-both (g : Pairs) (s xs : List ℕ) : Type 0 where
   pub group : is-group g s ≡ true
   pub split : is-split g (size s) xs ≡ true
   pub best : Both-best g s (size s) xs
@@ -153,20 +156,22 @@ Check-exact =
     (g : Pairs) (h : Head) (ps : List Pair) (members shares work : List ℕ) (v : Verdict) (work′ : List ℕ) →
     Lent g h ps → g .n ≤ length members → length (g .pairs) ≤ length shares → 16384 ≤ length work →
     Check-call h ps members shares work v work′ →
-    (v .number ≡ 0) ↔ Best-sheet g (take (g .n) members) (take (length (g .pairs)) shares)
+    (v .number ≡ 0) ↔ Best-both g (take (g .n) members) (take (length (g .pairs)) shares)
 
--- shares of a list that are the same for each pair with an end outside the core of order k, and past the first M
-pub record Alike (g : Pairs) (k : ℕ) (xs ys : List ℕ) : Type 0 where
+-- two buffers of shares that are the same for each pair with an end outside the core of order k, and past the first M
+pub record Shares-alike (g : Pairs) (k : ℕ) (xs ys : List ℕ) : Type 0 where
+  pub same-length : length xs ≡ length ys
   pub outside : (j : ℕ) → j < length (g .pairs) → pair-in-core g k (getD (g .pairs) j (pair 0 0)) ≡ false → getD xs j 0 ≡ getD ys j 0
   pub past : drop (length (g .pairs)) xs ≡ drop (length (g .pairs)) ys
 
--- WHAT SOLVE ANSWERS AND LEAVES FOLLOWS FROM THE INPUT ALONE: free are only the shares of pairs inside the core of order K
+-- WHAT SOLVE ANSWERS AND LEAVES FOLLOWS FROM THE INPUT ALONE: free are only the shares of pairs inside the core of order K; beside a refusal none is
 unfoldable pub Solve-alone : Type 0
 Solve-alone =
     (h : Head) (ps : List Pair) (members cores shares work : List ℕ) (r s : Solved)
     (members′ cores′ shares′ work′ members″ cores″ shares″ work″ : List ℕ) →
     Solve-call h ps members cores shares work r members′ cores′ shares′ work′ → Solve-call h ps members cores shares work s members″ cores″ shares″ work″ →
-    (r ≡ s) × (members′ ≡ members″) × (cores′ ≡ cores″) × Alike (held-list h ps) (r .k) shares′ shares″ × (work′ ≡ work″)
+    (r ≡ s) × (members′ ≡ members″) × (cores′ ≡ cores″) × (work′ ≡ work″) × Shares-alike (held-list h ps) (r .k) shares′ shares″
+    × ((r .number ≡ 0 → ⊥) → shares′ ≡ shares″)
 
 -- WHAT SOLVE HANDS OUT CHECK ACCEPTS, with the same P and Q
 unfoldable pub Solve-accepted : Type 0
