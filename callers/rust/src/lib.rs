@@ -1,4 +1,5 @@
-//! Kandurzo from Rust: the largest group of greatest ratio in a list of fault pairs, with core numbers and a load sheet that proves it (document 01).
+//! Kandurzo from Rust: the largest group of greatest ratio in a list of fault pairs, with core numbers and a load sheet that shows
+//! that no group is denser (document 01).
 //!
 //! ```
 //! let tail = b"modules=5\npairs=7\npair=0,1\npair=0,2\npair=0,3\npair=1,2\npair=1,3\npair=2,3\npair=3,4\n";
@@ -161,7 +162,7 @@ impl List {
         Refusal::of(ffi::remove_from(&mut self.head, &mut self.records, a, b))
     }
 
-    /// Leaving order and core numbers.
+    /// Leaving order and core numbers. Never refuses.
     pub fn peel(&mut self) -> Result<Peeling, Refusal> {
         let n = self.modules();
         let (mut order, mut cores) = (vec![0; n], vec![0; n]);
@@ -169,7 +170,7 @@ impl List {
         Ok(Peeling { order, cores })
     }
 
-    /// The found group, core numbers and the load sheet.
+    /// The found group, core numbers and the load sheet. Never refuses.
     pub fn solve(&mut self) -> Result<Solution, Refusal> {
         let n = self.modules();
         let (mut members, mut cores, mut shares) = (vec![0; n], vec![0; n], vec![0; self.pairs().len()]);

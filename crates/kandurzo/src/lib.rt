@@ -91,8 +91,8 @@ pub extern "C" fn kandurzo_start(n: u32) -> Changed
 
 pub use kandurzo_start as start;
 
-// Adds the pair of modules a and b, in either order. Refuses by 13, 4, 5, 10, 11; head and list are then as before. Costs up to a pass over
-// the list's records out to words and back.
+// Adds the pair of modules a and b, in either order. Refuses by 13, 4, 5, 10, 11; head and list are then as before. Copies the held
+// records to words and back.
 #[no_mangle]
 pub extern "C" fn kandurzo_add(head: Head, list: &mut [Pair], a: u32, b: u32) -> Changed
     ensures { λ r. ⌜ Add-says head (now (list .entry)) a b r (now (list .exit)) ⌝ }
