@@ -1,5 +1,5 @@
 -- What the planner is promised of the calls. A statement is a type; proofs/Promises.antt has a theorem for each, of the same name in small letters.
--- Lent, Peel-served, Solve-served, Peeling-of, Best-both, Shares-alike and Compare-alike are what statements say of one list, call or answer. A statement
+-- Lent, Peel-served, Solve-served, Peeling-of, Best-of-all, Shares-alike and Compare-alike are what statements say of one list, call or answer. A statement
 -- speaks of a call by what its contract in src/lib.rt says of it (Add-says, Peel-call and so on). The planner's demands:
 --   1. Every list, with buffers of the stated sizes, gets its group, core numbers and load sheet; a call that meets a refusal condition gets that
 --      number and changes no head, list or answer buffer.
@@ -10,7 +10,7 @@
 -- The statements:
 --   every list    Lent, Lent-held; Peel-served, Every-list-peeled; Solve-served, Every-list-solved; Every-list-judged, Every-list-compared
 --   refusals      Refusals-keep; Unsplit-never, Fifteen-never
---   answers       Peeling-of, Peel-exact; Best-both, Check-exact; Shares-alike, Solve-alone, Solve-accepted; Compare-alike, Records-in-order
+--   answers       Peeling-of, Peel-exact; Best-of-all, Check-exact; Shares-alike, Solve-alone, Solve-accepted; Compare-alike, Records-in-order
 -- Those of start, add, remove and read are in Keeping. Assumes nothing: these are definitions.
 use mathlib.Core.Path.{_≡_}
 use mathlib.Core.Bool.{true, false}
@@ -85,7 +85,7 @@ Every-list-solved =
     Lent g h ps → g .n ≤ length members → g .n ≤ length cores → length (g .pairs) ≤ length shares → 16384 ≤ length work →
     Solve-call h ps members cores shares work r members′ cores′ shares′ work′ → Solve-served g members cores shares work r members′ cores′ shares′ work′
 
--- CHECK LOOKS AT THE GROUP AND THE SHARES FOR EVERY SUCH LIST: neither 13 nor 12 comes; 7, 8, 9 or 0, P and Q are said of that list, that group and those shares
+-- CHECK LOOKS AT GROUP AND SHARES FOR EVERY SUCH LIST: neither 13 nor 12 comes; 7, 8, 9 or 0, P and Q are said of that list, group and shares
 unfoldable pub Every-list-judged : Type 0
 Every-list-judged =
     (g : Pairs) (h : Head) (ps : List Pair) (members shares work : List ℕ) (v : Verdict) (work′ : List ℕ) →
@@ -145,7 +145,7 @@ Peel-exact =
     Peel-call h ps order cores work r order′ cores′ work′ → r ≡ 0 → Peeling-of (held-list h ps) order′ cores′
 
 -- a group than which none is denser, and a split at its size than which none has a lower greatest load over its share size
-pub record Best-both (g : Pairs) (s xs : List ℕ) : Type 0 where
+pub record Best-of-all (g : Pairs) (s xs : List ℕ) : Type 0 where
   pub group : is-group g s ≡ true
   pub split : is-split g (size s) xs ≡ true
   pub best : Both-best g s (size s) xs
@@ -156,7 +156,7 @@ Check-exact =
     (g : Pairs) (h : Head) (ps : List Pair) (members shares work : List ℕ) (v : Verdict) (work′ : List ℕ) →
     Lent g h ps → g .n ≤ length members → length (g .pairs) ≤ length shares → 16384 ≤ length work →
     Check-call h ps members shares work v work′ →
-    (v .number ≡ 0) ↔ Best-both g (take (g .n) members) (take (length (g .pairs)) shares)
+    (v .number ≡ 0) ↔ Best-of-all g (take (g .n) members) (take (length (g .pairs)) shares)
 
 -- two buffers of shares that are the same for each pair with an end outside the core of order k, and past the first M
 pub record Shares-alike (g : Pairs) (k : ℕ) (xs ys : List ℕ) : Type 0 where
