@@ -1,6 +1,5 @@
 -- From what read and solve say, one after the other, to the answer.
 --   answer-of         the answer, of what read and solve return
---   found-front       the found group's bytes, read back from the front
 --   out-past          copy_out leaves the words past the pairs as they were
 --   room-out, length-out    what copy_out asks, and that it leaves as many words
 --   sheeted           the contract of sheet_file
@@ -12,13 +11,12 @@ use Prim.Native.Nat.{ℕ, _+_, _*_, _≤_}
 use native.Mathlib.Omega.{arith}
 use borrow.Author.Tests.{le-ltb}
 use lib.ListN.{length, take, length-map}
-use lib.Seq.{length-take-le, take-at}
+use lib.Seq.{length-take-le}
 use Rattle.theory.specs.Lists.{Pairs, is-list}
 use Rattle.theory.specs.Groups.{size, inside, found-of}
 use Rattle.theory.specs.Splits.{core-order}
 use Rattle.theory.specs.Refusals.{cause, refusal}
 use Rattle.theory.specs.Words.{laid-pairs, put-at}
-use Rattle.theory.proofs.Best.{found-length}
 use Rattle.theory.proofs.Lists.{Listed, listed}
 use Rattle.theory.proofs.Words.{length-put, put-below, put-past, put-drop}
 use Rattle.lines.specs.Outcomes.{Outcome, refused, taken}
@@ -30,7 +28,7 @@ use Rattle.records.specs.Records.{as-pair, held-list, agrees, ends-of, weights-
 use Rattle.records.proofs.Copies.{length-ends-of, length-copied-out, copied-out-none, copied-out-pairs, agrees-room}
 use Rattle.kandurzo.specs.declared.Changed.{Changed}
 use Rattle.kandurzo.specs.declared.Solved.{Solved}
-use Rattle.kandurzo.specs.Buffers.{buffer, any-short, in-front, work-words}
+use Rattle.kandurzo.specs.Buffers.{buffer, any-short, work-words}
 use Rattle.kandurzo.specs.Gate.{gate-number}
 use Rattle.kandurzo.specs.Listing.{head-of}
 use Rattle.kandurzo.specs.Reading.{read-buffers, read-outcome, read-head, records-front, Read-call}
@@ -39,6 +37,7 @@ use Rattle.kandurzo.proofs.Gates.{gate-open}
 use Rattle.kandurzo.proofs.Readings.{reads-file, read-held, read-agrees}
 use Rattle.kandurzo.proofs.Taken.{held-is-list}
 use Rattle.answer.specs.declared.Answer.{Answer}
+use Rattle.kandurzo.proofs.Sheets.{found-front}
 use Rattle.answer.specs.Answers.{refusal-of, group-answer, answer-to, members-after, Answers, Room-enough, solved-of, Handed-over, Sheeted}
 
 abbrev pub answer-of : Changed → Solved → Answer
@@ -51,11 +50,6 @@ answer-of file found = record {
   k = found .k;
   coresize = found .coresize;
 }
-
--- the found group's bytes in front are read back
-pub found-front : (g : Pairs) → is-list g ≡ true → (members : List ℕ) → take (g .n) (in-front (found-of g) members) ≡ found-of g
-unfolding in-front
-found-front g held members = take-at (found-of g) _ _ (found-length g held)
 
 -- the words past the first m pairs are as they were
 out-past : (ps : List Pair) (ws : List ℕ) (m : ℕ) → Room-out ps ws m → 12288 ≤ length ws → Same-past m ws (copied-out ps ws m)

@@ -11,13 +11,13 @@ use mathlib.Core.List.{List, [], _∷_}
 use Prim.Native.Nat.{ℕ, zero, suc, _≤_}
 use native.Mathlib.Omega.{arith}
 use lib.ListN.{length, take}
-use borrow.Author.Tests.{ne-eqb}
 use Rattle.theory.specs.Lists as Lists
 use Rattle.theory.specs.Lists.{Pairs}
 use Rattle.theory.specs.Refusals.{Cause, cause, refusal, if-taken}
 use Rattle.theory.specs.Check.{check-number}
 use Rattle.theory.specs.Surplus.{surplus-number}
 use Rattle.theory.proofs.Tests.{tests, no}
+use Rattle.theory.proofs.Refusals.{if-taken-old}
 use Rattle.pairs.proofs.Keeps.{counts-once}
 use Rattle.lines.specs.Outcomes.{Outcome, refused, taken}
 use Rattle.pairfile.specs.Promise.{all-once}
@@ -119,7 +119,7 @@ every-list-solved g h ps members cores shares work r members′ cores′ shares�
     (omega (arith, n-is lent), (omega (arith, n-is lent), (omega (arith, m-is lent), w))) in
     record { number = z; handed = rw (lent-list lent) at (call .handed z); left = call .left ∙ left-open work z }
 
--- the number of check is the sheet's
+-- check's number is that of the group and the shares
 module _ {g : Pairs} {h : Head} {ps : List Pair} (lent : Lent g h ps) (members shares work : List ℕ)
     (a : g .n ≤ length members) (d : length (g .pairs) ≤ length shares) (w : 16384 ≤ length work) {v : Verdict} {work′ : List ℕ}
     (call : Check-call h ps members shares work v work′) where
@@ -157,11 +157,6 @@ every-list-compared g h ps t s d lent a b call =
 
 -- ---- refusals
 
--- beside a refusal the old stays
-not-taken : {A : Type 0} (k : ℕ) (new old : A) → (k ≡ 0 → ⊥) → if-taken k new old ≡ old
-unfolding if-taken
-not-taken k new old n = rw (ne-eqb k 0 n)
-
 -- a refused file has no pairs
 read-refused : (o : Outcome Pairs) (ps : List Pair) → (reading-of o .number ≡ 0 → ⊥) → records-front (pairs-of o) ps ≡ ps
 unfolding reading-of pairs-of records-front as-records
@@ -171,11 +166,11 @@ read-refused (taken g) ps n = absurd (n refl)
 pub refusals-keep : Refusals-keep
 refusals-keep = record {
   add = λ h ps a b r ps′ call n.
-      (call .head ∙ not-taken _ _ h (λ z. n (call .number ∙ z)), call .list ∙ not-taken _ _ ps (λ z. n (call .number ∙ z)));
+      (call .head ∙ if-taken-old _ _ h (λ z. n (call .number ∙ z)), call .list ∙ if-taken-old _ _ ps (λ z. n (call .number ∙ z)));
   remove = λ h ps a b r ps′ call n.
-      (call .head ∙ not-taken _ _ h (λ z. n (call .number ∙ z)), call .list ∙ not-taken _ _ ps (λ z. n (call .number ∙ z)));
+      (call .head ∙ if-taken-old _ _ h (λ z. n (call .number ∙ z)), call .list ∙ if-taken-old _ _ ps (λ z. n (call .number ∙ z)));
   read = λ bytes ps work r ps′ work′ call n. call .records ∙ read-refused _ ps (λ z. n (call .number ∙ z));
-  peel = λ h ps order cores work r order′ cores′ work′ call n. (call .order-is ∙ not-taken r _ order n, call .cores-are ∙ not-taken r _ cores n);
+  peel = λ h ps order cores work r order′ cores′ work′ call n. (call .order-is ∙ if-taken-old r _ order n, call .cores-are ∙ if-taken-old r _ cores n);
   solve = λ h ps members cores shares work r members′ cores′ shares′ work′ call n. let no = call .refused n in (no .1, no .2, no .3);
 }
 

@@ -4,10 +4,10 @@
 --   solve-alone, solve-accepted    solve's answer follows from the input alone, and check accepts it
 -- Assumes nothing.
 use mathlib.Core.Path.{_≡_, refl, sym, ap, _∙_}
-use mathlib.Core.Bool.{true, false, _||_}
+use mathlib.Core.Bool.{true}
 use mathlib.Core.Option.{some}
-use mathlib.Core.List.{List, [], _∷_}
-use Prim.Native.Nat.{ℕ, zero, suc, _≤_, _<_}
+use mathlib.Core.List.{List}
+use Prim.Native.Nat.{ℕ, _≤_, _<_}
 use native.Mathlib.Omega.{arith}
 use lib.Dec.{eqb}
 use lib.ListN.{length, getD, take, drop, length-append, length-drop, List·getD-append}
@@ -18,14 +18,15 @@ use Rattle.theory.specs.Lists.{Pairs, pair, is-list}
 use Rattle.theory.specs.Groups.{size, is-group, everyone}
 use Rattle.theory.specs.Leaving.{leaving, remainder}
 use Rattle.theory.specs.Cores.{core-number, core-numbers}
-use Rattle.theory.specs.Splits.{shares-good, is-split, pair-in-core, wholly-first, outside-good}
+use Rattle.theory.specs.Splits.{is-split}
 use Rattle.theory.specs.Refusals.{cause, refusal, if-taken}
 use Rattle.theory.specs.Check.{check-causes, check-number}
 use Rattle.theory.specs.Promise.{Accepted-exactly, Best-accepted, Core-exact, Leaving-steps, Leaving-everyone}
 use Rattle.theory.proofs.Promises.{accepted-exactly, best-accepted, core-exact, leaving-steps, leaving-everyone}
 use Rattle.theory.proofs.Tables.{table-at, length-table}
-use Rattle.theory.proofs.Tests.{tests, and-iff, no, by-test}
+use Rattle.theory.proofs.Tests.{tests, by-test}
 use Rattle.theory.proofs.Leaving.{left-behind-same}
+use Rattle.theory.proofs.Splits.{shares-length, outside-at}
 use Rattle.lines.specs.Outcomes.{refused}
 use Rattle.verify.specs.declared.Verdict.{Verdict}
 use Rattle.records.specs.declared.Pair.{Pair}
@@ -43,15 +44,7 @@ use Rattle.kandurzo.proofs.Gates.{all-long, gate-open}
 use Rattle.kandurzo.proofs.Judgements.{gate-then}
 use Rattle.kandurzo.proofs.Taken.{held-is-list, length-held}
 
--- one share for each pair
-shares-length : (q : ℕ) (ps : List Lists.Pair) (xs : List ℕ) → shares-good q ps xs ≡ true → length xs ≡ length ps
-unfolding shares-good
-shares-length q [] [] e = refl
-shares-length q [] (x ∷ xs) e = no e
-shares-length q (p ∷ ps) [] e = no e
-shares-length q (p ∷ ps) (x ∷ xs) e = ap suc (shares-length q ps xs ((simp tests at e) .1))
-
--- ---- answers
+-- ---- peel
 
 -- a call of peel that refuses nothing has a list as it is held
 module _ (h : Head) (ps : List Pair) (order cores work : List ℕ) {r : ℕ} {order′ cores′ work′ : List ℕ}
@@ -97,6 +90,8 @@ module _ (h : Head) (ps : List Pair) (order cores work : List ℕ) {r : ℕ} {or
 pub peel-exact : Peel-exact
 unfolding Peel-exact
 peel-exact h ps order cores work r order′ cores′ work′ call z = exact h ps order cores work call z
+
+-- ---- check and solve
 
 pub check-exact : Check-exact
 unfolding Check-exact Best-accepted
@@ -159,16 +154,6 @@ solve-accepted h ps members cores shares work r members′ cores′ shares′ wo
     let o = call .handed z .optimal in
     (y, (rw y at (check .p)) ∙ sym (o .inside-count), (rw y at (check .q)) ∙ sym (o .modules))
 
--- the share of a pair with an end outside the core
-outside-at : (u : Pairs) (k q : ℕ) (ps : List Lists.Pair) (xs : List ℕ) (j : ℕ) → outside-good u k q ps xs ≡ true → j < length ps →
-    pair-in-core u k (getD ps j (pair 0 0)) ≡ false → getD xs j 0 ≡ wholly-first u q (getD ps j (pair 0 0))
-unfolding outside-good
-outside-at u k q [] xs j e l n = absurd (omega arith)
-outside-at u k q (p ∷ ps) [] j e l n = no e
-outside-at u k q (p ∷ ps) (x ∷ xs) zero e l n = (simp tests at (rw n at e)) .0
-outside-at u k q (p ∷ ps) (x ∷ xs) (suc j) e l n =
-    outside-at u k q ps xs j (and-iff (pair-in-core u k p || eqb x (wholly-first u q p)) (outside-good u k q ps xs) .0 e .1) (omega arith) n
-
 -- buffers that are the same past k entries have one length
 same-rest : (k : ℕ) (xs ys : List ℕ) → k ≤ length xs → k ≤ length ys → drop k xs ≡ drop k ys → length xs ≡ length ys
 same-rest k xs ys a b e = omega (arith, ap length e, length-drop k xs, length-drop k ys)
@@ -209,8 +194,8 @@ module _ (h : Head) (ps : List Pair) (members cores shares work : List ℕ) {r s
           same-length = same-rest _ shares′ shares″ (shares-enough h ps members cores shares work one z)
               (shares-enough h ps members cores shares work two (sym same-number ∙ z)) rest;
           outside = λ j l n.
-              sym (getD-take _ shares′ j 0 l) ∙ outside-at _ (r .k) (r .q) _ _ j (a .outside) l n
-              ∙ rw q (sym (outside-at _ (s .k) (s .q) _ _ j (b .outside) l (rw (← k) n))) ∙ getD-take _ shares″ j 0 l;
+              sym (getD-take _ shares′ j 0 l) ∙ outside-at _ (r .k) (r .q) _ _ j (pair 0 0) (a .outside) l n
+              ∙ rw q (sym (outside-at _ (s .k) (s .q) _ _ j (pair 0 0) (b .outside) l (rw (← k) n))) ∙ getD-take _ shares″ j 0 l;
           past = rest;
         },
         λ n. absurd (n z),

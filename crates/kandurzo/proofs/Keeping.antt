@@ -25,6 +25,7 @@ use Rattle.theory.specs.Lists.{Pairs, pair, smaller-first, rising, is-list}
 use Rattle.theory.specs.Refusals.{refusal, if-taken}
 use Rattle.theory.proofs.Tests.{tests, no, by-test}
 use Rattle.theory.proofs.Lists.{listed, is-listed}
+use Rattle.theory.proofs.Refusals.{if-taken-new}
 use Rattle.pairs.specs.Held.{same-ends, is-held, insert-pair, remove-pair, with-pair, without-pair, smaller-first-pair}
 use Rattle.pairs.specs.Causes.{add-causes, remove-causes}
 use Rattle.pairs.proofs.Order.{before-not-same, same-refl, same-sym}
@@ -101,11 +102,6 @@ pub record Passed (k : ℕ) (new : Head) (after : List Pair) (r : Changed) (ps�
   pub taken : k ≡ 0
   pub head : r .head ≡ new
   pub list : ps′ ≡ after
-
--- it leaves the new
-if-taken-new : {A : Type 0} (k : ℕ) (x y : A) → k ≡ 0 → if-taken k x y ≡ x
-unfolding if-taken
-if-taken-new k x y e = rw e
 
 module _ {k : ℕ} {new : Head} {after : List Pair} {r : Changed} {ps′ : List Pair} where
   -- from the three clauses of a call

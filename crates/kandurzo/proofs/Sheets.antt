@@ -3,7 +3,7 @@
 --   sheet-solves     narrowed, shares and core numbers are those of the lent buffers
 --   some-modules     the found group has a module
 --   handed           with the float this is what solve hands out
---   members-rest     behind the found group the member bytes are as they were
+--   found-front      the found group's bytes are read back from the front
 -- Assumes nothing.
 use mathlib.Core.Path.{_≡_, refl, sym, ap, _∙_}
 use mathlib.Core.Bool.{true}
@@ -87,9 +87,7 @@ module _ (g : Pairs) (held : is-list g ≡ true) (members cores shares members�
         float = refl;
       }
 
--- past the modules the member bytes are as they were
-pub members-rest : (g : Pairs) → is-list g ≡ true → (members members′ : List ℕ) → members′ ≡ in-front (found-of g) members →
-    drop (g .n) members′ ≡ drop (g .n) members
+-- the found group's bytes are read back from the front
+pub found-front : (g : Pairs) → is-list g ≡ true → (members : List ℕ) → take (g .n) (in-front (found-of g) members) ≡ found-of g
 unfolding in-front
-members-rest g held members members′ is =
-    rw (is, found-length g held) (drop-at (found-of g) (drop (g .n) members) (g .n) (found-length g held))
+found-front g held members = take-at (found-of g) _ _ (found-length g held)

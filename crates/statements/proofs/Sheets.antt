@@ -1,36 +1,28 @@
 -- What solve hands out of a list of ones, in document 03's words.
---   length-good     a split has one share for each pair
 --   in-front-as     a buffer whose entries past the first k stay has its first k entries in front
 --   found-as        what is handed out is document 03's
 -- Assumes nothing.
-use mathlib.Core.Path.{_≡_, refl, sym, ap, _∙_}
+use mathlib.Core.Path.{_≡_, sym, _∙_}
 use mathlib.Core.Bool.{true}
-use mathlib.Core.List.{List, [], _∷_}
-use Prim.Native.Nat.{ℕ, suc}
+use mathlib.Core.List.{List}
+use Prim.Native.Nat.{ℕ}
 use native.Mathlib.Omega.{arith}
 use lib.ListN.{length, take, drop, take-append-drop}
 use Rattle.theory.specs.Lists as Lists
-use Rattle.theory.specs.Groups.{size, is-group}
-use Rattle.theory.specs.Splits.{shares-good, is-split}
+use Rattle.theory.specs.Groups.{size, found-of}
+use Rattle.theory.specs.Splits.{is-split}
 use Rattle.theory.specs.Ratio.{float-ratio}
 use Rattle.theory.specs.Plain as plain
 use Rattle.theory.specs.Plain.{weighted}
-use Rattle.theory.proofs.Tests.{tests, no}
+use Rattle.theory.proofs.Tests.{tests}
 use Rattle.theory.proofs.Plain.{is-list-plain, inside-plain, is-split-plain, greatest-load-plain, rounded-up-plain}
+use Rattle.theory.proofs.Splits.{shares-length}
 use Rattle.theory.proofs.PlainCores.{core-plain, core-numbers-plain, outside-good-plain}
 use Rattle.kandurzo.specs.declared.Solved.{Solved}
 use Rattle.kandurzo.specs.Buffers as ours
 use Rattle.kandurzo.specs.Solving.{Handed}
-use Rattle.kandurzo.proofs.Sheets.{members-rest}
+use Rattle.kandurzo.proofs.Sheets.{found-front}
 use Rattle.statements.specs.Entry.{in-front, ratio, Found-as}
-
--- one share for each pair
-pub length-good : (q : ℕ) (ps : List Lists.Pair) (xs : List ℕ) → shares-good q ps xs ≡ true → length xs ≡ length ps
-unfolding shares-good
-length-good q [] [] e = refl
-length-good q [] (x ∷ xs) e = no e
-length-good q (p ∷ ps) [] e = no e
-length-good q (p ∷ ps) (x ∷ xs) e = ap suc (length-good q ps xs ((simp tests at e) .1))
 
 -- where the entries past the first k are the old ones, the first k stand in front of them
 pub in-front-as : (k : ℕ) (new old : List ℕ) → length (take k new) ≡ k → drop k new ≡ drop k old → new ≡ in-front (take k new) old
@@ -62,14 +54,17 @@ module _ (g : plain.Pairs) (held : plain.is-list g ≡ true) (a c d x y z : List
   top-load : plain.greatest-load g (size group) shares ≡ plain.inside g group
   top-load = sym (greatest-load-plain g (size group) shares) ∙ rw q-is at (out .optimal .top-load) ∙ p-is
 
-  -- the two fill their places
-  length-group : length group ≡ weighted g .n
-  unfolding is-group
-  length-group = (simp tests at (out .optimal .is-a-group)) .0
-
+  -- the shares fill their places
   length-shares : length shares ≡ length (weighted g .pairs)
   unfolding is-split
-  length-shares = length-good (size group) (weighted g .pairs) shares ((simp tests at split) .1)
+  length-shares = shares-length (size group) (weighted g .pairs) shares ((simp tests at split) .1)
+
+  -- and the group stands in front of the member bytes
+  group-front : x ≡ in-front group a
+  unfolding in-front ours.in-front
+  group-front =
+      let same : group ≡ found-of (weighted g) = rw (out .members-are) (found-front (weighted g) (is-list-plain g ∙ held) a) in
+      out .members-are ∙ rw same
 
   pub found-as : r .number ≡ 0 → Found-as g group shares r a x c y d z
   unfolding Found-as ratio float-ratio in-front ours.in-front
@@ -83,7 +78,7 @@ module _ (g : plain.Pairs) (held : plain.is-list g ≡ true) (a c d x y z : List
     k-is,
     out .core-size ∙ rw (core-plain g (r .k), k-is),
     rw (p-is, q-is) at (out .float),
-    in-front-as _ x a length-group (members-rest (weighted g) (is-list-plain g ∙ held) a x (out .members-are)),
+    group-front,
     rw (core-numbers-plain g held) at (out .cores-are),
     in-front-as _ z d length-shares (out .shares-rest),
   )

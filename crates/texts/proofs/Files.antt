@@ -34,7 +34,7 @@ use Rattle.sheetfile.proofs.BestSheets.{best-writable}
 use Rattle.sheetfile.proofs.ReadsBack.{accepts-back}
 use Rattle.answer.specs.declared.Answer.{Answer}
 use Rattle.answer.specs.Answers.{refusal-of, group-answer, answer-to, members-after, Answers, solved-of, Sheeted}
-use Rattle.answer.proofs.Answering.{found-front}
+use Rattle.kandurzo.proofs.Sheets.{found-front}
 use Rattle.texts.specs.Texts.{refusal-text, group-text, group-printed, certificate, Group-first}
 use Rattle.texts.specs.Contracts.{Prints, Sheet-due, Sheet-printed, answer-lines, sheet-lines}
 use Rattle.texts.proofs.Lengths.{group-length, sheet-length}
