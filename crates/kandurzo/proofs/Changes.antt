@@ -26,7 +26,7 @@ use Rattle.pairs.specs.Causes.{pair-causes}
 use Rattle.pairs.specs.Located.{Rising-words, located}
 use Rattle.pairs.specs.declared.Place.{Place}
 use Rattle.pairs.specs.Shifts.{insert-at, delete-at}
-use Rattle.pairs.proofs.Causes.{pair-good}
+use Rattle.pairs.proofs.Causes.{modules-known, pair-good}
 use Rattle.pairs.proofs.Keeps.{remove-list}
 use Rattle.pairs.proofs.Words.{holds-rising, place-within, place-held, insert-holds, laid-inserted, length-insert, laid-freed, length-delete}
 use Rattle.records.specs.declared.Head.{Head}
@@ -152,14 +152,14 @@ module _ (h : Head) (t : Bool) (len : ℕ) (words : List ℕ) (ready : Ready h t
   rises : Rising-words (h .m) words
   rises = ready-rising ready yes
 
-  edit-added : (a b k : ℕ) → k ≡ 0 → refusal (pair-causes (h .n) a b) ≡ 0 → is-held (smaller-first-pair a b) now-held ≡ false →
+  edit-added : (a b k : ℕ) → k ≡ 0 → refusal (pair-causes 0 (h .n) a b) ≡ 0 → is-held (smaller-first-pair a b) now-held ≡ false →
       (h .m < 4096) × (h .m < len) → let p = smaller-first-pair a b in
       Edited h len k (head-of (h .n) (h .m + 1)) (h .m + 1) (insert-pair p now-held) (insert-at (h .m) (place-of p now-held) p words)
   unfolding edit-of if-taken laid-list smaller-first-pair
   edit-added a b k z fine free less =
       let p : Pair = smaller-first-pair a b in
       let k0 : eqb k 0 ≡ true = eq-eqb k 0 z in
-      let good = pair-good (h .n) a b fine in
+      let good = pair-good (h .n) a b (modules-known (h .n) a b fine) in
       let l = listed _ (insert-holds (h .n) (h .m) p words (ready .holds yes) (good .0) (good .1) (good .2) free (less .0) .listed) in
       record {
         long = length-insert (h .m) (place-of p now-held) p words (place-within (h .m) p words) (less .0) (rises .long) ∙ long;

@@ -135,7 +135,7 @@ module _ (h : Head) (ps : List Pair) (a b : ℕ) (r : Changed) (ps′ : List Pai
   add-round : Add-says h ps a b r ps′ → Add-says h ps b a r ps′
   unfolding added
   add-round says =
-      let k : add-number h ps a b ≡ add-number h ps b a = unfold add-number add-causes in (rw (causes-round a b (held-list h ps .n), pair-round a b)) in
+      let k : add-number h ps a b ≡ add-number h ps b a = unfold add-number add-causes in (rw (causes-round a b 0 (held-list h ps .n), pair-round a b)) in
       record { number = says .number ∙ k; head = rw k at (says .head); list = rw (k, pair-round a b) at (says .list) }
 
   -- and so does remove
@@ -143,7 +143,7 @@ module _ (h : Head) (ps : List Pair) (a b : ℕ) (r : Changed) (ps′ : List Pai
   unfolding removed
   remove-round says =
       let k : remove-number h ps a b ≡ remove-number h ps b a =
-      unfold remove-number remove-causes in (rw (causes-round a b (held-list h ps .n), pair-round a b)) in
+      unfold remove-number remove-causes in (rw (causes-round a b 0 (held-list h ps .n), pair-round a b)) in
       record { number = says .number ∙ k; head = rw k at (says .head); list = rw (k, pair-round a b) at (says .list) }
 
 -- 2,5 is the same pair as 5,2: add and remove answer and leave the same, whichever module is named first

@@ -20,28 +20,28 @@ use Rattle.pairs.proofs.Causes.{refusal-first, pair-then}
 
 module _ (d : Bool) (n a b : ℕ) where
   abbrev pub First : ℕ
-  First = refusal (cause 13 d ∷ pair-causes n a b)
+  First = refusal (cause 13 d ∷ pair-causes 0 n a b)
 
-  pub first-none : First ≡ 0 → (d ≡ false) × (refusal (pair-causes n a b) ≡ 0)
-  first-none e = refusal-none 12 d (pair-causes n a b) e
+  pub first-none : First ≡ 0 → (d ≡ false) × (refusal (pair-causes 0 n a b) ≡ 0)
+  first-none e = refusal-none 12 d (pair-causes 0 n a b) e
 
-  pub none-first : d ≡ false → refusal (pair-causes n a b) ≡ 0 → First ≡ 0
-  none-first e h = refusal-passed 13 d (pair-causes n a b) e ∙ h
+  pub none-first : d ≡ false → refusal (pair-causes 0 n a b) ≡ 0 → First ≡ 0
+  none-first e h = refusal-passed 13 d (pair-causes 0 n a b) e ∙ h
 
   -- these stand first
-  order-first : (rest : List Cause) → (First ≡ 0 → ⊥) → refusal (cause 13 d ∷ (pair-causes n a b ++ rest)) ≡ First
-  order-first rest h = refusal-first (cause 13 d ∷ pair-causes n a b) rest h
+  order-first : (rest : List Cause) → (First ≡ 0 → ⊥) → refusal (cause 13 d ∷ (pair-causes 0 n a b ++ rest)) ≡ First
+  order-first rest h = refusal-first (cause 13 d ∷ pair-causes 0 n a b) rest h
 
   -- then the others
-  order-rest : (rest : List Cause) → First ≡ 0 → refusal (cause 13 d ∷ (pair-causes n a b ++ rest)) ≡ refusal rest
-  order-rest rest e = let x = first-none e in refusal-passed 13 d (pair-causes n a b ++ rest) (x .0) ∙ pair-then n a b (x .1) rest
+  order-rest : (rest : List Cause) → First ≡ 0 → refusal (cause 13 d ∷ (pair-causes 0 n a b ++ rest)) ≡ refusal rest
+  order-rest rest e = let x = first-none e in refusal-passed 13 d (pair-causes 0 n a b ++ rest) (x .0) ∙ pair-then 0 n a b (x .1) rest
 
 -- causes in a row, none of which is met
-none-of-two : (n a b : ℕ) (ds : List Cause) → refusal (pair-causes n a b ++ ds) ≡ 0 → (refusal (pair-causes n a b) ≡ 0) × (refusal ds ≡ 0)
+none-of-two : (n a b : ℕ) (ds : List Cause) → refusal (pair-causes 0 n a b ++ ds) ≡ 0 → (refusal (pair-causes 0 n a b) ≡ 0) × (refusal ds ≡ 0)
 none-of-two n a b ds e =
-    by-test (eqb (refusal (pair-causes n a b)) 0)
-    (λ f. let z = eqb-true _ 0 f in (z, sym (pair-then n a b z ds) ∙ e))
-    (λ f. let some = eqb-false _ 0 f in absurd (some (sym (refusal-first (pair-causes n a b) ds some) ∙ e)))
+    by-test (eqb (refusal (pair-causes 0 n a b)) 0)
+    (λ f. let z = eqb-true _ 0 f in (z, sym (pair-then 0 n a b z ds) ∙ e))
+    (λ f. let some = eqb-false _ 0 f in absurd (some (sym (refusal-first (pair-causes 0 n a b) ds some) ∙ e)))
 
 module _ (d : Bool) (g : Pairs) (full : Bool) (a b : ℕ) where
   pub add-13 : d ≡ true → refusal (add-causes d g full a b) ≡ 13
@@ -68,7 +68,7 @@ module _ (d : Bool) (g : Pairs) (full : Bool) (a b : ℕ) where
   add-taken e t u = order-rest d (g .n) a b _ e ∙ rw (t, u)
 
   pub add-none : refusal (add-causes d g full a b) ≡ 0 →
-      (d ≡ false) × (refusal (pair-causes (g .n) a b) ≡ 0) × (is-held (smaller-first-pair a b) (g .pairs) ≡ false) × (full ≡ false)
+      (d ≡ false) × (refusal (pair-causes 0 (g .n) a b) ≡ 0) × (is-held (smaller-first-pair a b) (g .pairs) ≡ false) × (full ≡ false)
   unfolding add-causes
   add-none e =
       let x = refusal-none 12 _ _ e in

@@ -24,7 +24,7 @@ use Rattle.theory.specs.Lists.{pair, is-list}
 use Rattle.theory.proofs.Tests.{tests}
 use Rattle.theory.proofs.Lists.{listed}
 use Rattle.pairs.specs.Held.{is-held, insert-pair, remove-pair, with-pair, without-pair, smaller-first-pair}
-use Rattle.pairs.proofs.Causes.{pair-taken, pair-good}
+use Rattle.pairs.proofs.Causes.{modules-known, pair-good}
 use Rattle.pairs.proofs.Changes.{insert-length, remove-length, insert-all, remove-all}
 use Rattle.pairs.proofs.Keeps.{insert-list, remove-list, counts-once}
 use Rattle.pairfile.proofs.Names.{Kept}
@@ -130,7 +130,7 @@ module _ (h : Head) (ps : List Pair) (a b : ℕ) where
   taken-addable e =
       let x = add-none _ (held-list h ps) _ a b e in
       let agreed = not-false _ (x .0) in
-      let ends = pair-taken (h .n) a b (unfold held-list in (x .1)) in
+      let ends = modules-known (h .n) a b (unfold held-list in (x .1)) in
       let few = listed (held-list h ps) (held-is-list h ps agreed) .short in
       let free = full-less h (length ps) (omega (arith, few, length-held h ps agreed)) (held-few h ps agreed) (x .3) in
       record { agreed = agreed; first = ends .0; second = ends .1; different = ends .2; new = x .2; few = free .0; room = free .1 }
@@ -182,7 +182,7 @@ module _ (h : Head) (ps : List Pair) (a b : ℕ) (taken : add-number h ps a b �
 
   pub added-list : is-list (with-pair new-pair (held-list h ps)) ≡ true
   added-list =
-      let good = pair-good (h .n) a b (ends-fit (h .n) a b (passed .first) (passed .second) (passed .different)) in
+      let good = pair-good (h .n) a b (passed .first, passed .second, passed .different) in
       insert-list (held-list h ps) new-pair (held-is-list h ps (passed .agreed)) (unfold held-list in (good .0)) (good .1) (good .2) (passed .new)
       (omega (arith, length-held h ps (passed .agreed), passed .few))
 

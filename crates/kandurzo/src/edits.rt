@@ -41,12 +41,12 @@ fn refused(number: u32, head: Head) -> Edit
 
 // The refusals that come first in both: 13, 4, 5.
 fn first_number(head: Head, agreed: bool, a: u32, b: u32) -> u32
-    ensures { λ r. ⌜ r ≡ refusal (cause 13 (not agreed) ∷ pair-causes (head .n) a b) ⌝ }
+    ensures { λ r. ⌜ r ≡ refusal (cause 13 (not agreed) ∷ pair-causes 0 (head .n) a b) ⌝ }
 {
     if !agreed {
         return 13;
     }
-    pair_number(head.n, a, b)
+    pair_number(0, head.n, a, b)
 }
 
 // Whether the pair of a and b is held among the first m, and its place.

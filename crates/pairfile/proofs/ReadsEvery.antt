@@ -1,5 +1,5 @@
 -- Every file of different pairs is taken: the pairs of its lines, put one by one into an empty list, make the list that it names.
---   line-fit              a line of two different modules is not refused by 4 or 5
+--   line-two              a line of two different modules
 --   Gathered, gathered    the list of the pairs that some lines name
 --   gathered-read         the file of these lines is taken as that list
 --   read-every            the whole file
@@ -7,16 +7,14 @@
 use mathlib.Core.Path.{_≡_, refl}
 use mathlib.Core.Bool.{true, false}
 use mathlib.Core.List.{List, [], _∷_}
-use Prim.Native.Nat.{ℕ, _≤_}
+use Prim.Native.Nat.{ℕ, _≤_, _<_}
 use native.Mathlib.Omega.{arith}
 use borrow.Author.Tests.{eq-eqb}
 use lib.ListN.{length}
 use Rattle.theory.specs.Basics.{all, mark}
 use Rattle.theory.specs.Lists.{Pair, Pairs, ends-in-range}
-use Rattle.theory.specs.Refusals.{refusal}
 use Rattle.theory.proofs.Tests.{tests, no}
 use Rattle.pairs.specs.Held.{is-held, insert-pair, smaller-first-pair}
-use Rattle.pairs.specs.Causes.{pair-causes}
 use Rattle.pairs.proofs.Order.{same-refl}
 use Rattle.pairs.proofs.Changes.{insert-length}
 use Rattle.pairs.proofs.Keeps.{counts-once}
@@ -24,15 +22,14 @@ use Rattle.lines.specs.Outcomes.{taken}
 use Rattle.pairfile.specs.File.{read-file, file-of}
 use Rattle.pairfile.specs.Promise.{times-named, Names, all-once, names-two, Different}
 use Rattle.pairfile.proofs.Names.{Kept, kept-none, kept-insert, kept-list, insert-mark, mark-same}
-use Rattle.pairfile.proofs.Naming.{ends-fit}
 use Rattle.pairfile.proofs.ReadsBack.{read-back}
 
--- a line of two different modules is not refused by 4 or 5
-line-fit : (n : ℕ) (l : Pair) → names-two n l ≡ true → refusal (pair-causes n (l .a) (l .b)) ≡ 0
+-- a line of two different modules
+line-two : (n : ℕ) (l : Pair) → names-two n l ≡ true → (l .a < n) × (l .b < n) × (l .a ≡ l .b → ⊥)
 unfolding names-two ends-in-range
-line-fit n l e =
+line-two n l e =
     let e′ = simp tests at e in
-    ends-fit n (l .a) (l .b) (omega (arith, e′ .0)) (omega (arith, e′ .0)) (λ d. no (rw (eq-eqb (l .a) (l .b) d) at (e′ .1)))
+    (omega (arith, e′ .0), omega (arith, e′ .0), λ d. no (rw (eq-eqb (l .a) (l .b) d) at (e′ .1)))
 
 -- the list of the pairs that some lines name
 pub record Gathered (n : ℕ) (ls : List Pair) : Type 0 where
@@ -56,7 +53,7 @@ module _ (n : ℕ) (l : Pair) (ls : List Pair) (fit : names-two n l ≡ true) (o
       let p = smaller-first-pair (l .a) (l .b) in
       record {
         pairs = insert-pair p (rest .pairs);
-        kept = kept-insert n (l .a) (l .b) (rest .pairs) (line-fit n l fit) line-new (rest .kept);
+        kept = kept-insert n (l .a) (l .b) (rest .pairs) (line-two n l fit) line-new (rest .kept);
         size = omega (arith, insert-length p (rest .pairs), rest .size);
         named = λ r. omega (arith, rest .named r, insert-mark r p (rest .pairs) line-new);
       }

@@ -75,7 +75,7 @@ unmet-split cs ds e = go (refusal cs) refl
 pub record PairTaken (n : ℕ) (held : List Pair) (bs : List ℕ) (x : Named) : Type 0 where
   pub line : Line
   pub found : line-of 4 pair-form bs ≡ some line
-  pub fit : refusal (pair-causes n (first line) (second line)) ≡ 0
+  pub fit : refusal (pair-causes 0 n (first line) (second line)) ≡ 0
   pub new : is-held (x .pair) held ≡ false
   pub pair : x .pair ≡ smaller-first-pair (first line) (second line)
   pub rest : x .rest ≡ line .rest
@@ -89,10 +89,10 @@ pair-taken n held bs x e =
     let l = p .line in
     let s : x ≡ named l = sym (taken-same (p .then)) in
     let last = cause 10 (is-held (smaller-first-pair (first l) (second l)) held) ∷ [] in
-    let fit = unmet-split (pair-causes n (first l) (second l)) last (p .unmet) in
+    let fit = unmet-split (pair-causes 0 n (first l) (second l)) last (p .unmet) in
     let new : is-held (smaller-first-pair (first l) (second l)) held ≡ false =
     by-test (is-held (smaller-first-pair (first l) (second l)) held)
-    (λ t. absurd (omega (arith, rw t at (sym (pair-then n (first l) (second l) fit last) ∙ p .unmet))))
+    (λ t. absurd (omega (arith, rw t at (sym (pair-then 0 n (first l) (second l) fit last) ∙ p .unmet))))
     (λ t. t) in
     record {
       line = l;

@@ -2,26 +2,24 @@
 --   refusal-first    a number given by the causes in front
 --   pair-round, causes-round    2,5 is the same pair as 5,2, and refused alike
 --   pair-then        where two module numbers are not refused the causes behind decide
---   pair-taken       both numbers are then below N, and differ
---   pair-good        so the pair of them, smaller first, is one that a list may hold
+--   numbers-known    both are then modules, as they are numbered, and differ
+--   pair-fit         two such numbers are not refused
+--   modules-known    numbered from 0, both are below N
+--   pair-good        the pair of two such modules, smaller first, is one that a list may hold
 -- Assumes nothing.
 use mathlib.Core.Path.{_≡_, refl, sym, _∙_}
-use mathlib.Core.Bool.{Bool, true, false, _||_, or-comm}
+use mathlib.Core.Bool.{true, false, _&&_, and-comm}
 use mathlib.Core.Logic.{_≢_}
 use mathlib.Core.List.{List, [], _∷_, _++_}
-use Prim.Native.Nat.{ℕ, _<_, min, max}
+use Prim.Native.Nat.{ℕ, _+_, _≤_, _<_, min, max}
 use native.Mathlib.Omega.{arith}
-use lib.Dec.{leb, eqb}
-use borrow.Author.Tests.{leb-false, eqb-true, eqb-false, eq-eqb, ne-eqb}
+use lib.Dec.{eqb}
+use borrow.Author.Tests.{eqb-true, eqb-false, eq-eqb, ne-eqb, le-leb, lt-ltb}
 use Rattle.theory.specs.Lists.{pair, ends-in-range, smaller-first, weight-in-range}
 use Rattle.theory.specs.Refusals.{Cause, cause, refusal}
-use Rattle.theory.proofs.Tests.{tests, no, by-test}
+use Rattle.theory.proofs.Tests.{tests, by-test}
 use Rattle.pairs.specs.Held.{smaller-first-pair}
-use Rattle.pairs.specs.Causes.{module-unknown, self-paired, pair-causes}
-
-neither : (t u : Bool) → (t || u) ≡ false → (t ≡ false) × (u ≡ false)
-neither true u e = no (sym e)
-neither false u e = (refl, e)
+use Rattle.pairs.specs.Causes.{is-module, module-unknown, self-paired, pair-causes}
 
 -- a number given by the first of two lists of causes is given by both together
 pub refusal-first : (cs ds : List Cause) → (refusal cs ≡ 0 → ⊥) → refusal (cs ++ ds) ≡ refusal cs
@@ -43,33 +41,41 @@ module _ (a b : ℕ) where
   self-round = by-test (eqb a b) (λ t. t ∙ sym (eq-eqb b a (sym (eqb-true a b t)))) (λ t. t ∙ sym (ne-eqb b a (λ e. eqb-false a b t (sym e))))
 
   -- and refused alike
-  pub causes-round : (n : ℕ) → pair-causes n a b ≡ pair-causes n b a
+  pub causes-round : (first n : ℕ) → pair-causes first n a b ≡ pair-causes first n b a
   unfolding pair-causes module-unknown
-  causes-round n = rw (or-comm (leb n a) (leb n b), self-round)
+  causes-round first n = rw (and-comm (is-module first n a) (is-module first n b), self-round)
 
--- two numbers that are not refused are below N, and differ; and the causes that stand behind decide
-module _ (n a b : ℕ) (taken : refusal (pair-causes n a b) ≡ 0) where
-  unmet : (module-unknown n a b ≡ false) × (self-paired a b ≡ false)
-  unfolding pair-causes cause refusal
-  unmet =
-      by-test (module-unknown n a b)
-      (λ t. by-test (self-paired a b) (λ u. absurd (omega (arith, simp (t, u) at taken))) (λ u. absurd (omega (arith, simp (t, u) at taken))))
+-- two numbers that are not refused are modules, and differ; and the causes that stand behind decide
+module _ (first n a b : ℕ) (taken : refusal (pair-causes first n a b) ≡ 0) where
+  known : ((is-module first n a && is-module first n b) ≡ true) × (self-paired a b ≡ false)
+  unfolding pair-causes module-unknown cause refusal
+  known =
+      by-test (is-module first n a && is-module first n b)
       (λ t. by-test (self-paired a b) (λ u. absurd (omega (arith, simp (t, u) at taken))) (λ u. (t, u)))
+      (λ t. by-test (self-paired a b) (λ u. absurd (omega (arith, simp (t, u) at taken))) (λ u. absurd (omega (arith, simp (t, u) at taken))))
 
-  pub pair-then : (cs : List Cause) → refusal (pair-causes n a b ++ cs) ≡ refusal cs
-  unfolding pair-causes cause refusal
-  pair-then cs = simp (unmet .0, unmet .1)
+  pub pair-then : (cs : List Cause) → refusal (pair-causes first n a b ++ cs) ≡ refusal cs
+  unfolding pair-causes module-unknown cause refusal
+  pair-then cs = simp (known .0, known .1)
 
-  pub pair-taken : (a < n) × (b < n) × (a ≡ b → ⊥)
-  unfolding module-unknown self-paired
-  pair-taken =
-      let known = neither (leb n a) (leb n b) (unmet .0) in
-      (leb-false n a (known .0), leb-false n b (known .1), eqb-false a b (unmet .1))
+  pub numbers-known : ((first ≤ a) × (a < first + n)) × ((first ≤ b) × (b < first + n)) × (a ≡ b → ⊥)
+  unfolding is-module self-paired
+  numbers-known = let k = simp tests at (known .0) in (k .0, k .1, eqb-false a b (known .1))
 
-  -- so the pair of them, smaller first, is one that a list may hold
-  pub pair-good : let p = smaller-first-pair a b in (ends-in-range n p ≡ true) × (smaller-first p ≡ true) × (weight-in-range p ≡ true)
-  unfolding smaller-first-pair pair ends-in-range smaller-first weight-in-range
-  pair-good =
-      let t = pair-taken in
-      let d : a ≢ b = t .2 in
-      (simp tests (omega (arith, t .0, t .1), omega (arith, t .0, t .1)), simp tests (omega arith), refl)
+-- two modules that differ are not refused
+pub pair-fit : (first n a b : ℕ) → first ≤ a → a < first + n → first ≤ b → b < first + n → (a ≡ b → ⊥) → refusal (pair-causes first n a b) ≡ 0
+unfolding pair-causes module-unknown is-module self-paired cause refusal
+pair-fit first n a b h l i m d =
+    rw (le-leb first a h, lt-ltb a (first + n) l, le-leb first b i, lt-ltb b (first + n) m, ne-eqb a b d)
+
+-- numbered from 0 both are below N
+pub modules-known : (n a b : ℕ) → refusal (pair-causes 0 n a b) ≡ 0 → (a < n) × (b < n) × (a ≡ b → ⊥)
+modules-known n a b taken = let k = numbers-known 0 n a b taken in (omega (arith, k .0), omega (arith, k .1), k .2)
+
+-- the pair of two modules that differ, smaller first, is one that a list may hold
+pub pair-good : (n a b : ℕ) → (a < n) × (b < n) × (a ≡ b → ⊥) →
+    let p = smaller-first-pair a b in (ends-in-range n p ≡ true) × (smaller-first p ≡ true) × (weight-in-range p ≡ true)
+unfolding smaller-first-pair pair ends-in-range smaller-first weight-in-range
+pair-good n a b t =
+    let d : a ≢ b = t .2 in
+    (simp tests (omega (arith, t .0, t .1), omega (arith, t .0, t .1)), simp tests (omega arith), refl)

@@ -1,34 +1,39 @@
 -- Document 01, "Numbers from the input" and "from the state": when add and remove refuse, in their orders.
---   pair-causes     what add, remove and the reader refuse of two module numbers: 4, 5
+--   is-module       whether a number is a module's, as a list or a file numbers its modules
+--   pair-causes     what add, remove and the readers refuse of two module numbers: 4, 5
 --   add-causes      13, 4, 5, 10, 11
 --   remove-causes   13, 4, 5, 14
 -- Assumes nothing: these are definitions.
-use mathlib.Core.Bool.{Bool, _||_, not}
+use mathlib.Core.Bool.{Bool, _&&_, not}
 use mathlib.Core.List.{List, [], _∷_, _++_}
-use Prim.Native.Nat.{ℕ}
-use lib.Dec.{leb, eqb}
+use Prim.Native.Nat.{ℕ, _+_}
+use lib.Dec.{leb, ltb, eqb}
 use Rattle.theory.specs.Lists.{Pairs}
 use Rattle.theory.specs.Refusals.{Cause, cause}
 use Rattle.pairs.specs.Held.{is-held, smaller-first-pair}
 
--- 4: a module number is N or more
-unfoldable pub module-unknown : (n a b : ℕ) → Bool
-module-unknown n a b = leb n a || leb n b
+-- one of the n modules, which are numbered from `first` on: from 0 in a list and in a pair file, from 1 in a DIMACS file
+unfoldable pub is-module : (first n a : ℕ) → Bool
+is-module first n a = leb first a && ltb a (first + n)
+
+-- 4: a module number is N or more; in a DIMACS file, 0 or above N
+unfoldable pub module-unknown : (first n a b : ℕ) → Bool
+module-unknown first n a b = not (is-module first n a && is-module first n b)
 
 -- 5: a module is paired with itself
 unfoldable pub self-paired : (a b : ℕ) → Bool
 self-paired a b = eqb a b
 
--- of two module numbers, in the order that add, remove and the reader share
-unfoldable pub pair-causes : (n a b : ℕ) → List Cause
-pair-causes n a b = cause 4 (module-unknown n a b) ∷ cause 5 (self-paired a b) ∷ []
+-- of two module numbers, in the order that add, remove and the readers share
+unfoldable pub pair-causes : (first n a b : ℕ) → List Cause
+pair-causes first n a b = cause 4 (module-unknown first n a b) ∷ cause 5 (self-paired a b) ∷ []
 
 -- ADD of modules a and b to a list; 13 where head and list disagree, 11 where no record is free
 unfoldable pub add-causes : (disagree : Bool) → Pairs → (full : Bool) → (a b : ℕ) → List Cause
 add-causes disagree g full a b =
-    cause 13 disagree ∷ (pair-causes (g .n) a b ++ (cause 10 (is-held (smaller-first-pair a b) (g .pairs)) ∷ cause 11 full ∷ []))
+    cause 13 disagree ∷ (pair-causes 0 (g .n) a b ++ (cause 10 (is-held (smaller-first-pair a b) (g .pairs)) ∷ cause 11 full ∷ []))
 
 -- REMOVE of modules a and b from a list
 unfoldable pub remove-causes : (disagree : Bool) → Pairs → (a b : ℕ) → List Cause
 remove-causes disagree g a b =
-    cause 13 disagree ∷ (pair-causes (g .n) a b ++ (cause 14 (not (is-held (smaller-first-pair a b) (g .pairs))) ∷ []))
+    cause 13 disagree ∷ (pair-causes 0 (g .n) a b ++ (cause 14 (not (is-held (smaller-first-pair a b) (g .pairs))) ∷ []))
