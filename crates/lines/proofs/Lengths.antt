@@ -1,10 +1,11 @@
 -- How long a line is.
+--   Smalls, no-more, and-small    the numbers of a line, of at most four digits, one by one
 --   spelled-length   a number of at most k + 1 digits takes as many bytes
 --   filled-length    a line takes k bytes more for each such number than its form has
 -- Assumes nothing.
 use mathlib.Core.Bool.{Bool, true, false, cond}
 use mathlib.Core.List.{List, [], _∷_, _++_}
-use Prim.Native.Nat.{ℕ, suc, _+_, _*_, _^_, _≤_, _<_}
+use Prim.Native.Nat.{ℕ, zero, suc, _+_, _*_, _^_, _≤_, _<_}
 use native.Mathlib.Omega.{arith}
 use lib.ListN.{length, getD, drop, length-append}
 use lib.Seq.{getD-drop}
@@ -12,6 +13,20 @@ use Rattle.theory.specs.Basics.{mark}
 use Rattle.lines.specs.Numbers.{spelled}
 use Rattle.lines.specs.Lines.{is-place, places, filled}
 use Rattle.lines.proofs.Spelling.{spell-length, spelled-short}
+
+-- the numbers of a line, one by one
+pub record Smalls (ns : List ℕ) : Type 0 where
+  pub each : (k : ℕ) → getD ns k 0 < 10 ^ 4
+
+pub no-more : Smalls []
+no-more = record { each = λ k. omega arith }
+
+pub and-small : (n : ℕ) {ns : List ℕ} → n ≤ 9999 → Smalls ns → Smalls (n ∷ ns)
+and-small n {ns} h hs = record { each = go }
+  where
+    go : (k : ℕ) → getD (n ∷ ns) k 0 < 10 ^ 4
+    go zero = omega arith
+    go (suc k) = hs .each k
 
 -- a number of at most k + 1 digits
 pub spelled-length : (k n : ℕ) → k ≤ 9 → n < 10 ^ suc k → length (spelled n) ≤ suc k

@@ -5,6 +5,7 @@
 --   reading-holds      they hold it as a list is held
 --   reading-refused    any other number: the file is refused by it
 --   reading-past       the words past those of 4,096 pairs are as they were
+--   ends-small         the two words of a pair that is in range
 --   words-small        each end is below 512, so that it fits a record's 16 bits
 -- Assumes nothing.
 use mathlib.Core.Path.{_≡_, refl, sym, ap, _∙_}
@@ -47,7 +48,7 @@ use Rattle.pairfile.proofs.Taken.{is-file-number, number-range, head-gi
 use Rattle.pairfile.proofs.Accepts.{accepted}
 
 -- the two words of pair j, where all pairs are in range
-ends-small : (n m : ℕ) (words : List ℕ) → all (ends-in-range n) (laid-pairs m words) ≡ true → (j : ℕ) → j < m →
+pub ends-small : (n m : ℕ) (words : List ℕ) → all (ends-in-range n) (laid-pairs m words) ≡ true → (j : ℕ) → j < m →
     (getD words (2 * j) 0 < n) × (getD words (2 * j + 1) 0 < n)
 unfolding ends-in-range pair
 ends-small n m words e j h =

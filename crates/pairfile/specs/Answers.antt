@@ -7,6 +7,7 @@
 --   pairs-or, PairsRead      what read_pairs promises
 --   reading-of, pairs-of, pairs-used   what a reader of words hands back
 --   WordsRead, FileRead      what a reader of words promises, and what read_words does
+--   Ends-small               what write_pairs asks of the pairs in words
 -- Assumes nothing: these are definitions.
 use mathlib.Core.Path.{_≡_}
 use mathlib.Core.List.{List, [], _∷_}
@@ -99,3 +100,7 @@ pub record WordsRead (due : Outcome Pairs) (words words′ : List ℕ) (r : Read
 -- READ_WORDS: those of a pair file
 abbrev pub FileRead : (room : ℕ) → (bytes words words′ : List ℕ) → Reading → Type 0
 FileRead room bytes words words′ r = WordsRead (read-file room bytes) words words′ r
+
+-- both modules of each of the first m pairs are below 512
+pub record Ends-small (m : ℕ) (words : List ℕ) : Type 0 where
+  pub each : (j : ℕ) → j < m → (getD words (2 * j) 0 < 512) × (getD words (2 * j + 1) 0 < 512)

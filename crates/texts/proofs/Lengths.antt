@@ -1,5 +1,4 @@
 -- How long the texts are.
---   Smalls, no-more, and-small         numbers of at most four digits, one by one
 --   refusal-length, accepted-length    a refusal, and an accepted sheet
 --   group-length, sheet-length         the group's lines of a sheet that can be written, and the whole sheet
 -- Assumes nothing.
@@ -22,24 +21,10 @@ use Rattle.lines.specs.Text.{text, between}
 use Rattle.lines.specs.Numbers.{spelled}
 use Rattle.lines.specs.Lines.{is-place, places, filled}
 use Rattle.lines.proofs.Spelling.{spell-length}
-use Rattle.lines.proofs.Lengths.{filled-length}
+use Rattle.lines.proofs.Lengths.{Smalls, no-more, and-small, filled-length}
 use Rattle.sheetfile.specs.Sheet.{head-form, member-form, number-form, share-form, Sheet}
 use Rattle.sheetfile.specs.Writer.{member-lines, number-lines, share-lines, sheet-file, four-digits, Writable}
 use Rattle.texts.specs.Texts.{refusal-text, accepted-form}
-
--- the numbers of a line, one by one
-pub record Smalls (ns : List ℕ) : Type 0 where
-  pub each : (k : ℕ) → getD ns k 0 < 10 ^ 4
-
-pub no-more : Smalls []
-no-more = record { each = λ k. omega arith }
-
-pub and-small : (n : ℕ) {ns : List ℕ} → n ≤ 9999 → Smalls ns → Smalls (n ∷ ns)
-and-small n {ns} h hs = record { each = go }
-  where
-    go : (k : ℕ) → getD (n ∷ ns) k 0 < 10 ^ 4
-    go zero = omega arith
-    go (suc k) = hs .each k
 
 -- ---- lines
 

@@ -4,7 +4,8 @@ use native.Mathlib.Omega.{arith}
 use lib.Seq.{length-take-le}
 use Rattle.lines.specs.Text.{text}
 use Rattle.texts.specs.Texts.{accepted-form}
-use Rattle.texts.proofs.Lengths.{no-more, and-small, refusal-length, accepted-length}
+use Rattle.lines.proofs.Lengths.{no-more, and-small}
+use Rattle.texts.proofs.Lengths.{refusal-length, accepted-length}
 use Rattle.texts.proofs.Files.{prints}
 use Rattle.texts.proofs.Audits.{ratio-small, verdict-refused, verdict-accepted}
 use Rattle.texts.proofs.Whole.{audit-read}
