@@ -1,6 +1,7 @@
 -- What the public calls answer and leave behind; each file opens with what it gives.
 pub mod Listing
 pub mod Reading
+pub mod Writing
 pub mod Edits
 pub mod Buffers
 pub mod Gate
