@@ -118,27 +118,25 @@ fn put_made(file: &mut [u8], n: u32, m: u32, plan: Plan) -> usize {
 
 // ---- the answer
 
-// The line on which the pair stands with a before b; 9,999 where there is none.
+// Whether it is one of the modules of the lines.
+fn on_circle(a: u32) -> bool {
+    256 <= a && a < 512
+}
+
+// The line on which two of them stand, a before b; 65,536 where they are one.
 fn line_naming(a: u32, b: u32) -> u32 {
-    if a < 256 || 511 < a {
-        return 9999;
-    }
-    if b < 256 || 511 < b {
-        return 9999;
-    }
-    if a == b {
-        return 9999;
-    }
-    let apart = (256 + b - a) % 256;
+    let apart = std::num::wrapping_sub_u32(b, a) % 256;
     if apart == 0 {
-        9999
-    } else {
-        256 * (apart - 1) + (a - 256)
+        return 65536;
     }
+    256 * (apart - 1) + a % 256
 }
 
 // Whether one of the first `lines` lines names the pair, in either order.
 pub(crate) fn named(a: u32, b: u32, lines: u32) -> bool {
+    if !on_circle(a) || !on_circle(b) {
+        return false;
+    }
     line_naming(a, b) < lines || line_naming(b, a) < lines
 }
 
