@@ -302,8 +302,10 @@ fn writes_by_hand() {
         assert_eq!(&text[..wanted.len()], wanted);
     }
     let longest: Vec<Pair> = (99..512).flat_map(|a| (a + 1..512).map(move |b| Pair { a, b })).take(4096).collect();
-    let answer = ffi::write_dimacs(Head { n, m: 4096 }, &longest, &mut text);
-    assert_eq!(answer, Written { number: 0, length: 16 + 4096 * 10 });
+    let (head, length) = (Head { n, m: 4096 }, 16 + 4096 * 10);
+    assert_eq!(ffi::write_dimacs(head, &longest, &mut text), Written { number: 0, length: length as u32 });
+    assert!(text[..length] == dimacs::write(&Plain::of(head, &longest)));
+    assert_eq!(read_in(&text[..length]), (Changed { number: 0, head }, longest));
 }
 
 /// Number, head and list of a file.

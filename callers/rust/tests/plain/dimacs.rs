@@ -198,21 +198,22 @@ fn damage_line(random: &mut Random, lines: &mut Vec<Vec<u8>>) {
     }
 }
 
-/// Another number on the `p` line, or on an `e` line, or a pair in the place of an `e` line: of one module, or one that the list has.
+/// Other numbers on the `p` line, another on an `e` line, or a pair in the place of an `e` line: of one module, or one that the list has.
 fn damage_number(random: &mut Random, lines: &mut [Vec<u8>], list: &Plain) {
     let (n, m) = (list.n, list.pairs.len());
     let first = lines.iter().position(|text| text.starts_with(b"p"));
     let edges: Vec<usize> = (0..lines.len()).filter(|&i| lines[i].starts_with(b"e")).collect();
-    let (one, v) = (digits(random, n, m), 1 + random.below(n));
-    let kind = random.below(6);
-    if let (0..2, Some(at)) = (kind, first) {
-        lines[at] = if kind == 0 { format!("p edge {one} {m}\n") } else { format!("p edge {n} {one}\n") }.into();
+    let (one, two, v) = (digits(random, n, m), digits(random, n, m), 1 + random.below(n));
+    let kind = random.below(7);
+    if let (0..3, Some(at)) = (kind, first) {
+        let others = [format!("{one} {m}"), format!("{n} {one}"), format!("{one} {two}")];
+        lines[at] = format!("p edge {}\n", others[kind]).into();
     } else if !edges.is_empty() && m > 0 {
         let (a, b) = list.pairs[random.below(m)];
         let text = match kind {
-            2 => format!("e {v} {v}\n"),
-            3 => format!("e {} {}\n", b + 1, a + 1),
-            4 => format!("e {one} {v}\n"),
+            3 => format!("e {v} {v}\n"),
+            4 => format!("e {} {}\n", b + 1, a + 1),
+            5 => format!("e {one} {v}\n"),
             _ => format!("e {v} {one}\n"),
         };
         lines[edges[random.below(edges.len())]] = text.into();
