@@ -53,15 +53,16 @@ pub fn read(file: &[u8], records: usize) -> Result<Plain, u32> {
     };
     holds.extend(problems[1..].iter().map(|&(at, ..)| (at, 16)));
     holds.extend(edges.iter().filter(|&&(at, ..)| at < first).map(|&(at, ..)| (at, 16)));
-    holds
-        .extend([(2, n < 1 || n > 512), (3, m > 4096), (11, m > records)].iter().filter(|x| x.1).map(|x| (first, x.0)));
+    let true_at =
+        |at, causes: [(u32, bool); 3]| causes.into_iter().filter(|cause| cause.1).map(move |cause| (at, cause.0));
+    holds.extend(true_at(first, [(2, n < 1 || n > 512), (3, m > 4096), (11, m > records)]));
     holds.extend(edges.get(m).map(|&(at, ..)| (at, 17)));
     holds.extend((edges.len() < m).then_some((end, 17)));
     let known = |v| 1 <= v && v <= n;
     let mut pairs = BTreeSet::new();
     for (at, a, b) in edges {
         let again = !pairs.insert((a.min(b), a.max(b)));
-        holds.extend([(4, !known(a) || !known(b)), (5, a == b), (10, again)].iter().filter(|x| x.1).map(|x| (at, x.0)));
+        holds.extend(true_at(at, [(4, !known(a) || !known(b)), (5, a == b), (10, again)]));
     }
     match holds.iter().min_by_key(|(at, number)| (*at, ORDER.iter().position(|x| x == number))) {
         Some((_, number)) => Err(*number),
@@ -118,43 +119,13 @@ pub fn lines(list: &Plain, random: &mut Random) -> Vec<Vec<u8>> {
     lines
 }
 
-/// A line that is wrong somewhere, or in most places.
+/// Lines that are wrong, or wrong in most places, with a bar between them.
+const WRONG: &str = "|cx|c\t|c\r|C| c|cc x|p|p edge|p edge 3|p edge 3 |p edge 3 2 1|p col 3 2|p edges 3 2|P edge 3 2|p  edge 3 2|p edge 3 2\r|\
+                     p edge 3 4097|p edge 513 0|p edge 3 2|e|e 1|e 1 |e 1 2 |e 1 2 3|e 1,2|e 1\t2|E 1 2|a 1 2|e 1 2\r|e +1 2|n 1 2";
+
 fn wrong_line(random: &mut Random) -> Vec<u8> {
-    let some: [&[u8]; 32] = [
-        b"",
-        b"cx",
-        b"c\t",
-        b"c\r",
-        b"C",
-        b" c",
-        b"cc x",
-        b"p",
-        b"p edge",
-        b"p edge 3",
-        b"p edge 3 ",
-        b"p edge 3 2 1",
-        b"p col 3 2",
-        b"p edges 3 2",
-        b"P edge 3 2",
-        b"p  edge 3 2",
-        b"p edge 3 2\r",
-        b"p edge 3 4097",
-        b"p edge 513 0",
-        b"p edge 3 2",
-        b"e",
-        b"e 1",
-        b"e 1 ",
-        b"e 1 2 ",
-        b"e 1 2 3",
-        b"e 1,2",
-        b"e 1\t2",
-        b"E 1 2",
-        b"a 1 2",
-        b"e 1 2\r",
-        b"e +1 2",
-        b"n 1 2",
-    ];
-    [some[random.below(some.len())], b"\n"].concat()
+    let count = WRONG.split('|').count();
+    format!("{}\n", WRONG.split('|').nth(random.below(count)).unwrap()).into_bytes()
 }
 
 /// A number's digits: in range or just outside, or spelled as it must not be.
