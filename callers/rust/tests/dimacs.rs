@@ -287,7 +287,7 @@ fn write() {
     met.are_each(100, &[0, 12, 13]);
 }
 
-/// 13 comes before 12, an empty text is short, and the longest file there is has room.
+/// 13 comes before 12, an empty text is short and so is one of 65,535 bytes, and the longest file there is has room.
 #[test]
 fn writes_by_hand() {
     let list = [Pair { a: 0, b: 1 }, Pair { a: 0, b: 511 }, Pair { a: 7, b: 8 }];
@@ -295,6 +295,8 @@ fn writes_by_hand() {
     assert_eq!(ffi::write_dimacs(Head { n: 511, m }, &list, &mut []), Written { number: 13, length: 0 });
     assert_eq!(ffi::write_dimacs(Head { n, m }, &list, &mut []), Written { number: 12, length: 0 });
     let mut text = vec![b'x'; TEXT];
+    assert_eq!(ffi::write_dimacs(Head { n, m }, &list, &mut text[1..]), Written { number: 12, length: 0 });
+    assert!(text == [b'x'; TEXT]);
     for (m, wanted) in [(0, &b"p edge 512 0\nx"[..]), (3, b"p edge 512 3\ne 1 2\ne 1 512\ne 8 9\nx")] {
         text.fill(b'x');
         let answer = ffi::write_dimacs(Head { n, m }, &list, &mut text);
