@@ -16,7 +16,7 @@ use Rattle.theory.proofs.Refusals.{refusal-met, refusal-passed, refusal-none}
 use Rattle.theory.proofs.Tests.{by-test}
 use Rattle.pairs.specs.Held.{is-held, smaller-first-pair}
 use Rattle.pairs.specs.Causes.{pair-causes, add-causes, remove-causes}
-use Rattle.pairs.proofs.Causes.{refusal-first, pair-then}
+use Rattle.pairs.proofs.Causes.{refusal-first, refusal-split, pair-then}
 
 module _ (d : Bool) (n a b : ℕ) where
   abbrev pub First : ℕ
@@ -38,10 +38,7 @@ module _ (d : Bool) (n a b : ℕ) where
 
 -- causes in a row, none of which is met
 none-of-two : (n a b : ℕ) (ds : List Cause) → refusal (pair-causes 0 n a b ++ ds) ≡ 0 → (refusal (pair-causes 0 n a b) ≡ 0) × (refusal ds ≡ 0)
-none-of-two n a b ds e =
-    by-test (eqb (refusal (pair-causes 0 n a b)) 0)
-    (λ f. let z = eqb-true _ 0 f in (z, sym (pair-then 0 n a b z ds) ∙ e))
-    (λ f. let some = eqb-false _ 0 f in absurd (some (sym (refusal-first (pair-causes 0 n a b) ds some) ∙ e)))
+none-of-two n a b ds e = let z = refusal-split (pair-causes 0 n a b) ds e in (z, sym (pair-then 0 n a b z ds) ∙ e)
 
 module _ (d : Bool) (g : Pairs) (full : Bool) (a b : ℕ) where
   pub add-13 : d ≡ true → refusal (add-causes d g full a b) ≡ 13

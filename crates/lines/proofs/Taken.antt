@@ -2,7 +2,7 @@
 --   refused-not-taken, taken-same    an outcome is one thing
 --   bind-taken                       both steps have been taken
 --   LinePassed, line-passed          a line has its form, and none of its causes is met
---   Given, given-taken, given-bind, given-judge, given-line    the refusal numbers, step by step, by any test of them
+--   Given, given-taken, given-refused, given-bind, given-judge, given-line    the refusal numbers, step by step, by any test of them
 -- Assumes nothing.
 use mathlib.Core.Path.{_≡_, refl, sym}
 use mathlib.Core.Bool.{Bool, true}
@@ -69,7 +69,7 @@ module _ {ok : ℕ → Bool} where
   given-taken a = record { by = λ k e. absurd (refused-not-taken (sym e)) }
 
   -- a number
-  given-refused : {A : Type 0} (j : ℕ) → ok j ≡ true → Given {A = A} ok (refused j)
+  pub given-refused : {A : Type 0} (j : ℕ) → ok j ≡ true → Given {A = A} ok (refused j)
   given-refused j h = record { by = λ k e. let d : j ≡ k = cc in rw d at h }
 
   -- one step after another

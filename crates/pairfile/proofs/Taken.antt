@@ -8,9 +8,9 @@
 use mathlib.Core.Path.{_≡_, refl, sym, ap, _∙_}
 use mathlib.Core.Bool.{Bool, true, false, _||_}
 use mathlib.Core.Logic.{⊎-elim}
-use mathlib.Core.List.{List, [], _∷_, _++_}
+use mathlib.Core.List.{List, [], _∷_}
 use mathlib.Core.Option.{some}
-use Prim.Native.Nat.{ℕ, zero, suc, _≤_}
+use Prim.Native.Nat.{ℕ, _≤_}
 use native.Mathlib.Omega.{arith}
 use borrow.Author.Tests.{ltb-false}
 use lib.Dec.{ltb}
@@ -20,7 +20,7 @@ use Rattle.theory.specs.Refusals.{Cause, cause, refusal}
 use Rattle.theory.proofs.Tests.{tests, or-cases, by-test}
 use Rattle.pairs.specs.Held.{is-held, smaller-first-pair}
 use Rattle.pairs.specs.Causes.{pair-causes}
-use Rattle.pairs.proofs.Causes.{refusal-first, pair-then}
+use Rattle.pairs.proofs.Causes.{refusal-split, pair-then}
 use Rattle.lines.specs.Text.{between}
 use Rattle.lines.specs.Lines.{Line, first, second, line-of}
 use Rattle.lines.specs.Outcomes.{taken, line-due}
@@ -63,14 +63,6 @@ head-taken form bs causes l e =
     let s = taken-same (p .then) in
     (p .found ∙ ap some s, ap (λ (k : Line). refusal (causes (first k))) (sym s) ∙ p .unmet)
 
--- causes that are not met, one list after another
-unmet-split : (cs ds : List Cause) → refusal (cs ++ ds) ≡ 0 → refusal cs ≡ 0
-unmet-split cs ds e = go (refusal cs) refl
-  where
-    go : (k : ℕ) → refusal cs ≡ k → refusal cs ≡ 0
-    go zero d = d
-    go (suc k) d = absurd (omega (arith, refusal-first cs ds (λ z. omega (arith, d, z)), d, e))
-
 -- a pair line that is not refused: the two numbers on it, and the pair is new
 pub record PairTaken (n : ℕ) (held : List Pair) (bs : List ℕ) (x : Named) : Type 0 where
   pub line : Line
@@ -89,7 +81,7 @@ pair-taken n held bs x e =
     let l = p .line in
     let s : x ≡ named l = sym (taken-same (p .then)) in
     let last = cause 10 (is-held (smaller-first-pair (first l) (second l)) held) ∷ [] in
-    let fit = unmet-split (pair-causes 0 n (first l) (second l)) last (p .unmet) in
+    let fit = refusal-split (pair-causes 0 n (first l) (second l)) last (p .unmet) in
     let new : is-held (smaller-first-pair (first l) (second l)) held ≡ false =
     by-test (is-held (smaller-first-pair (first l) (second l)) held)
     (λ t. absurd (omega (arith, rw t at (sym (pair-then 0 n (first l) (second l) fit last) ∙ p .unmet))))

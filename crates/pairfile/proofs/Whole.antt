@@ -1,4 +1,5 @@
 -- The whole file, put together from its lines.
+--   same-all, same-more                    words that have not been written, and fewer that may have been
 --   file-refused, file-taken               the answer for each outcome
 --   head-ends                             the end of the first line or the second
 --   first-refused, second-refused          refused on the first two lines
@@ -37,10 +38,10 @@ use Rattle.pairfile.proofs.Taken.{head-taken, pairs-unmet}
 use Rattle.pairfile.proofs.Filing.{number-or}
 
 -- words that have not been written, and fewer that may have been
-same-all : (words : List ℕ) → Same-past 4096 words words
+pub same-all : (words : List ℕ) → Same-past 4096 words words
 same-all words = record { between = λ t h l. refl; beyond = refl }
 
-same-more : (m k : ℕ) (old words : List ℕ) → m ≤ k → Same-past m old words → Same-past k old words
+pub same-more : (m k : ℕ) (old words : List ℕ) → m ≤ k → Same-past m old words → Same-past k old words
 same-more m k old words h s =
     record { between = λ t j l. s .between t (omega arith) l; beyond = drop-more (8192 + m) (8192 + k) words old (omega arith) (s .beyond) }
 

@@ -1,5 +1,6 @@
 -- Causes in a row, and what follows where two module numbers are not refused.
 --   refusal-first    a number given by the causes in front
+--   refusal-split    where no cause is met, none of those in front is
 --   pair-round, causes-round    2,5 is the same pair as 5,2, and refused alike
 --   pair-then        where two module numbers are not refused the causes behind decide
 --   numbers-known    both are then modules, as they are numbered, and differ
@@ -11,7 +12,7 @@ use mathlib.Core.Path.{_≡_, refl, sym, _∙_}
 use mathlib.Core.Bool.{true, false, _&&_, and-comm}
 use mathlib.Core.Logic.{_≢_}
 use mathlib.Core.List.{List, [], _∷_, _++_}
-use Prim.Native.Nat.{ℕ, _+_, _≤_, _<_, min, max}
+use Prim.Native.Nat.{ℕ, zero, suc, _+_, _≤_, _<_, min, max}
 use native.Mathlib.Omega.{arith}
 use lib.Dec.{eqb}
 use borrow.Author.Tests.{eqb-true, eqb-false, eq-eqb, ne-eqb, le-leb, lt-ltb}
@@ -26,6 +27,14 @@ pub refusal-first : (cs ds : List Cause) → (refusal cs ≡ 0 → ⊥) → refu
 unfolding refusal
 refusal-first [] ds h = absurd (h refl)
 refusal-first (c ∷ cs) ds h = by-test (c .met) (λ t. rw t) (λ t. rw t (refusal-first cs ds (rw t at h)))
+
+-- and where none is given, none of the first is
+pub refusal-split : (cs ds : List Cause) → refusal (cs ++ ds) ≡ 0 → refusal cs ≡ 0
+refusal-split cs ds e = go (refusal cs) refl
+  where
+    go : (k : ℕ) → refusal cs ≡ k → refusal cs ≡ 0
+    go zero d = d
+    go (suc k) d = absurd (omega (arith, refusal-first cs ds (λ z. omega (arith, d, z)), d, e))
 
 -- 2,5 is the same pair as 5,2
 module _ (a b : ℕ) where
