@@ -6,10 +6,10 @@
 --   named-pair, edge-causes, edge-line    an `e` line, with its causes, and the pair that it names
 --   end-causes, read-edges, read-lines    the lines that are no comments, one after another
 --   read-dimacs                           the whole file
---   dimacs-file, dimacs-of                the file that names given pairs in a given order, and the file of a list, for a writer
+--   edge-lines, dimacs-file, dimacs-of    the file that names given pairs in a given order, and the file of a list, for a writer
 -- 12 is of the work buffer and comes before all lines: it is the caller's. Assumes nothing: these are definitions.
 use mathlib.Core.List.{List, [], _∷_, _++_}
-use Prim.Native.Nat.{ℕ, _+_, _-_}
+use Prim.Native.Nat.{ℕ, _-_}
 use lib.Dec.{ltb, eqb}
 use lib.ListN.{length}
 use Rattle.theory.specs.Lists.{Pair, Pairs}
@@ -19,7 +19,7 @@ use Rattle.pairs.specs.Causes.{pair-causes}
 use Rattle.lines.specs.Text.{text}
 use Rattle.lines.specs.Lines.{Line, first, second, filled}
 use Rattle.lines.specs.Outcomes.{Outcome, refused, taken, _>>=_, _>>_, judge, line-due}
-use Rattle.pairfile.specs.File.{modules-causes, pairs-causes}
+use Rattle.pairfile.specs.File.{modules-causes, pairs-causes, numbered, pair-lines}
 use Rattle.dimacs.specs.Comments.{plain-lines}
 
 -- the line of N and M
@@ -83,8 +83,7 @@ read-dimacs room bs = read-lines room (plain-lines bs)
 
 -- the lines that name pairs, modules numbered from 1, each with the module first that stands first in the pair
 unfoldable pub edge-lines : List Pair → List ℕ
-edge-lines [] = []
-edge-lines (p ∷ ps) = filled edge-form ((p .a + 1) ∷ (p .b + 1) ∷ []) ++ edge-lines ps
+edge-lines ps = pair-lines edge-form (numbered 1 ps)
 
 -- the file of n modules that names these pairs in this order, without comments
 unfoldable pub dimacs-file : (n : ℕ) → List Pair → List ℕ

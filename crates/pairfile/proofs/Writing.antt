@@ -1,16 +1,17 @@
 -- Pair lines of any form, and a pair file written line by line.
 --   numbered-none                       the pairs numbered from 0 are the pairs
 --   lines-from, next-line, no-line      the lines that are left, the one in front of them, and none
---   lines-length, file-length           how long the lines are, and the file: 65,536 bytes hold any
+--   lines-length                        how long the lines are
 --   holds-short, ends-writable          the pairs of a list in words are at most 4,096, and their modules below 512
---   heads-form, heads-due, pairs-due    a file's first two lines as one form; those of a list in words, and its pair lines
---   heads-room, pairs-left              the first two have room, and the others are left behind them
+--   lined, lined-length                 N and M by one form, each pair by another: such a file of a list, which 65,536 bytes hold
+--   heads-room, pairs-left              what stands before the pair lines has room, and these are left behind it
+--   heads-form, file-parts, file-length a pair file is such a file, its first two lines as one form
 -- Assumes nothing.
-use mathlib.Core.Path.{_≡_, refl, _∙_}
+use mathlib.Core.Path.{_≡_, refl}
 use mathlib.Core.Bool.{true}
 use mathlib.Core.List.{List, [], _∷_, _++_, append-assoc}
 use Prim.Native.Nat.{ℕ, _+_, _*_, _≤_, _<_}
-use native.Mathlib.Nat.{add-zero}
+use native.Mathlib.Nat.{add-zero, mul-le-mul-left}
 use native.Mathlib.Numerals.{add-one}
 use native.Mathlib.Omega.{arith}
 use lib.ListN.{length, getD, drop, drop-of-length-le, length-append}
@@ -66,50 +67,7 @@ lines-length form n first (p ∷ ps) h l e =
     let line = filled-length 3 (omega arith) form ((p .a + first) ∷ (p .b + first) ∷ []) (small .each) in
     simp length-append (omega (arith, line, lines-length form n first ps h l (e′ .1)))
 
--- the first two lines, as one form
-unfoldable pub heads-form : List ℕ
-heads-form = text "modules=N\npairs=M\n"
-
--- written so, they are those of a pair file
-heads-same : (n m : ℕ) (rest : List ℕ) → filled heads-form (n ∷ m ∷ []) ++ rest ≡ filled modules-form (n ∷ []) ++ (filled pairs-form (m ∷ []) ++ rest)
-unfolding heads-form modules-form pairs-form text filled is-place between
-heads-same n m rest = simp append-assoc
-
-heads-length : (n m : ℕ) → n ≤ 9999 → m ≤ 9999 → length (filled heads-form (n ∷ m ∷ [])) ≤ 24
-unfolding heads-form text places is-place between mark
-heads-length n m h l = filled-length 3 (omega arith) heads-form (n ∷ m ∷ []) (and-small n h (and-small m l no-more) .each)
-
--- a file's lines: the first two, and its pair lines
-file-parts : (n : ℕ) (ps : List Pair) → file-of n ps ≡ filled heads-form (n ∷ length ps ∷ []) ++ pair-lines pair-form (numbered 0 ps)
-unfolding file-of
-file-parts n ps = rw (heads-same n (length ps) (pair-lines pair-form (numbered 0 ps)), numbered-none ps)
-
--- 65,536 bytes hold any list
-pub file-length : (g : Pairs) → is-list g ≡ true → length (file-of (g .n) (g .pairs)) ≤ 65536
-unfolding pair-form text places is-place between mark
-file-length g e =
-    let k = listed g e in
-    rw (file-parts (g .n) (g .pairs))
-    (simp length-append
-    (omega (
-      arith,
-      heads-length (g .n) (length (g .pairs)) (omega (arith, k .few)) (omega (arith, k .short)),
-      lines-length pair-form (g .n) 0 (g .pairs) (k .few) (omega arith) (k .ends),
-      k .short,
-    )))
-
 -- ---- a list in words
-
--- its first two lines, and its pair lines
-abbrev pub heads-due : (n m : ℕ) → List ℕ
-heads-due n m = filled heads-form (n ∷ m ∷ [])
-
-abbrev pub pairs-due : (m : ℕ) (words : List ℕ) → List ℕ
-pairs-due m words = pair-lines pair-form (numbered 0 (laid-pairs m words))
-
--- they are its file
-laid-parts : (n m : ℕ) (words : List ℕ) → file-of n (laid-pairs m words) ≡ heads-due n m ++ pairs-due m words
-laid-parts n m words = file-parts n (laid-pairs m words) ∙ rw (length-laid m words)
 
 module _ {n m : ℕ} {words : List ℕ} (w : Holds-list n m words) where
   -- M is at most 4,096
@@ -123,19 +81,62 @@ module _ {n m : ℕ} {words : List ℕ} (w : Holds-list n m words) where
       let k = listed (laid-list n m words) (w .listed) in
       record { each = λ j h. let s = ends-small n m words (k .ends) j h in (omega (arith, s .0, k .few), omega (arith, s .1, k .few)) }
 
-  module _ (out : List ℕ) (h : 65536 ≤ length out) where
+-- ---- N and M by one form, then each pair by another
+
+-- the file of a list in two such forms
+abbrev pub lined : (heads form : List ℕ) (first n : ℕ) → List Pair → List ℕ
+lined heads form first n ps = filled heads (n ∷ length ps ∷ []) ++ pair-lines form (numbered first ps)
+
+module _ (heads form : List ℕ) (first : ℕ) (low : first ≤ 1) (bound : length heads + 3 * places heads + (length form + 3 * places form) * 4096 ≤ 65536) where
+  -- 65,536 bytes hold the file of any list
+  pub lined-length : (g : Pairs) → is-list g ≡ true → length (lined heads form first (g .n) (g .pairs)) ≤ 65536
+  lined-length g e =
+      let k = listed g e in
+      let small = and-small (g .n) (omega (arith, k .few)) (and-small (length (g .pairs)) (omega (arith, k .short)) no-more) in
+      simp length-append
+      (omega (
+        arith,
+        bound,
+        filled-length 3 (omega arith) heads (g .n ∷ length (g .pairs) ∷ []) (small .each),
+        lines-length form (g .n) first (g .pairs) (k .few) low (k .ends),
+        mul-le-mul-left (length form + 3 * places form) (k .short),
+      ))
+
+  module _ {n m : ℕ} {words : List ℕ} (w : Holds-list n m words) (out : List ℕ) (h : 65536 ≤ length out) where
     -- all of the file is to be written
-    file-left : Left (file-of n (laid-pairs m words)) out 0 (heads-due n m ++ pairs-due m words) out 0
+    all-left : Left (lined heads form first n (laid-pairs m words)) out 0
+        (filled heads (n ∷ m ∷ []) ++ pair-lines form (numbered first (laid-pairs m words))) out 0
     unfolding laid-list
-    file-left =
-        rw (← laid-parts n m words)
-        (left-start (file-of n (laid-pairs m words)) out 0 (omega (arith, h, file-length (laid-list n m words) (w .listed))))
+    all-left =
+        let s : lined heads form first n (laid-pairs m words) ≡ filled heads (n ∷ m ∷ []) ++ pair-lines form (numbered first (laid-pairs m words)) =
+        rw (length-laid m words) in
+        rw (← s) (left-start _ out 0 (omega (arith, h, lined-length (laid-list n m words) (w .listed))))
 
-    -- the first two lines have room
-    pub heads-room : 0 + length (heads-due n m) ≤ length out
-    heads-room = left-front file-left (heads-due n m) (pairs-due m words) refl
+    -- what stands before the pair lines has room
+    pub heads-room : 0 + length (filled heads (n ∷ m ∷ [])) ≤ length out
+    heads-room = left-front all-left (filled heads (n ∷ m ∷ [])) _ refl
 
-    -- and behind them the others are left
-    pub pairs-left : {out′ : List ℕ} {i : ℕ} → Puts (heads-due n m) out 0 out′ i →
-        Left (file-of n (laid-pairs m words)) out 0 (pairs-due m words) out′ i
-    pairs-left p = left-step file-left (heads-due n m) (pairs-due m words) refl p
+    -- and these are left behind it
+    pub pairs-left : {out′ : List ℕ} {i : ℕ} → Puts (filled heads (n ∷ m ∷ [])) out 0 out′ i →
+        Left (lined heads form first n (laid-pairs m words)) out 0 (pair-lines form (numbered first (laid-pairs m words))) out′ i
+    pairs-left p = left-step all-left (filled heads (n ∷ m ∷ [])) _ refl p
+
+-- ---- a pair file
+
+-- its first two lines, as one form
+unfoldable pub heads-form : List ℕ
+heads-form = text "modules=N\npairs=M\n"
+
+-- written so, they are those of a pair file
+heads-same : (n m : ℕ) (rest : List ℕ) → filled heads-form (n ∷ m ∷ []) ++ rest ≡ filled modules-form (n ∷ []) ++ (filled pairs-form (m ∷ []) ++ rest)
+unfolding heads-form modules-form pairs-form text filled is-place between
+heads-same n m rest = simp append-assoc
+
+pub file-parts : (n : ℕ) (ps : List Pair) → file-of n ps ≡ lined heads-form pair-form 0 n ps
+unfolding file-of
+file-parts n ps = rw (heads-same n (length ps) (pair-lines pair-form (numbered 0 ps)), numbered-none ps)
+
+-- 65,536 bytes hold the pair file of any list
+pub file-length : (g : Pairs) → is-list g ≡ true → length (file-of (g .n) (g .pairs)) ≤ 65536
+unfolding heads-form pair-form text places is-place between mark
+file-length g e = rw (file-parts (g .n) (g .pairs)) (lined-length heads-form pair-form 0 (omega arith) (omega arith) g e)
