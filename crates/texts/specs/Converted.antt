@@ -6,7 +6,7 @@
 --   From-dimacs-read, To-dimacs-read       what is right of whatever file was read
 --   From-dimacs-same, To-dimacs-same       the file printed names the same list
 --   From-then-to, To-then-from             the two programs one after the other
--- proofs/Converted.antt has a theorem for each promise, of the same name in small letters. Assumes nothing: these are definitions.
+-- proofs/Converting.antt has a theorem for each promise, of the same name in small letters. Assumes nothing: these are definitions.
 use mathlib.Core.Path.{_≡_}
 use mathlib.Core.Bool.{Bool, false, cond}
 use mathlib.Core.List.{List}

@@ -19,11 +19,11 @@ pub fn from_dimacs_text(file: &[u8], n: usize, out: &mut [u8]) -> usize
         return write_refusal(109, out);
     }
     let mut words = [0u32; 12288];
-    let read = dimacs::read_words(&file[..n], 4096, &mut words);
-    if read.number != 0 {
-        return write_refusal(read.number, out);
+    let edges = dimacs::read_words(&file[..n], 4096, &mut words);
+    if edges.number != 0 {
+        return write_refusal(edges.number, out);
     }
-    pairfile::write_words(read.n, read.m as usize, &words, out)
+    pairfile::write_words(edges.n, edges.m as usize, &words, out)
 }
 
 // The text of `to_dimacs`, of the n bytes that were read of a pair file; answers how long it is.
@@ -33,9 +33,9 @@ pub fn to_dimacs_text(file: &[u8], n: usize, out: &mut [u8]) -> usize
     ensures { λ r. ⌜ Prints (To-dimacs-read (now (file .entry)) n) (now (out .entry)) (now (out .exit)) r ⌝ }
 {
     let mut words = [0u32; 12288];
-    let read = pairfile::read_words(&file[..n], 4096, &mut words);
-    if read.number != 0 {
-        return write_refusal(read.number, out);
+    let pairs = pairfile::read_words(&file[..n], 4096, &mut words);
+    if pairs.number != 0 {
+        return write_refusal(pairs.number, out);
     }
-    dimacs::write_words(read.n, read.m as usize, &words, out)
+    dimacs::write_words(pairs.n, pairs.m as usize, &words, out)
 }

@@ -22,9 +22,9 @@ ghost use Rattle.texts.specs.Contracts.{Prints, Input, Group-read, Sheet
 use answer::Answer;
 use answer::sheet_file;
 use answer::solve_file;
-use lines::write_line;
 pub use converted::from_dimacs_text;
 pub use converted::to_dimacs_text;
+use lines::write_line;
 
 // The status line of a refusal.
 pub(crate) fn write_refusal(number: u32, out: &mut [u8]) -> usize

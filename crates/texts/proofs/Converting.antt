@@ -1,6 +1,5 @@
 -- The programs that convert a file print what is due of it.
 --   refusal-converted, list-converted       what a reader of words answers, printed
---   from-length, to-length                  65,536 bytes hold what is printed of a list
 --   long-read, from-dimacs-read             From-dimacs-read, of a file that is too long, and of one that is not
 --   to-dimacs-read                          To-dimacs-read
 --   from-dimacs-same, to-dimacs-same, from-then-to, to-then-from     the promises of specs/Converted.antt
@@ -14,9 +13,9 @@ use borrow.Author.Tests.{lt-ltb, le-ltb}
 use lib.ListN.{length, take, length-take}
 use lib.Seq.{length-take-le, take-all}
 use Rattle.theory.specs.Lists.{Pairs}
-use Rattle.theory.specs.Words.{laid-list, Holds-list}
+use Rattle.theory.specs.Words.{laid-list}
 use Rattle.lines.specs.Outcomes.{Outcome, taken}
-use Rattle.pairfile.specs.File.{read-file, file-of}
+use Rattle.pairfile.specs.File.{read-file}
 use Rattle.pairfile.specs.Answers.{WordsRead}
 use Rattle.pairfile.specs.Promise.{Written-reads-back as File-back, Reads-lists as File-lists}
 use Rattle.pairfile.specs.declared.Reading.{Reading}
