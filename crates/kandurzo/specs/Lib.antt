@@ -10,3 +10,4 @@ pub mod Judging
 pub mod Solving
 pub mod Promise
 pub mod Keeping
+pub mod Exchange

@@ -55,12 +55,12 @@ pub record Read-call (read : Reader) (bytes : List ℕ) (ps : List Pair) (work :
 -- ---- on words
 
 -- of a short work buffer: 12
-unfoldable pub no-edit : Edit
-no-edit = record { number = 12; head = head-of 0 0; count = 0 }
+abbrev pub no-edit : Edit
+no-edit = record { number = 12; head = record { n = 0; m = 0 }; count = 0 }
 
 -- of a file that has been read: its number, the new head, and how many records come into the list
-unfoldable pub edit-of : Reading → Edit
-edit-of f = record { number = f .number; head = head-of (f .n) (f .m); count = f .m }
+abbrev pub edit-of : Reading → Edit
+edit-of f = record { number = f .number; head = record { n = f .n; m = f .m }; count = f .m }
 
 -- before the records come into the list: their pairs lie in the work buffer
 pub record Read-on (read : Reader) (room : ℕ) (bytes work work′ : List ℕ) (e : Edit) : Type 0 where

@@ -1,4 +1,5 @@
 -- What is right of the bytes that were read is right of the whole file.
+--   read-as                                of a pair file
 --   group-read, sheet-read, audit-read     Group-read, Sheet-read, Audit-read, in a buffer that has room for every byte that decides
 --   sheet-answered                         Sheet-answered: `audit` accepts what `sheet` prints
 -- Assumes nothing.
@@ -18,7 +19,7 @@ use Rattle.texts.specs.Contracts.{Sheet-due, Sheet-printed, Read-of, Gro
 
 module _ {buffer : List ℕ} {n : ℕ} (room : 65536 ≤ length buffer) where
   -- what was read is taken or refused as the whole file is
-  read-as : {file : List ℕ} → Read-of buffer n file → read-file 4096 (take n buffer) ≡ read-file 4096 file
+  pub read-as : {file : List ℕ} → Read-of buffer n file → read-file 4096 (take n buffer) ≡ read-file 4096 file
   unfolding Reads-first
   read-as {file = file} e = ap (read-file 4096) (e .front) ∙ reads-first 4096 (length buffer) file room
 

@@ -1,9 +1,12 @@
-// What the programs `group`, `sheet` and `audit` print, written into a lent buffer (document 01, end of "Lists tried by hand").
+// What the programs `group`, `sheet` and `audit` print, written into a lent buffer (document 01, end of "Lists tried by hand"); converted.rt has what
+// `from_dimacs` and `to_dimacs` print.
 //
-// A program reads its input, calls one of the three public functions, and writes the first bytes of the buffer out, as many as the function answers.
+// A program reads its input, calls one of the public functions, and writes the first bytes of the buffer out, as many as the function answers.
 // A text is written once, from front to back, line by line, at the cost of its bytes. 8,192 bytes hold the text of any group, 100,000 that of any
 // sheet, 64 that of any audit; a file is refused by its number on the status line. Of an input a caller lends the whole buffer, which has room for
 // every byte that decides (65,536 of a pair file, 100,000 of a sheet), and says how many bytes were read: the text is that of the whole file.
+mod converted;
+
 ghost use mathlib.Core.Bool.{cond};
 ghost use mathlib.Core.List.{[], _∷_};
 ghost use Prim.Native.Nat.{_+_, _*_, _≤_, _<_};
@@ -19,10 +22,12 @@ ghost use Rattle.texts.specs.Contracts.{Prints, Input, Group-read, Sheet
 use answer::Answer;
 use answer::sheet_file;
 use answer::solve_file;
+pub use converted::from_dimacs_text;
+pub use converted::to_dimacs_text;
 use lines::write_line;
 
 // The status line of a refusal.
-fn write_refusal(number: u32, out: &mut [u8]) -> usize
+pub(crate) fn write_refusal(number: u32, out: &mut [u8]) -> usize
     requires { ⌜ 18 ≤ length (now out) ⌝ }
     ensures { λ r. ⌜ Puts (refusal-text number) (now (out .entry)) 0 (now (out .exit)) r ⌝ }
 {
