@@ -5,19 +5,17 @@
 --   comments-unread        taking the comments out of a file changes neither its number nor its list
 -- Assumes nothing.
 use mathlib.Core.Path.{_≡_, refl, sym, ap, _∙_}
-use mathlib.Core.Bool.{true, false}
+use mathlib.Core.Bool.{true}
 use mathlib.Core.List.{List, []}
-use Prim.Native.Nat.{ℕ, _≤_}
+use Prim.Native.Nat.{ℕ}
 use native.Mathlib.Omega.{arith}
 use lib.ListN.{length, take}
 use lib.Seq.{take-at}
-use Rattle.theory.specs.Lists as Lists
 use Rattle.theory.specs.Lists.{Pairs}
 use Rattle.theory.specs.Refusals.{refusal, if-taken}
 use Rattle.pairs.proofs.Keeps.{counts-once}
-use Rattle.lines.specs.Outcomes.{Outcome, taken}
+use Rattle.lines.specs.Outcomes.{taken}
 use Rattle.pairfile.specs.Promise.{all-once}
-use Rattle.pairfile.specs.Answers.{reading-of, pairs-of}
 use Rattle.dimacs.specs.Comments.{without-comments}
 use Rattle.dimacs.specs.Edges.{read-lines, read-dimacs, dimacs-of}
 use Rattle.dimacs.proofs.ReadsBack.{written-back}
@@ -26,14 +24,12 @@ use Rattle.dimacs.proofs.Lined.{comments-out}
 use Rattle.records.specs.declared.Pair.{Pair}
 use Rattle.records.specs.declared.Head.{Head}
 use Rattle.records.specs.Records.{held-list, agrees}
-use Rattle.kandurzo.specs.declared.Changed.{Changed}
 use Rattle.kandurzo.specs.declared.Written.{Written}
 use Rattle.kandurzo.specs.Buffers.{buffer, any-short, in-front}
 use Rattle.kandurzo.specs.Gate.{gate-number}
 use Rattle.kandurzo.specs.Listing.{as-records}
-use Rattle.kandurzo.specs.Reading.{read-outcome, read-head, records-front, Read-call}
+use Rattle.kandurzo.specs.Reading.{read-outcome}
 use Rattle.kandurzo.specs.Writing.{text-bytes, write-buffers, write-call-causes, Write-call}
-use Rattle.kandurzo.specs.Promise.{Lent}
 use Rattle.kandurzo.specs.Exchange.{Every-list-written, Written-read, Read-rewritten, Comments-unread}
 use Rattle.kandurzo.proofs.Gates.{gate-open}
 use Rattle.kandurzo.proofs.Taken.{held-is-list, length-held, held-ones, held-records}

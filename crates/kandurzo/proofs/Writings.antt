@@ -3,7 +3,7 @@
 --   write-enough                 where the gate is open the buffer is long enough
 --   write-call                   the call's promise
 -- Assumes nothing.
-use mathlib.Core.Path.{_≡_, refl, sym, ap, _∙_}
+use mathlib.Core.Path.{_≡_, refl, sym, _∙_}
 use mathlib.Core.Bool.{Bool, false}
 use mathlib.Core.List.{List, []}
 use Prim.Native.Nat.{ℕ, _≤_}
@@ -11,13 +11,12 @@ use native.Mathlib.Nat.{zero-add}
 use lib.Dec.{eqb}
 use lib.ListN.{length}
 use borrow.Author.Tests.{eqb-true, eqb-false}
-use Rattle.theory.specs.Refusals.{Cause, refusal, if-taken}
+use Rattle.theory.specs.Refusals.{refusal, if-taken}
 use Rattle.theory.proofs.Tests.{by-test}
 use Rattle.lines.specs.Putting.{put}
-use Rattle.dimacs.specs.Edges.{dimacs-of}
 use Rattle.records.specs.declared.Pair.{Pair}
 use Rattle.records.specs.declared.Head.{Head}
-use Rattle.records.specs.Records.{held-list, agrees}
+use Rattle.records.specs.Records.{agrees}
 use Rattle.kandurzo.specs.declared.Written.{Written}
 use Rattle.kandurzo.specs.Buffers.{buffer, any-short, in-front}
 use Rattle.kandurzo.specs.Gate.{gate-of}
