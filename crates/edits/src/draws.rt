@@ -68,17 +68,24 @@ pub(crate) fn fill(plan: Plan, state: u32, desk: &mut [u32]) -> u32 {
 
 // ---- its file
 
-// A comment one time in four, of one of four kinds.
+// A comment of one of four kinds.
+fn put_kind(file: &mut [u8], at: usize, kind: u32) -> usize {
+    match kind {
+        0 => reads::put_text(file, at, b"c\n"),
+        1 => reads::put_text(file, at, b"c \n"),
+        2 => reads::put_text(file, at, b"c e 1 2\r\n"),
+        _ => reads::put_text(file, at, b"c p edge 1 0\n"),
+    }
+}
+
+// A comment one time in four.
 fn put_comment(file: &mut [u8], text: Text, state: u32) -> Text {
-    let end = match state / 4096 % 16 {
-        0 => reads::put_text(file, text.end, b"c\n"),
-        1 => reads::put_text(file, text.end, b"c \n"),
-        2 => reads::put_text(file, text.end, b"c e 1 2\r\n"),
-        3 => reads::put_text(file, text.end, b"c p edge 1 0\n"),
-        _ => return text,
-    };
+    let kind = state / 4096 % 16;
+    if 3 < kind {
+        return text;
+    }
     Text {
-        end,
+        end: put_kind(file, text.end, kind),
         comments: std::num::wrapping_add_u32(text.comments, 1),
         ..text
     }
@@ -150,15 +157,8 @@ fn put_end(file: &mut [u8], text: Text, way: u32) -> usize {
     }
 }
 
-// The whole file.
-pub(crate) fn put_file(
-    plan: Plan,
-    way: u32,
-    count: u32,
-    state: u32,
-    file: &mut [u8],
-    desk: &mut [u32],
-) -> Text {
+// The `p` line, behind a comment or none.
+fn put_head(plan: Plan, way: u32, count: u32, state: u32, file: &mut [u8]) -> Text {
     let empty = Text {
         end: 0,
         comments: 0,
@@ -168,8 +168,23 @@ pub(crate) fn put_file(
     let start = put_comment(file, empty, state);
     let n = reads::put_field(file, start.end, b"p edge ", modules(plan, way));
     let m = reads::put_field(file, n, b" ", pairs(plan, way, count));
-    let head = reads::put_text(file, m, b"\n");
-    let lines = put_lines(plan, state, file, Text { end: head, ..start }, desk);
+    Text {
+        end: reads::put_text(file, m, b"\n"),
+        ..start
+    }
+}
+
+// The whole file.
+pub(crate) fn put_file(
+    plan: Plan,
+    way: u32,
+    count: u32,
+    state: u32,
+    file: &mut [u8],
+    desk: &mut [u32],
+) -> Text {
+    let head = put_head(plan, way, count, state, file);
+    let lines = put_lines(plan, state, file, head, desk);
     let last = put_comment(file, lines, desk::next(state));
     Text {
         end: put_end(file, last, way),

@@ -1,7 +1,7 @@
 // read_dimacs: lists are drawn, and their files read as they are and in eleven ways that are refused, into a list of numbers that are no module's. The answer
 // must be the number due and the head, the records those of the model's table in rising order, and all others as before; after 12 the work buffer must be as
-// before, else 16,384 zeros. Prints a line a kind of list: files, comments in them, answers of each number, pairs of the files taken, and how many differ. Then lines with something
-// altered.
+// before, else 16,384 zeros. Prints a line a kind of list: files, comments in them, answers of each number, pairs of the files taken, and how many differ.
+// Then lines with something altered.
 use crate::desk;
 use crate::desk::COUNTS;
 use crate::desk::DUE;
