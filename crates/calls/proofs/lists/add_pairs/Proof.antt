@@ -1,10 +1,10 @@
--- `solves::add_pairs` is safe and ends. The loop keeps: the slice keeps its length. Assumes nothing.
+-- `lists::add_pairs` is safe and ends. The loop keeps: the slice keeps its length. Assumes nothing.
 use mathlib.Core.Path.{_≡_}
 use Prim.Native.Nat.{_-_}
 use lib.ListN.{length}
 use borrow.Author.Needs.{needs}
-use Rattle.calls.proofs.solves.add_pairs.Statement.{statement}
-use Rattle.calls.proofs.solves.add_pairs.Tie as tie
+use Rattle.calls.proofs.lists.add_pairs.Statement.{statement}
+use Rattle.calls.proofs.lists.add_pairs.Tie as tie
 
 abbrev Inv-loop : tie.InvT-loop
 Inv-loop kind many words₀ head₀ i₀ words head i = length words ≡ length words₀
