@@ -28,11 +28,13 @@ pub(crate) fn sound() -> Altered {
 
 // ---- the text due
 
+// Puts a byte into the text, where it fits; the place after it.
 fn put_byte(text: &mut [u8], at: usize, byte: u8) -> usize {
     if at < text.len() {
         text[at] = byte;
+        return at + 1;
     }
-    words::plus(at, 1)
+    at
 }
 
 fn put_text(text: &mut [u8], at: usize, bytes: &[u8]) -> usize {
