@@ -211,6 +211,7 @@ def measure(program, folder, runs):
             first = seed == 0 and name in KINDS
             quiet()
             found, density = compare(program, path, int(first))
+            found["pairs"] = len(pairs)
             if first and run == 0:
                 found |= by_networkx(n, pairs, density)
             for what, value in found.items():
@@ -246,6 +247,15 @@ def compared(times, head, ours, others):
     )
 
 
+def shuffled(times, names):
+    """A row for each list: both readers on the same pairs in a shuffled order, and how many times as long read_dimacs takes."""
+    rows = []
+    for name in names:
+        both = [figure(typical(times, name, what)) for what in ["read shuffled", "read_dimacs shuffled"]]
+        rows.append([name, f"{typical(times, name, 'pairs'):,.0f}", *both, figure(ratio(times, name, "read_dimacs shuffled", "read shuffled"))])
+    table(["shuffled lines", "pairs", "read, µs", "read_dimacs, µs", "read_dimacs / read"], rows)
+
+
 def best(times, engines, ways):
     """A row for each kind: the quickest of all others."""
     rows = []
@@ -253,6 +263,16 @@ def best(times, engines, ways):
         value, other = min((ratio(times, name, f"solve {engine} {way}", "solve ours"), f"{engine}, {way}") for engine in engines for way in ways)
         rows.append([name, figure(value), other])
     table(["solve", "the quickest of the others", "which"], rows)
+
+
+def dimacs(times):
+    """DIMACS edge files, read and written."""
+    others = {other: f"read_dimacs {other}" for other in ["scanf", "igraph"]}
+    compared(times, "read_dimacs", "read_dimacs ours", {"read": "read ours", "LEMON": "read LEMON"} | others)
+    commented = {"without comments": "read_dimacs ours", "igraph": "read_dimacs commented igraph"}
+    compared(times, "read_dimacs, a comment before each line", "read_dimacs commented ours", commented)
+    shuffled(times, [*KINDS, *(f"{n}, {m}" for n, m in SIZES if m == 4096)])
+    compared(times, "write_dimacs", "write_dimacs ours", {other: f"write_dimacs {other}" for other in ["sprintf", "LEMON", "igraph"]})
 
 
 def main():
@@ -273,6 +293,7 @@ def main():
         ["uniform: N, M", *(f"{call}, µs" for call in calls)],
         [[f"{n}, {m}", *(figure(typical(times, f"{n}, {m}", f"{call} ours")) for call in calls)] for n, m in SIZES],
     )
+    dimacs(times)
 
 
 main()

@@ -37,8 +37,8 @@
 #include <lemon/smart_graph.h>
 
 #include "../callers/c/kandurzo.h"
-
-using Pairs = std::vector<std::pair<int, int>>;
+#include "common.hpp"
+#include "dimacs.hpp"
 
 struct Ratio {
     long p, q;
@@ -51,11 +51,6 @@ struct Lent {
     uint16_t order[KANDURZO_MODULES], cores[KANDURZO_MODULES], shares[KANDURZO_PAIRS];
     uint32_t work[KANDURZO_WORK];
 };
-
-[[noreturn]] static void fail(const std::string &why) {
-    fprintf(stderr, "compare: %s\n", why.c_str());
-    exit(1);
-}
 
 // ---- Goldberg's network
 
@@ -439,6 +434,20 @@ int main(int count, char **words) {
         readDimacsMat(in, graph);
         if (countArcs(graph) != m) fail("LEMON reads");
     });
+
+    // DIMACS edge files, and the pair file with its lines in the same order as those that are shuffled
+    static Dimacs files(lent.head, lent.list, pairs);
+    time("read shuffled", [&] { files.read_pairs(); });
+    time("read_dimacs shuffled", [&] { files.read(files.shuffled); });
+    time("read_dimacs ours", [&] { files.read(files.listed); });
+    time("read_dimacs scanf", [&] { files.read_by_scanf(); });
+    time("read_dimacs igraph", [&] { files.read_by_igraph(files.listed); });
+    time("read_dimacs commented ours", [&] { files.read(files.commented); });
+    time("read_dimacs commented igraph", [&] { files.read_by_igraph(files.commented); });
+    time("write_dimacs ours", [&] { files.write(); });
+    time("write_dimacs sprintf", [&] { files.write_by_sprintf(); });
+    time("write_dimacs LEMON", [&] { files.write_by_lemon(); });
+    time("write_dimacs igraph", [&] { files.write_by_igraph(drawn); });
 
     // add: the whole list, pair by pair, in a scattered order
     Pairs scattered(m);

@@ -1,4 +1,4 @@
-/* Kandurzo from C: fault groups of a pair list (document 01).
+/* Kandurzo from C: fault groups of a pair list (document 01; document 02, item 1).
  *
  * A list has N modules (1 to 512), numbered 0 to N-1, and M pairs (at most 4,096) of two different modules. The caller lends every buffer: a head with
  * N and M, and records, smaller module first, in strictly rising order by first and then second number. Of a list, `length` is how many records
@@ -12,18 +12,20 @@
  *    1  a line is missing, is not of the form due there, or lacks its LF
  *    2  N outside 1 to 512
  *    3  the file's M above 4,096
- *    4  a module number is N or more
+ *    4  a module number is N or more; in a DIMACS file, where modules are numbered from 1, it is 0 or above N
  *    5  a module is paired with itself
  *    6  bytes follow the last pair line
  *    7  a member byte above 1 among the first N, or none is 1
  *    8  a share above Q among the first M
  *    9  a load above P
  *   10  the pair is held already or, in a file, named on an earlier line
- *   11  no free record; for read, the list is shorter than the file's M
+ *   11  no free record; for the readers, the list is shorter than the file's M
  *   12  a lent buffer is shorter than stated
  *   13  head and list disagree
  *   14  the pair to remove is not held
  *   15  a group than which none is denser has no split with all loads at or below P (proved never to come)
+ *   16  in a DIMACS file, a line is of none of its forms, out of place, or lacks its LF, or there is no `p` line
+ *   17  in a DIMACS file, the count of `e` lines is not M
  */
 #ifndef KANDURZO_H
 #define KANDURZO_H
@@ -38,7 +40,8 @@ extern "C" {
 enum {
     KANDURZO_MODULES = 512, /* most modules, and the length of member bytes, core numbers and leaving order that is always enough */
     KANDURZO_PAIRS = 4096,  /* most pairs, and the length of list and shares that is always enough */
-    KANDURZO_WORK = 16384   /* words of the work buffer */
+    KANDURZO_WORK = 16384,  /* words of the work buffer */
+    KANDURZO_TEXT = 65536   /* bytes of the text buffer */
 };
 
 /* Bytes of the caller's stack that a call uses at most while it runs. stack.c measures them: each is what was measured and at least 8 KiB of room, for
@@ -48,6 +51,8 @@ enum {
     KANDURZO_STACK_ADD = 65536,    /* add and add_to */
     KANDURZO_STACK_REMOVE = 65536, /* remove and remove_from */
     KANDURZO_STACK_READ = 16384,
+    KANDURZO_STACK_READ_DIMACS = 16384,
+    KANDURZO_STACK_WRITE_DIMACS = 65536,
     KANDURZO_STACK_PEEL = 49152,
     KANDURZO_STACK_SOLVE = 204800, /* the most: enough for every call */
     KANDURZO_STACK_CHECK = 16384,
@@ -69,6 +74,11 @@ typedef struct {
     uint32_t number;
     kandurzo_head_t head;
 } kandurzo_changed_t;
+
+/* The number; how many bytes were written, 0 beside a refusal. */
+typedef struct {
+    uint32_t number, length;
+} kandurzo_written_t;
 
 /* The number; P and Q, the found group's inside count and its number of modules; K, P/Q rounded up; the number of modules in the core of order K; P
  * divided by Q, rounded once. Beside a refusal all else is 0. */
@@ -109,6 +119,16 @@ uint32_t kandurzo_remove_from(kandurzo_head_t *head, kandurzo_pair_t *list, size
  * 16,384 words of work. Refuses by 12 (work); on the first line 1, 2; on the second 1, 3, 11; on a pair line 1, 4, 5, 10; last 6. The head is then 0,0.
  * The work buffer is untouched after 12 and holds 16,384 zero words after any other return. */
 kandurzo_changed_t kandurzo_read(const uint8_t *bytes, size_t count, kandurzo_pair_t *list, size_t length, uint32_t *work, size_t work_length);
+
+/* Read a DIMACS edge file: one line `p edge N M`, then M lines `e A B`, modules numbered from 1 (in the list from 0); anywhere, comments, which are `c`
+ * alone, or `c`, a blank and any bytes. Each line is ended by LF. Makes a new head and writes the first M records. Wants 16,384 words of work. Refuses by 12
+ * (work); then line by line, on the `p` line 16, 2, 3, 11, on an `e` line 16, 17 (M came already), 4, 5, 10, on any other 16; last 16 (no `p` line), 17
+ * (fewer than M). The head is then 0,0. The work buffer is untouched after 12 and holds 16,384 zero words after any other return. */
+kandurzo_changed_t kandurzo_read_dimacs(const uint8_t *bytes, size_t count, kandurzo_pair_t *list, size_t length, uint32_t *work, size_t work_length);
+
+/* Write a DIMACS edge file: `p edge N M`, then `e A B` for each pair in list order, smaller module first, no comments, each line ended by LF. Read again, it
+ * gives the same list. Answers how many bytes it has; those of the text past them are never written. Wants 65,536 bytes of text. Refuses by 13, 12. */
+kandurzo_written_t kandurzo_write_dimacs(kandurzo_head_t head, const kandurzo_pair_t *list, size_t length, uint8_t *text, size_t text_length);
 
 /* Peel: writes the leaving order (again and again the module with fewest pairs to modules still present leaves; of equals, the lowest number) and the
  * core numbers (the largest k such that the module belongs to a group in which each member has at least k pairs inside). Wants N entries of order and of

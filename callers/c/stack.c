@@ -19,9 +19,9 @@ enum { PAINT = 0xA5, ROOM = 8192, GUARD = 65536, FILE_BYTES = 65536 };
 /* What the calls are passed. */
 static kandurzo_head_t head;
 static kandurzo_pair_t list[KANDURZO_PAIRS];
-static size_t room = KANDURZO_PAIRS, entries = KANDURZO_MODULES, words = KANDURZO_WORK, count;
+static size_t room = KANDURZO_PAIRS, entries = KANDURZO_MODULES, words = KANDURZO_WORK, text_room = KANDURZO_TEXT, count;
 static uint32_t a, b, q;
-static uint8_t file[FILE_BYTES], members[KANDURZO_MODULES], others[KANDURZO_MODULES];
+static uint8_t file[FILE_BYTES], text[KANDURZO_TEXT], members[KANDURZO_MODULES], others[KANDURZO_MODULES];
 static uint16_t order[KANDURZO_MODULES], cores[KANDURZO_MODULES], shares[KANDURZO_PAIRS];
 static uint32_t work[KANDURZO_WORK];
 
@@ -45,6 +45,14 @@ static uint32_t remove_from(void) { return kandurzo_remove_from(&head, list, roo
 
 static uint32_t read_file(void) { return kandurzo_read(file, count, list, room, work, words).number; }
 
+static uint32_t read_dimacs(void) { return kandurzo_read_dimacs(file, count, list, room, work, words).number; }
+
+static uint32_t write_dimacs(void) {
+    kandurzo_written_t answer = kandurzo_write_dimacs(head, list, room, text, text_room);
+    if (answer.number == 0) count = answer.length;
+    return answer.number;
+}
+
 static uint32_t peel(void) { return kandurzo_peel(head, list, room, order, entries, cores, entries, work, words); }
 
 static uint32_t solve(void) {
@@ -58,7 +66,7 @@ static uint32_t check(void) { return kandurzo_check(head, list, room, members, e
 static uint32_t surplus(void) { return kandurzo_surplus(head, list, room, members, entries, others, entries).number; }
 
 /* Each call, the bytes stated for it, and the most that it used. */
-enum call { START, ADD, ADD_TO, REMOVE, REMOVE_FROM, READ, PEEL, SOLVE, CHECK, SURPLUS, CALLS };
+enum call { START, ADD, ADD_TO, REMOVE, REMOVE_FROM, READ, READ_DIMACS, WRITE_DIMACS, PEEL, SOLVE, CHECK, SURPLUS, CALLS };
 
 static struct {
     const char *name;
@@ -71,6 +79,8 @@ static struct {
     {"remove", remove_pair, KANDURZO_STACK_REMOVE, 0},
     {"remove_from", remove_from, KANDURZO_STACK_REMOVE, 0},
     {"read", read_file, KANDURZO_STACK_READ, 0},
+    {"read_dimacs", read_dimacs, KANDURZO_STACK_READ_DIMACS, 0},
+    {"write_dimacs", write_dimacs, KANDURZO_STACK_WRITE_DIMACS, 0},
     {"peel", peel, KANDURZO_STACK_PEEL, 0},
     {"solve", solve, KANDURZO_STACK_SOLVE, 0},
     {"check", check, KANDURZO_STACK_CHECK, 0},
@@ -200,48 +210,87 @@ static void edits(enum call adds, enum call removes) {
     head = before;
 }
 
-/* The list's pair file: its lines in any order, and each pair's modules too. */
-static void write_file(void) {
+/* The list's pair file, or its DIMACS file with a comment before each `e` line: its lines in any order, and each pair's modules too. */
+static void write_file(int dimacs) {
     static kandurzo_pair_t left[KANDURZO_PAIRS];
     memcpy(left, list, sizeof left);
-    count = (size_t)sprintf((char *)file, "modules=%u\npairs=%u\n", (unsigned)head.n, (unsigned)head.m);
+    count = (size_t)sprintf((char *)file, dimacs ? "p edge %u %u\n" : "modules=%u\npairs=%u\n", (unsigned)head.n, (unsigned)head.m);
     for (uint32_t m = head.m; m > 0; m--) {
         uint32_t i = below(m), turned = below(2);
         unsigned x = turned ? left[i].b : left[i].a, y = turned ? left[i].a : left[i].b;
-        count += (size_t)sprintf((char *)file + count, "pair=%u,%u\n", x, y);
+        if (dimacs) x++, y++;
+        count += (size_t)sprintf((char *)file + count, dimacs ? "c\ne %u %u\n" : "pair=%u,%u\n", x, y);
         left[i] = left[m - 1];
     }
 }
 
-/* Read: the list's own file, also cut, longer, and with too little room; and small files that are refused. */
-static void reads(void) {
-    static const struct {
-        const char *text;
-        uint32_t number;
-    } wrong[] = {{"modules=0\npairs=0\n", 2},           {"modules=2\npairs=4097\n", 3},
-                 {"modules=2\npairs=1\npair=0,2\n", 4}, {"modules=2\npairs=1\npair=1,1\n", 5},
-                 {"modules=2\npairs=2\npair=0,1\npair=1,0\n", 10}};
+/* A file that a reader refuses, and the number. */
+struct wrong {
+    const char *text;
+    uint32_t number;
+};
+
+/* A reader on the list's own file, then with too little room, on the file cut and with one byte more, and on those that it refuses. */
+static void reads(enum call call, uint32_t cut, uint32_t longer, const struct wrong *wrong, size_t many) {
     static kandurzo_pair_t before[KANDURZO_PAIRS];
     memcpy(before, list, sizeof before);
-    write_file();
     memset(list, 0, head.m * sizeof *list);
-    run(READ, 0);
+    run(call, 0);
     if (memcmp(before, list, sizeof before) != 0) fail("another list than the file's");
     words--;
-    run(READ, 12);
+    run(call, 12);
     words++;
     room = head.m - 1;
-    run(READ, 11);
+    run(call, 11);
     room = KANDURZO_PAIRS;
     count--;
-    run(READ, 1);
+    run(call, cut);
     count += 2;
-    run(READ, 6);
-    for (size_t i = 0; i < sizeof wrong / sizeof *wrong; i++) {
+    run(call, longer);
+    for (size_t i = 0; i < many; i++) {
         count = strlen(wrong[i].text);
         memcpy(file, wrong[i].text, count);
-        run(READ, wrong[i].number);
+        run(call, wrong[i].number);
     }
+}
+
+static void pair_files(void) {
+    static const struct wrong wrong[] = {{"modules=0\npairs=0\n", 2},
+                                         {"modules=2\npairs=4097\n", 3},
+                                         {"modules=2\npairs=1\npair=0,2\n", 4},
+                                         {"modules=2\npairs=1\npair=1,1\n", 5},
+                                         {"modules=2\npairs=2\npair=0,1\npair=1,0\n", 10}};
+    write_file(0);
+    reads(READ, 1, 6, wrong, sizeof wrong / sizeof *wrong);
+}
+
+/* The list written, also where that is refused; what was written is read, and then the list's lines in any order. */
+static void dimacs_files(void) {
+    static const struct wrong wrong[] = {{"", 16},
+                                         {"c\n", 16},
+                                         {"p col 2 0\n", 16},
+                                         {"p edge 0 0\n", 2},
+                                         {"p edge 2 4097\n", 3},
+                                         {"p edge 2 1\n", 17},
+                                         {"p edge 2 0\ne 1 2\n", 17},
+                                         {"p edge 2 1\ne 1 3\n", 4},
+                                         {"p edge 2 1\ne 1 1\n", 5},
+                                         {"p edge 2 2\ne 1 2\ne 2 1\n", 10}};
+    run(WRITE_DIMACS, 0);
+    memcpy(file, text, count);
+    reads(READ_DIMACS, 16, 16, NULL, 0);
+    text_room--;
+    run(WRITE_DIMACS, 12);
+    text_room++;
+    uint32_t n = head.n;
+    head.n = 0;
+    run(WRITE_DIMACS, 13);
+    head.n = n;
+    write_file(1);
+    reads(READ_DIMACS, 16, 16, wrong, sizeof wrong / sizeof *wrong);
+    write_file(1);
+    count += (size_t)sprintf((char *)file + count, "c\ne 1 2\n");
+    run(READ_DIMACS, 17);
 }
 
 /* Peel, solve, check and surplus, on an agreeing list and head and on others, with right and wrong groups and shares. */
@@ -278,7 +327,8 @@ int main(void) {
         run(START, 0);
         edits(ADD, REMOVE);
         edits(ADD_TO, REMOVE_FROM);
-        reads();
+        pair_files();
+        dimacs_files();
         searches();
     }
     for (enum call call = START; call < CALLS; call++) {

@@ -14,6 +14,10 @@ pub mod stack {
     pub const REMOVE: usize = 65536;
     /// Of [`read`](super::read).
     pub const READ: usize = 16384;
+    /// Of [`read_dimacs`](super::read_dimacs).
+    pub const READ_DIMACS: usize = 16384;
+    /// Of [`write_dimacs`](super::write_dimacs).
+    pub const WRITE_DIMACS: usize = 65536;
     /// Of [`peel`](super::peel).
     pub const PEEL: usize = 49152;
     /// Of [`solve`](super::solve); the most.
@@ -44,7 +48,7 @@ pub struct Head {
     pub m: u32,
 }
 
-/// What start, add, remove and read answer: the refusal number or 0, and the head after the call.
+/// What start, add, remove and the readers answer: the refusal number or 0, and the head after the call.
 #[repr(C)]
 #[derive(Clone, Copy, Debug, PartialEq, Eq)]
 pub struct Changed {
@@ -52,6 +56,16 @@ pub struct Changed {
     pub number: u32,
     /// The head after the call.
     pub head: Head,
+}
+
+/// What write_dimacs answers; beside a refusal the length is 0.
+#[repr(C)]
+#[derive(Clone, Copy, Debug, PartialEq, Eq)]
+pub struct Written {
+    /// The refusal number or 0.
+    pub number: u32,
+    /// How many bytes were written.
+    pub length: u32,
 }
 
 /// What solve answers; beside a refusal all else is 0.
@@ -111,6 +125,21 @@ mod library {
             work: *mut u32,
             work_length: usize,
         ) -> Changed;
+        pub fn kandurzo_read_dimacs(
+            bytes: *const u8,
+            count: usize,
+            list: *mut Pair,
+            length: usize,
+            work: *mut u32,
+            work_length: usize,
+        ) -> Changed;
+        pub fn kandurzo_write_dimacs(
+            head: Head,
+            list: *const Pair,
+            length: usize,
+            text: *mut u8,
+            text_length: usize,
+        ) -> Written;
         pub fn kandurzo_peel(
             head: Head,
             list: *const Pair,
@@ -195,6 +224,25 @@ pub fn read(bytes: &[u8], list: &mut [Pair], work: &mut [u32]) -> Changed {
             work.len(),
         )
     }
+}
+
+/// Reads a DIMACS edge file into the list. Refuses by 12, then line by line 16, 2, 3, 11 (`p`); 16, 17, 4, 5, 10 (`e`); last 16, 17.
+pub fn read_dimacs(bytes: &[u8], list: &mut [Pair], work: &mut [u32]) -> Changed {
+    unsafe {
+        library::kandurzo_read_dimacs(
+            bytes.as_ptr(),
+            bytes.len(),
+            list.as_mut_ptr(),
+            list.len(),
+            work.as_mut_ptr(),
+            work.len(),
+        )
+    }
+}
+
+/// Writes the list's DIMACS edge file in front of the text. Refuses by 13, 12.
+pub fn write_dimacs(head: Head, list: &[Pair], text: &mut [u8]) -> Written {
+    unsafe { library::kandurzo_write_dimacs(head, list.as_ptr(), list.len(), text.as_mut_ptr(), text.len()) }
 }
 
 /// Writes leaving order and core numbers. Refuses by 13, 12.

@@ -1,5 +1,5 @@
 //! Kandurzo from Rust: the largest group of greatest ratio in a list of fault pairs, with core numbers and a load sheet that shows
-//! that no group is denser (document 01).
+//! that no group is denser (document 01; document 02, item 1).
 //!
 //! ```
 //! let tail = b"modules=5\npairs=7\npair=0,1\npair=0,2\npair=0,3\npair=1,2\npair=1,3\npair=2,3\npair=3,4\n";
@@ -23,10 +23,12 @@ use std::fmt;
 pub const PAIRS: usize = 4096;
 /// The words of the work buffer.
 pub const WORK: usize = 16384;
+/// The bytes of the text buffer.
+pub const TEXT: usize = 65536;
 /// Bytes of stack that are enough for any call of the library; [`ffi::stack`] has them by call.
 pub const STACK: usize = ffi::stack::SOLVE;
 
-/// Why a call declined: document 01's number, 1 to 15.
+/// Why a call declined: document 01's number, 1 to 15, or document 02's, 16 or 17.
 #[derive(Clone, Copy, Debug, PartialEq, Eq, Hash)]
 pub struct Refusal(u32);
 
@@ -39,12 +41,12 @@ impl Refusal {
         }
     }
 
-    /// Document 01's number.
+    /// The documents' number.
     pub fn number(self) -> u32 {
         self.0
     }
 
-    /// Document 01's text, that of 11, 13 and 15 shortened.
+    /// The documents' text, that of 11, 13 and 15 shortened.
     pub fn text(self) -> &'static str {
         match self.0 {
             1 => "a line is missing, isn't of the form due there, or lacks its LF",
@@ -62,7 +64,9 @@ impl Refusal {
             13 => "head and list disagree",
             14 => "the pair to remove is not held",
             15 => "no split at the group's size keeps all loads at or below P",
-            _ => "a number that document 01 does not have",
+            16 => "a line of none of these forms, out of place, or lacking its LF, or no `p` line",
+            17 => "the count of `e` lines isn't M",
+            _ => "a number that the documents do not have",
         }
     }
 }
@@ -142,6 +146,14 @@ impl List {
         Ok(List { head: answer.head, records, work })
     }
 
+    /// The list of a DIMACS edge file, whose modules are numbered from 1. Refuses by 16, 2, 3; 16, 17, 4, 5, 10; 16, 17.
+    pub fn read_dimacs(bytes: &[u8]) -> Result<List, Refusal> {
+        let (mut records, mut work) = (vec![Pair::default(); PAIRS], vec![0; WORK]);
+        let answer = ffi::read_dimacs(bytes, &mut records, &mut work);
+        Refusal::of(answer.number)?;
+        Ok(List { head: answer.head, records, work })
+    }
+
     /// N.
     pub fn modules(&self) -> usize {
         self.head.n as usize
@@ -150,6 +162,22 @@ impl List {
     /// The held pairs, smaller module first, in rising order.
     pub fn pairs(&self) -> &[Pair] {
         &self.records[..self.head.m as usize]
+    }
+
+    /// The list's DIMACS edge file: no comments, the pairs in list order, modules numbered from 1. Read again it gives the same list. Never refuses.
+    ///
+    /// ```
+    /// let list = kandurzo::List::read_dimacs(b"c three modules\np edge 3 2\ne 3 2\nc\ne 1 2\n")?;
+    /// assert_eq!(list.pairs(), [kandurzo::Pair { a: 0, b: 1 }, kandurzo::Pair { a: 1, b: 2 }]);
+    /// assert_eq!(list.write_dimacs()?, b"p edge 3 2\ne 1 2\ne 2 3\n");
+    /// # Ok::<(), kandurzo::Refusal>(())
+    /// ```
+    pub fn write_dimacs(&self) -> Result<Vec<u8>, Refusal> {
+        let mut text = vec![0; TEXT];
+        let answer = ffi::write_dimacs(self.head, &self.records, &mut text);
+        Refusal::of(answer.number)?;
+        text.truncate(answer.length as usize);
+        Ok(text)
     }
 
     /// Adds the pair of a and b, in either order. Refuses by 4, 5, 10, 11.

@@ -2,55 +2,12 @@
 //! of every buffer, those past the ones named too. Each test also asserts that it met every number of its call; 15 is proved never to come.
 mod plain;
 
-use kandurzo::ffi::{self, Changed, Difference, Solved, Verdict};
+use kandurzo::ffi::{self, Changed, Difference, Solved, Verdict, Written};
 use kandurzo::{Head, Pair};
+use plain::buffers::{bytes, halves, in_front, pairs, work, work_after, Met, WORK};
 use plain::{Plain, Random};
 use std::collections::BTreeSet;
 use std::mem::{align_of, offset_of, size_of};
-
-const WORK: usize = 16384;
-
-/// Numbers met, with how often.
-#[derive(Default)]
-struct Met([usize; 16]);
-
-impl Met {
-    fn see(&mut self, number: u32) {
-        self.0[number as usize] += 1;
-    }
-
-    fn are(&self, wanted: &[usize]) {
-        let met: Vec<usize> = (0..16).filter(|&k| self.0[k] > 0).collect();
-        assert_eq!(met, wanted, "numbers met: {:?}", self.0);
-    }
-}
-
-fn bytes(random: &mut Random, length: usize) -> Vec<u8> {
-    (0..length).map(|_| random.next() as u8).collect()
-}
-
-fn halves(random: &mut Random, length: usize) -> Vec<u16> {
-    (0..length).map(|_| random.next() as u16).collect()
-}
-
-fn work(random: &mut Random) -> Vec<u32> {
-    let length = random.length(WORK);
-    (0..length).map(|_| random.next() as u32).collect()
-}
-
-/// Untouched after 12 or 13; 16,384 zero words after any other return; words past them stay.
-fn work_after(number: u32, before: &[u32]) -> Vec<u32> {
-    let mut after = before.to_vec();
-    if number != 12 && number != 13 {
-        after[..WORK].fill(0);
-    }
-    after
-}
-
-/// The new entries in front of the old ones.
-fn in_front<T: Clone>(new: &[T], old: &[T]) -> Vec<T> {
-    [new, &old[new.len()..]].concat()
-}
 
 #[test]
 fn layout() {
@@ -58,14 +15,16 @@ fn layout() {
         (size_of::<Pair>(), align_of::<Pair>()),
         (size_of::<Head>(), align_of::<Head>()),
         (size_of::<Changed>(), align_of::<Changed>()),
+        (size_of::<Written>(), align_of::<Written>()),
         (size_of::<Solved>(), align_of::<Solved>()),
         (size_of::<Verdict>(), align_of::<Verdict>()),
         (size_of::<Difference>(), align_of::<Difference>()),
     ];
-    assert_eq!(sizes, [(4, 2), (8, 4), (12, 4), (32, 8), (12, 4), (16, 8)]);
+    assert_eq!(sizes, [(4, 2), (8, 4), (12, 4), (8, 4), (32, 8), (12, 4), (16, 8)]);
     assert_eq!((offset_of!(Pair, a), offset_of!(Pair, b)), (0, 2));
     assert_eq!((offset_of!(Head, n), offset_of!(Head, m)), (0, 4));
     assert_eq!((offset_of!(Changed, number), offset_of!(Changed, head)), (0, 4));
+    assert_eq!((offset_of!(Written, number), offset_of!(Written, length)), (0, 4));
     assert_eq!((offset_of!(Solved, p), offset_of!(Solved, q), offset_of!(Solved, k)), (4, 8, 12));
     assert_eq!((offset_of!(Solved, coresize), offset_of!(Solved, ratio)), (16, 24));
     assert_eq!((offset_of!(Verdict, p), offset_of!(Verdict, q), offset_of!(Difference, value)), (4, 8, 8));
@@ -226,8 +185,7 @@ fn read() {
         let file = file(&mut random);
         let named = plain::read(&file, 4096).map_or(10, |list| list.pairs.len());
         let length = random.length(named);
-        let before: Vec<Pair> =
-            (0..length).map(|_| Pair { a: random.next() as u16, b: random.next() as u16 }).collect();
+        let before = pairs(&mut random, length);
         let mut work = work(&mut random);
         let answer = if work.len() < WORK { Err(12) } else { plain::read(&file, length) };
         let (number, head, records) = match &answer {

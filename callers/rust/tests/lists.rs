@@ -2,7 +2,7 @@
 mod plain;
 
 use kandurzo::{List, Refusal};
-use plain::{Plain, Random};
+use plain::{dimacs, Plain, Random};
 use std::collections::BTreeSet;
 
 fn list(n: u32, pairs: &[(u32, u32)]) -> List {
@@ -63,17 +63,38 @@ fn refusals_have_numbers_and_texts() {
 }
 
 #[test]
+fn dimacs_files() {
+    let text = b"p edge 5 7\ne 1 2\ne 1 3\ne 1 4\ne 2 3\ne 2 4\ne 3 4\ne 4 5\n";
+    assert_eq!(list(5, &TAIL).write_dimacs().unwrap(), text);
+    let mut tail = List::read_dimacs(text).unwrap();
+    assert_eq!((tail.modules(), found(&mut tail)), (5, (6, 4, vec![0, 1, 2, 3])));
+    let lone = List::read_dimacs(b"c a new machine\np edge 1 0\n").unwrap();
+    assert_eq!((lone.modules(), lone.pairs().len(), lone.write_dimacs().unwrap()), (1, 0, b"p edge 1 0\n".to_vec()));
+    let refused = |text: &[u8]| List::read_dimacs(text).unwrap_err();
+    assert_eq!(
+        refused(b"").to_string(),
+        "16: a line of none of these forms, out of place, or lacking its LF, or no `p` line"
+    );
+    assert_eq!(refused(b"p edge 2 1\n").to_string(), "17: the count of `e` lines isn't M");
+    assert_eq!((refused(b"p edge 0 0\n").number(), refused(b"p edge 2 4097\n").number()), (2, 3));
+    assert_eq!((refused(b"p edge 2 1\ne 0 1\n").number(), refused(b"p edge 2 1\ne 1 1\n").number()), (4, 5));
+    assert_eq!(refused(b"p edge 2 2\ne 1 2\ne 2 1\n").number(), 10);
+}
+
+#[test]
 fn printed_for_debugging() {
     let mut pair = list(2, &[(1, 0)]);
     pair.solve().unwrap();
     assert_eq!(format!("{:?}", pair.clone()), "List { modules: 2, pairs: [Pair { a: 0, b: 1 }] }");
 }
 
-/// The list holds the pairs of the set, and a list read from the set's file is the same.
+/// The list holds the pairs of the set, a list read from either of the set's files is the same, and it is written as its DIMACS file.
 fn holds(list: &mut List, random: &mut Random, held: &BTreeSet<(usize, usize)>) {
     let plain = Plain { n: list.modules(), pairs: held.iter().copied().collect() };
     assert_eq!(list.pairs(), plain.records());
     assert_eq!(List::read(&plain.file(random)).unwrap().pairs(), list.pairs());
+    assert_eq!(List::read_dimacs(&dimacs::lines(&plain, random).concat()).unwrap().pairs(), list.pairs());
+    assert_eq!(list.write_dimacs(), Ok(dimacs::write(&plain)));
     let (found, peeled) = (list.solve().unwrap(), list.peel().unwrap());
     assert_eq!((&peeled.order, &peeled.cores), (&plain.leaving(), &plain.cores()));
     assert_eq!(found.cores, peeled.cores);

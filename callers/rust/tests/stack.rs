@@ -27,6 +27,9 @@ fn each_method_in_a_small_thread() {
         assert_eq!(within(stack::REMOVE, || list.remove(a, b)), Ok(()));
         assert_eq!(within(stack::ADD, || list.add(b, a)), Ok(()));
         assert_eq!(list.pairs(), drawn.records());
+        let scattered = plain::dimacs::lines(&drawn, &mut random).concat();
+        assert_eq!(within(stack::WRITE_DIMACS, || list.write_dimacs()), Ok(plain::dimacs::write(&drawn)));
+        assert_eq!(within(stack::READ_DIMACS, || List::read_dimacs(&scattered)).unwrap().pairs(), list.pairs());
         assert_eq!(within(stack::PEEL, || list.peel()).unwrap().order, drawn.leaving());
         let found = within(stack::SOLVE, || list.solve()).unwrap();
         assert_eq!(within(stack::CHECK, || list.check(&found.members, &found.shares)), Ok((found.p, found.q)));
@@ -41,6 +44,8 @@ fn figures_of_the_header() {
         ("ADD", stack::ADD),
         ("REMOVE", stack::REMOVE),
         ("READ", stack::READ),
+        ("READ_DIMACS", stack::READ_DIMACS),
+        ("WRITE_DIMACS", stack::WRITE_DIMACS),
         ("PEEL", stack::PEEL),
         ("SOLVE", stack::SOLVE),
         ("CHECK", stack::CHECK),

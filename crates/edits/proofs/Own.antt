@@ -57,7 +57,7 @@ use Rattle.kandurzo.proofs.Changed.Laws as D′
 use Rattle.kandurzo.proofs.Types.{plain-changed}
 use Rattle.kandurzo.proofs.Outcomes.{Call}
 use Rattle.kandurzo.proofs.InPlace.{clauses}
-use Rattle.kandurzo.proofs.Written.{a-pair, a-head, a-word, a-pair-there, a-head-there, value, lends, lends-all, at, the, lent-again}
+use Rattle.kandurzo.proofs.BriefMir.{a-pair, a-head, a-word, a-pair-there, a-head-there, value, lends, lends-all, at, the, lent-again}
 use Rattle.kandurzo.proofs.kandurzo_add_to as callee
 use Rattle.kandurzo.proofs.kandurzo_add as f
 

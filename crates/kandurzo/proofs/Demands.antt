@@ -1,6 +1,7 @@
 -- Every list is served, and refusals keep what is lent: theorems of specs/Promise.antt.
 --   front-long                             entries that can be taken are there
 --   n-is, m-is, lent-list, lent-agrees, lent-held    a list that is lent is the one held
+--   held-head, held-lent                   head and list that agree hold a list that is lent
 --   lent-passes, sheet-number              with buffers long enough neither 13 nor 12 comes
 --   every-list-peeled, every-list-solved, every-list-judged, every-list-compared    so every list is served
 --   refusals-keep, fifteen-never           refusals
@@ -80,11 +81,11 @@ module _ {g : Pairs} {h : Head} {ps : List Pair} (lent : Lent g h ps) where
   lent-passes bs rest long = gate-then (agrees h ps) (any-short bs) rest (rw (lent-agrees, all-long bs long) refl)
 
 -- head and list that agree hold a list that is lent
-held-head : (h : Head) (ps : List Pair) → agrees h ps ≡ true → h ≡ head-of (held-list h ps .n) (length (held-list h ps .pairs))
+pub held-head : (h : Head) (ps : List Pair) → agrees h ps ≡ true → h ≡ head-of (held-list h ps .n) (length (held-list h ps .pairs))
 unfolding head-of held-list
 held-head h ps agreed i = record { n = h .n; m = sym (length-held h ps agreed) i }
 
-held-lent : (h : Head) (ps : List Pair) → agrees h ps ≡ true → Lent (held-list h ps) h ps
+pub held-lent : (h : Head) (ps : List Pair) → agrees h ps ≡ true → Lent (held-list h ps) h ps
 unfolding all-once counts-once
 held-lent h ps agreed = record {
   list = held-is-list h ps agreed;
@@ -169,9 +170,10 @@ refusals-keep = record {
       (call .head ∙ if-taken-old _ _ h (λ z. n (call .number ∙ z)), call .list ∙ if-taken-old _ _ ps (λ z. n (call .number ∙ z)));
   remove = λ h ps a b r ps′ call n.
       (call .head ∙ if-taken-old _ _ h (λ z. n (call .number ∙ z)), call .list ∙ if-taken-old _ _ ps (λ z. n (call .number ∙ z)));
-  read = λ bytes ps work r ps′ work′ call n. call .records ∙ read-refused _ ps (λ z. n (call .number ∙ z));
+  read = λ read bytes ps work r ps′ work′ call n. call .records ∙ read-refused _ ps (λ z. n (call .number ∙ z));
   peel = λ h ps order cores work r order′ cores′ work′ call n. (call .order-is ∙ if-taken-old r _ order n, call .cores-are ∙ if-taken-old r _ cores n);
   solve = λ h ps members cores shares work r members′ cores′ shares′ work′ call n. let no = call .refused n in (no .1, no .2, no .3);
+  write-dimacs = λ h ps text w text′ call n. call .bytes ∙ if-taken-old (w .number) _ text n;
 }
 
 -- the number of solve is 13, 12 or 0

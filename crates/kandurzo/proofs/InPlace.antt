@@ -44,7 +44,7 @@ use Rattle.records.proofs.Records.{plain-pair, plain-head, pair-row}
 use Rattle.records.proofs.Pair as P
 use Rattle.records.proofs.Head as N
 use Rattle.kandurzo.proofs.Changed as D
-use Rattle.kandurzo.proofs.Written.{a-pair, a-head, a-word, a-pair-there, a-head-there, value, lends, lends-all, at, the, part, lent-again}
+use Rattle.kandurzo.proofs.BriefMir.{a-pair, a-head, a-word, a-pair-there, a-head-there, value, lends, lends-all, at, the, part, lent-again}
 use Rattle.kandurzo.proofs.Types.{plain-changed, changed-parts}
 use Rattle.kandurzo.proofs.Outcomes.{Call, Outcome, call-clauses}
 use Rattle.kandurzo.proofs.kandurzo_add as callee

@@ -8,12 +8,10 @@ use mathlib.Core.Path.{_≡_, sym, _∙_}
 use mathlib.Core.Bool.{Bool, true, false}
 use mathlib.Core.List.{List, _∷_, _++_}
 use Prim.Native.Nat.{ℕ}
-use lib.Dec.{eqb}
-use borrow.Author.Tests.{eqb-true, eqb-false, not-false}
+use borrow.Author.Tests.{not-false}
 use Rattle.theory.specs.Lists.{Pairs}
 use Rattle.theory.specs.Refusals.{Cause, cause, refusal}
 use Rattle.theory.proofs.Refusals.{refusal-met, refusal-passed, refusal-none}
-use Rattle.theory.proofs.Tests.{by-test}
 use Rattle.pairs.specs.Held.{is-held, smaller-first-pair}
 use Rattle.pairs.specs.Causes.{pair-causes, add-causes, remove-causes}
 use Rattle.pairs.proofs.Causes.{refusal-first, refusal-split, pair-then}

@@ -1,16 +1,20 @@
--- One theorem for each statement of specs/Promise.antt and of specs/Keeping.antt, in their order.
+-- One theorem for each statement of specs/Promise.antt, specs/Keeping.antt and specs/Exchange.antt, in their order.
 --   lent-held, every-list-peeled, every-list-solved, every-list-judged, every-list-compared    every list
 --   refusals-keep, unsplit-never, fifteen-never    refusals
 --   peel-exact, check-exact, solve-alone, solve-accepted, records-in-order    answers
 --   held-once, either-way-round, add-exactly, remove-exactly, add-holds, remove-drops, thirteen-never-follows    one pair more, one pair less
 --   arrival-traceless, any-order-taken, every-list-added, same-pairs-same-records, add-undone    the order of arrival
 --   every-file-read, read-exact    read
+--   every-list-written, written-read, read-rewritten, comments-unread, read-dimacs-exact, every-dimacs-read    read_dimacs and write_dimacs
 -- Assumes nothing.
 use Rattle.kandurzo.specs.Promise.{Lent-held, Every-list-peeled, Every-list-solved, Every-list-judged, Every-list-compared, Refusals-keep, Unsplit-never}
 use Rattle.kandurzo.specs.Promise.{Fifteen-never, Peel-exact, Check-exact, Solve-alone, Solve-accepted, Records-in-order}
 use Rattle.kandurzo.specs.Keeping.{Held-once, Either-way-round, Add-exactly, Remove-exactly, Add-holds, Remove-drops, Thirteen-never-follows}
 use Rattle.kandurzo.specs.Keeping.{Arrival-traceless, Any-order-taken, Every-list-added, Same-pairs-same-records, Add-undone}
 use Rattle.kandurzo.specs.Keeping.{Every-file-read, Read-exact}
+use Rattle.kandurzo.specs.Exchange.{Every-list-written, Written-read, Read-rewritten, Comments-unread, Read-dimacs-exact, Every-dimacs-read}
+use Rattle.kandurzo.proofs.Readings.{reads-file, reads-dimacs}
+use Rattle.kandurzo.proofs.Exchanges as exchange
 use Rattle.kandurzo.proofs.Demands as demands
 use Rattle.kandurzo.proofs.Exact as exact
 use Rattle.kandurzo.proofs.Solves as solves
@@ -85,7 +89,13 @@ remove-drops = keeping.remove-drops
 
 pub thirteen-never-follows : Thirteen-never-follows
 thirteen-never-follows =
-    record { start = keeping.start-agrees; add = keeping.add-agrees; remove = keeping.remove-agrees; read = reading.read-agrees-after }
+    record {
+      start = keeping.start-agrees;
+      add = keeping.add-agrees;
+      remove = keeping.remove-agrees;
+      read = λ bytes ps work r ps′ work′ call z. reading.read-agrees-after reads-file call z;
+      read-dimacs = λ bytes ps work r ps′ work′ call z. reading.read-agrees-after reads-dimacs call z;
+    }
 
 -- ---- the order of arrival
 
@@ -111,3 +121,23 @@ every-file-read = reading.every-file-read
 
 pub read-exact : Read-exact
 read-exact = reading.read-exact
+
+-- ---- read_dimacs and write_dimacs
+
+pub every-list-written : Every-list-written
+every-list-written = exchange.every-list-written
+
+pub written-read : Written-read
+written-read = exchange.written-read
+
+pub read-rewritten : Read-rewritten
+read-rewritten = exchange.read-rewritten
+
+pub comments-unread : Comments-unread
+comments-unread = exchange.comments-unread
+
+pub read-dimacs-exact : Read-dimacs-exact
+read-dimacs-exact = reading.read-dimacs-exact
+
+pub every-dimacs-read : Every-dimacs-read
+every-dimacs-read = reading.every-dimacs-read

@@ -1,34 +1,42 @@
--- What holds after read has taken a file: head and list agree, and the list holds exactly the pairs that the file names.
+-- What holds after read or read_dimacs has taken a file: head and list agree, and the list holds exactly the pairs that the file names.
 --   read-agrees-after     13 never follows
---   read-exact            the bytes are the file of the list that is held; records past it stay
---   every-file-read       every file of different pairs is taken
+--   read-holds, read-taken    the file says what is held, records past it stay; a file that says a list is taken
+--   read-exact, read-dimacs-exact         the bytes are the file of the list that is held
+--   every-file-read, every-dimacs-read    every file of different pairs is taken
 -- Assumes nothing.
 use mathlib.Core.Path.{_≡_, sym, ap, _∙_}
 use mathlib.Core.Bool.{true}
 use mathlib.Core.List.{List}
-use Prim.Native.Nat.{ℕ}
+use Prim.Native.Nat.{ℕ, _≤_}
 use lib.ListN.{length, drop}
 use lib.Seq.{drop-at}
+use Rattle.theory.specs.Basics.{all}
+use Rattle.theory.specs.Lists as Lists
 use Rattle.theory.specs.Lists.{Pairs}
 use Rattle.lines.specs.Outcomes.{Outcome, taken}
-use Rattle.pairfile.specs.File.{read-file, file-of}
-use Rattle.pairfile.specs.Promise.{Taken-as}
+use Rattle.pairfile.specs.File.{file-of}
+use Rattle.pairfile.specs.Promise.{Names, names-two, Different}
 use Rattle.pairfile.specs.Answers.{reading-of, pairs-of}
-use Rattle.pairfile.proofs.Accepts.{accepted}
-use Rattle.pairfile.proofs.ReadsEvery.{gathered, gathered-read}
+use Rattle.pairfile.proofs.Accepts as File
+use Rattle.pairfile.proofs.ReadsEvery.{Gathered, gathered, gathered-read}
+use Rattle.dimacs.specs.Edges.{dimacs-file}
+use Rattle.dimacs.proofs.Accepts as Dimacs
+use Rattle.dimacs.proofs.ReadsBack.{gathered-back}
 use Rattle.records.specs.declared.Pair.{Pair}
 use Rattle.records.specs.Records.{held-list, agrees}
 use Rattle.kandurzo.specs.declared.Changed.{Changed}
 use Rattle.kandurzo.specs.Listing.{head-of, as-records}
-use Rattle.kandurzo.specs.Reading.{read-outcome, read-head, records-front, Read-call}
+use Rattle.kandurzo.specs.Reading.{Reader, read-outcome, read-head, records-front, Read-call}
 use Rattle.kandurzo.specs.Keeping.{Every-file-read, Read-exact}
+use Rattle.kandurzo.specs.Exchange.{Every-dimacs-read, Read-dimacs-exact}
 use Rattle.kandurzo.proofs.Taken.{length-as-records}
-use Rattle.kandurzo.proofs.Readings.{reads-file, outcome-long, outcome-taken, outcome-zero, read-held, read-agrees}
+use Rattle.kandurzo.proofs.Readings.{Reads, reads-file, reads-dimacs, outcome-long, outcome-taken, outcome-zero, read-held, read-agrees}
 
-module _ {bytes : List ℕ} {ps : List Pair} {work : List ℕ} {r : Changed} {ps′ : List Pair} {work′ : List ℕ}
-    (call : Read-call read-file bytes ps work r ps′ work′) where
+-- a reader
+module _ {read : Reader} (reads : Reads read) {bytes : List ℕ} {ps : List Pair} {work : List ℕ} {r : Changed} {ps′ : List Pair} {work′ : List ℕ}
+    (call : Read-call read bytes ps work r ps′ work′) where
   -- where the list g is taken
-  module _ (g : Pairs) (due : read-outcome read-file (length ps) (length work) bytes ≡ taken g) where
+  module _ (g : Pairs) (due : read-outcome read (length ps) (length work) bytes ≡ taken g) where
     number-is : r .number ≡ 0
     unfolding reading-of
     number-is = call .number ∙ ap (λ (o : Outcome Pairs). reading-of o .number) due
@@ -43,11 +51,11 @@ module _ {bytes : List ℕ} {ps : List Pair} {work : List ℕ} {r : Changed} {ps
 
     held-is : held-list (r .head) ps′ ≡ g
     unfolding read-head reading-of pairs-of
-    held-is = rw (head-is, records-are) (read-held reads-file bytes ps (length work) g due)
+    held-is = rw (head-is, records-are) (read-held reads bytes ps (length work) g due)
 
     list-agrees : agrees (r .head) ps′ ≡ true
     unfolding read-head reading-of pairs-of
-    list-agrees = rw (head-is, records-are) (read-agrees reads-file bytes ps (length work) g due)
+    list-agrees = rw (head-is, records-are) (read-agrees reads bytes ps (length work) g due)
 
     past-stays : drop (r .head .m) ps′ ≡ drop (r .head .m) ps
     unfolding head-of records-front
@@ -55,32 +63,62 @@ module _ {bytes : List ℕ} {ps : List Pair} {work : List ℕ} {r : Changed} {ps
         let m = length (g .pairs) in
         rw (head-is, records-are) (drop-at (as-records (g .pairs)) (drop m ps) m (length-as-records (g .pairs)))
 
-    -- the bytes are the file of what is held
-    file-held : Taken-as (length ps) bytes (held-list (r .head) ps′)
-    file-held = rw held-is (accepted (length ps) bytes g (outcome-taken read-file (length ps) (length work) bytes g due .1))
+    -- the file says what is held
+    pub file-held : read (length ps) bytes ≡ taken (held-list (r .head) ps′)
+    file-held = outcome-taken read (length ps) (length work) bytes g due .1 ∙ ap taken (sym held-is)
+
+    -- number and head, and what is held
+    pub taken-so : (r .number ≡ 0) × (r .head ≡ head-of (g .n) (length (g .pairs))) × (held-list (r .head) ps′ ≡ g) × (agrees (r .head) ps′ ≡ true)
+    taken-so = (number-is, head-is, held-is, list-agrees)
 
   -- number 0: a list is taken
-  list-taken : r .number ≡ 0 → (g : Pairs) × (read-outcome read-file (length ps) (length work) bytes ≡ taken g)
-  list-taken z = outcome-zero (length ps) (length work) bytes (sym (call .number) ∙ z)
+  list-taken : r .number ≡ 0 → (g : Pairs) × (read-outcome read (length ps) (length work) bytes ≡ taken g)
+  list-taken z = outcome-zero reads (length ps) (length work) bytes (sym (call .number) ∙ z)
 
--- 13 never follows a taken file: head and list agree then
-pub read-agrees-after : (bytes : List ℕ) (ps : List Pair) (work : List ℕ) (r : Changed) (ps′ : List Pair) (work′ : List ℕ) →
-    Read-call read-file bytes ps work r ps′ work′ → r .number ≡ 0 → agrees (r .head) ps′ ≡ true
-read-agrees-after bytes ps work r ps′ work′ call z = let t = list-taken call z in list-agrees call (t .0) (t .1)
+  -- 13 never follows a taken file: head and list agree then
+  pub read-agrees-after : r .number ≡ 0 → agrees (r .head) ps′ ≡ true
+  read-agrees-after z = let t = list-taken z in list-agrees (t .0) (t .1)
+
+  -- the file says what is held, and records past it stay
+  pub read-holds : r .number ≡ 0 → (read (length ps) bytes ≡ taken (held-list (r .head) ps′)) × (drop (r .head .m) ps′ ≡ drop (r .head .m) ps)
+  read-holds z = let t = list-taken z in (file-held (t .0) (t .1), past-stays (t .0) (t .1))
+
+  -- a file that says a list is taken, where the work buffer is long enough
+  pub read-taken : (g : Pairs) → 16384 ≤ length work → read (length ps) bytes ≡ taken g →
+      (r .number ≡ 0) × (r .head ≡ head-of (g .n) (length (g .pairs))) × (held-list (r .head) ps′ ≡ g) × (agrees (r .head) ps′ ≡ true)
+  read-taken g long due = taken-so g (outcome-long read (length ps) (length work) bytes long ∙ due)
 
 -- the pairs held after a file is taken are exactly those that it names
 pub read-exact : Read-exact
 unfolding Read-exact
 read-exact bytes ps work r ps′ work′ call z =
-    let t = list-taken call z in
-    (file-held call (t .0) (t .1), past-stays call (t .0) (t .1))
+    let t = read-holds reads-file call z in
+    (File.accepted (length ps) bytes (held-list (r .head) ps′) (t .0), t .1)
+
+pub read-dimacs-exact : Read-dimacs-exact
+unfolding Read-dimacs-exact
+read-dimacs-exact bytes ps work r ps′ work′ call z =
+    let t = read-holds reads-dimacs call z in
+    (Dimacs.accepted (length ps) bytes (held-list (r .head) ps′) (t .0), t .1)
 
 -- every file of different pairs is taken, in whatever order they come and whichever module stands first on a line
+module _ (n : ℕ) (lines : List Lists.Pair) (low : 1 ≤ n) (high : n ≤ 512) (short : length lines ≤ 4096) (two : all (names-two n) lines ≡ true)
+    (once : Different lines) where
+  every : {read : Reader} (reads : Reads read) (bytes : List ℕ) {ps : List Pair} {work : List ℕ} {r : Changed} {ps′ : List Pair} {work′ : List ℕ} →
+      ((t : Gathered n lines) → read (length ps) bytes ≡ taken (record { n = n; pairs = t .pairs })) → 16384 ≤ length work →
+      Read-call read bytes ps work r ps′ work′ →
+      (r .number ≡ 0) × (r .head ≡ head-of n (length lines)) × Names lines (held-list (r .head) ps′ .pairs)
+  every reads bytes due long call =
+      let t = gathered n lines two once in
+      let s = read-taken reads call (record { n = n; pairs = t .pairs }) long (due t) in
+      (s .0, s .1 ∙ ap (head-of n) (t .size), rw (s .2) (t .named))
+
 pub every-file-read : Every-file-read
 unfolding Every-file-read
 every-file-read n lines ps work r ps′ work′ low high short fits long two once call =
-    let t = gathered n lines two once in
-    let g : Pairs = record { n = n; pairs = t .pairs } in
-    let due : read-outcome read-file (length ps) (length work) (file-of n lines) ≡ taken g =
-    outcome-long read-file (length ps) (length work) (file-of n lines) long ∙ gathered-read (length ps) n lines t low high short fits in
-    (number-is call g due, head-is call g due ∙ ap (head-of n) (t .size), rw (held-is call g due) (t .named))
+    every n lines low high short two once reads-file (file-of n lines) (λ t. gathered-read (length ps) n lines t low high short fits) long call
+
+pub every-dimacs-read : Every-dimacs-read
+unfolding Every-dimacs-read
+every-dimacs-read n lines ps work r ps′ work′ low high short fits long two once call =
+    every n lines low high short two once reads-dimacs (dimacs-file n lines) (λ t. gathered-back (length ps) n lines t low high short fits) long call

@@ -1,7 +1,7 @@
--- Read: from the bytes to words, and from the words to the lent records.
---   read-short, read-file-on     what read answers on words: of a short work buffer, and of any other
---   Reads, reads-file            what is asked of a reader
---   outcome-long                 where the work buffer is long enough, read's outcome is what the file says
+-- Read and read_dimacs: from the bytes to words, and from the words to the lent records.
+--   Reads, reads-file, reads-dimacs    what is asked of a reader
+--   read-short, read-on          what is answered on words: of a short work buffer, and of any other
+--   outcome-long                 where the work buffer is long enough, the outcome is what the file says
 --   outcome-taken, outcome-zero  what is taken; number 0: a list is
 --   read-enough, read-long       what the copy and the clearing ask
 --   read-says                    the call's promise
@@ -25,28 +25,58 @@ use Rattle.lines.specs.Outcomes.{Outcome, refused, taken}
 use Rattle.lines.proofs.Taken.{refused-not-taken}
 use Rattle.pairfile.specs.File.{read-file}
 use Rattle.pairfile.specs.Promise.{all-once}
-use Rattle.pairfile.specs.Answers.{reading-of, pairs-of, FileRead}
+use Rattle.pairfile.specs.Answers.{reading-of, pairs-of, WordsRead}
 use Rattle.pairfile.specs.declared.Reading.{Reading}
-use Rattle.pairfile.proofs.Accepts.{accepted}
-use Rattle.pairfile.proofs.Readings.{file-numbers, file-sound, reading-past, words-small}
+use Rattle.pairfile.proofs.Accepts as File
+use Rattle.pairfile.proofs.Readings.{file-numbers, Sound, reading-past, words-small}
+use Rattle.dimacs.specs.Edges.{read-dimacs}
+use Rattle.dimacs.proofs.Given.{dimacs-given, number-range}
+use Rattle.dimacs.proofs.Accepts as Dimacs
 use Rattle.records.specs.declared.Pair.{Pair}
 use Rattle.records.specs.declared.Head.{Head}
 use Rattle.records.specs.Records.{held-list, agrees, put-back, Fits-records, Room-back}
 use Rattle.kandurzo.specs.declared.Edit.{Edit}
 use Rattle.kandurzo.specs.Listing.{head-of, as-records}
 use Rattle.kandurzo.specs.Buffers.{buffer, any-short, work-words, cleared, work-left}
-use Rattle.kandurzo.specs.Reading.{Reader, read-buffers, read-outcome, read-head, records-front, Read-call, Read-on}
+use Rattle.kandurzo.specs.Reading.{Reader, read-buffers, read-outcome, read-head, records-front, Read-call, no-edit, edit-of, Read-on}
 use Rattle.kandurzo.proofs.Outcomes.{answer}
 use Rattle.kandurzo.proofs.Filling.{work-zeros, cleared-past}
 use Rattle.kandurzo.proofs.Gates.{none-short}
 use Rattle.kandurzo.proofs.Calls.{records-laid}
 use Rattle.kandurzo.proofs.Taken.{held-front, agrees-front}
 
+-- ---- a reader
+
+-- what is asked of one: what it takes is a list that fits, every pair counts once, and no file is refused by 0, 12 or 13
+pub record Reads (read : Reader) : Type 0 where
+  pub list : (room : ℕ) (bytes : List ℕ) (g : Pairs) → read room bytes ≡ taken g → is-list g ≡ true
+  pub fits : (room : ℕ) (bytes : List ℕ) (g : Pairs) → read room bytes ≡ taken g → length (g .pairs) ≤ room
+  pub once : (room : ℕ) (bytes : List ℕ) (g : Pairs) → read room bytes ≡ taken g → all counts-once (g .pairs) ≡ true
+  -- 12 is the work buffer's length alone, and 13 is of head and list
+  pub numbers : (room : ℕ) (bytes : List ℕ) (k : ℕ) → read room bytes ≡ refused k → (1 ≤ k) × (k ≡ 12 → ⊥) × (k ≡ 13 → ⊥)
+
+pub reads-file : Reads read-file
+unfolding counts-once all-once
+reads-file = record {
+  list = λ room bytes g e. File.accepted room bytes g e .list;
+  fits = λ room bytes g e. File.accepted room bytes g e .fits;
+  once = λ room bytes g e. File.accepted room bytes g e .once;
+  numbers = λ room bytes k e. let r = file-numbers room bytes k e in (r .0, (λ z. omega (arith, r .1, z)), λ z. omega (arith, r .1, z));
+}
+
+pub reads-dimacs : Reads read-dimacs
+unfolding counts-once all-once
+reads-dimacs = record {
+  list = λ room bytes g e. Dimacs.accepted room bytes g e .list;
+  fits = λ room bytes g e. Dimacs.accepted room bytes g e .fits;
+  once = λ room bytes g e. Dimacs.accepted room bytes g e .once;
+  numbers = λ room bytes k e. number-range k (dimacs-given room bytes .by k e);
+}
+
 -- ---- on words
 
 -- of a short work buffer: 12, and nothing is written
-pub read-short : (read : Reader) (room : ℕ) (bytes work : List ℕ) → length work < 16384 →
-    Read-on read room bytes work work (record { number = 12; head = record { n = 0; m = 0 }; count = 0 })
+pub read-short : (read : Reader) (room : ℕ) (bytes work : List ℕ) → length work < 16384 → Read-on read room bytes work work no-edit
 unfolding read-outcome read-buffers buffer any-short read-head reading-of pairs-of head-of work-words Fits-records
 read-short read room bytes work h =
     let s : read-outcome read room (length work) bytes ≡ refused 12 = rw (lt-ltb (length work) 16384 h) in
@@ -67,60 +97,48 @@ pub outcome-long : (read : Reader) (room w : ℕ) (bytes : List ℕ) → 16384 �
 unfolding read-outcome read-buffers buffer any-short work-words
 outcome-long read room w bytes long = rw (le-ltb w 16384 long)
 
--- a file's number is below 12: 12 is the work buffer's length alone, and 13 is never a file's
-number-few : (room : ℕ) (bytes : List ℕ) → reading-of (read-file room bytes) .number < 12
-unfolding reading-of
-number-few room bytes = go (read-file room bytes) refl
-  where
-    go : (o : Outcome Pairs) → read-file room bytes ≡ o → reading-of o .number < 12
-    go (refused k) e = omega (arith, file-numbers room bytes k e .1)
-    go (taken g) e = omega arith
+module _ {read : Reader} (reads : Reads read) (room : ℕ) (bytes : List ℕ) where
+  -- a file's number is neither 12 nor 13
+  number-other : (reading-of (read room bytes) .number ≡ 12 → ⊥) × (reading-of (read room bytes) .number ≡ 13 → ⊥)
+  unfolding reading-of
+  number-other = go (read room bytes) refl
+    where
+      go : (o : Outcome Pairs) → read room bytes ≡ o → (reading-of o .number ≡ 12 → ⊥) × (reading-of o .number ≡ 13 → ⊥)
+      go (refused k) e = let n = reads .numbers room bytes k e in (n .1, n .2)
+      go (taken g) e = ((λ z. omega arith), λ z. omega arith)
 
-module _ (room : ℕ) (bytes work after : List ℕ) (f : Reading) (long : 16384 ≤ length work) (read : FileRead room bytes work after f) where
-  read-past : work-left (f .number) after ≡ work-left (f .number) work
-  read-past =
-      let same : f .number ≡ reading-of (read-file room bytes) .number = ap (λ (q : Reading). q .number) (read .reading) in
-      let zeros : (w : List ℕ) → work-left (f .number) w ≡ cleared w =
-      λ w. work-zeros (f .number) w (λ x. omega (arith, number-few room bytes)) (λ x. omega (arith, number-few room bytes)) in
-      zeros after ∙ cleared-past 12288 after work (omega arith) (reading-past read (file-sound room bytes)) ∙ sym (zeros work)
+  sound : Sound (read room bytes)
+  sound = record { numbered = λ k e. reads .numbers room bytes k e .0; list = λ g e. reads .list room bytes g e }
 
-  head-is : _≡_ {A = Head} (record { n = f .n; m = f .m }) (read-head (read-file room bytes))
-  unfolding read-head head-of
-  head-is = ap (λ (q : Reading). head-of (q .n) (q .m)) (read .reading)
+  module _ (work after : List ℕ) (f : Reading) (long : 16384 ≤ length work) (on : WordsRead (read room bytes) work after f) where
+    read-past : work-left (f .number) after ≡ work-left (f .number) work
+    read-past =
+        let same : f .number ≡ reading-of (read room bytes) .number = ap (λ (q : Reading). q .number) (on .reading) in
+        let zeros : (w : List ℕ) → work-left (f .number) w ≡ cleared w =
+        λ w. work-zeros (f .number) w (λ x. number-other .0 (sym same ∙ x)) (λ x. number-other .1 (sym same ∙ x)) in
+        zeros after ∙ cleared-past 12288 after work (omega arith) (reading-past on sound) ∙ sym (zeros work)
 
-  fit-records : Fits-records (f .m) after
-  unfolding Fits-records
-  fit-records j l =
-      let small = words-small read (file-sound room bytes) in
-      (omega (arith, small (2 * j) (omega arith)), omega (arith, small (2 * j + 1) (omega arith)))
+    head-is : _≡_ {A = Head} (record { n = f .n; m = f .m }) (read-head (read room bytes))
+    unfolding read-head head-of
+    head-is = ap (λ (q : Reading). head-of (q .n) (q .m)) (on .reading)
 
-  -- of any other: the file's answer
-  pub read-file-on : Read-on read-file room bytes work after (record { number = f .number; head = record { n = f .n; m = f .m }; count = f .m })
-  read-file-on =
-      let s = outcome-long read-file room (length work) bytes long in
-      record {
-        number = ap (λ (q : Reading). q .number) (read .reading) ∙ ap (λ (o : Outcome Pairs). reading-of o .number) (sym s);
-        head = head-is ∙ ap read-head (sym s);
-        pairs = read .pairs ∙ ap pairs-of (sym s);
-        small = fit-records;
-        past = read-past;
-      }
+    fit-records : Fits-records (f .m) after
+    unfolding Fits-records
+    fit-records j l =
+        let small = words-small on sound in
+        (omega (arith, small (2 * j) (omega arith)), omega (arith, small (2 * j + 1) (omega arith)))
 
--- ---- a reader
-
--- what is asked of one: what it takes is a list that fits, and every pair counts once
-pub record Reads (read : Reader) : Type 0 where
-  pub list : (room : ℕ) (bytes : List ℕ) (g : Pairs) → read room bytes ≡ taken g → is-list g ≡ true
-  pub fits : (room : ℕ) (bytes : List ℕ) (g : Pairs) → read room bytes ≡ taken g → length (g .pairs) ≤ room
-  pub once : (room : ℕ) (bytes : List ℕ) (g : Pairs) → read room bytes ≡ taken g → all counts-once (g .pairs) ≡ true
-
-pub reads-file : Reads read-file
-unfolding counts-once all-once
-reads-file = record {
-  list = λ room bytes g e. accepted room bytes g e .list;
-  fits = λ room bytes g e. accepted room bytes g e .fits;
-  once = λ room bytes g e. accepted room bytes g e .once;
-}
+    -- of any other: the file's answer
+    pub read-on : Read-on read room bytes work after (edit-of f)
+    read-on =
+        let s = outcome-long read room (length work) bytes long in
+        record {
+          number = ap (λ (q : Reading). q .number) (on .reading) ∙ ap (λ (o : Outcome Pairs). reading-of o .number) (sym s);
+          head = head-is ∙ ap read-head (sym s);
+          pairs = on .pairs ∙ ap pairs-of (sym s);
+          small = fit-records;
+          past = read-past;
+        }
 
 -- ---- the call
 
@@ -138,19 +156,19 @@ outcome-taken read room w bytes g = go (any-short (read-buffers w)) refl
     go true z e = absurd (refused-not-taken e)
     go false z e = (read-room z, e)
 
--- number 0: a list is taken
-pub outcome-zero : (room w : ℕ) (bytes : List ℕ) → reading-of (read-outcome read-file room w bytes) .number ≡ 0 →
-    (g : Pairs) × (read-outcome read-file room w bytes ≡ taken g)
-unfolding read-outcome reading-of
-outcome-zero room w bytes = go (any-short (read-buffers w)) (read-file room bytes) refl
-  where
-    go : (t : Bool) (o : Outcome Pairs) → read-file room bytes ≡ o → reading-of (cond t (refused 12) o) .number ≡ 0 →
-        (g : Pairs) × (cond t (refused 12) o ≡ taken g)
-    go true o e z = absurd (omega (arith, z))
-    go false (refused k) e z = absurd (omega (arith, file-numbers room bytes k e .0, z))
-    go false (taken g) e z = (g, refl)
-
 module _ {read : Reader} (reads : Reads read) where
+  -- number 0: a list is taken
+  pub outcome-zero : (room w : ℕ) (bytes : List ℕ) → reading-of (read-outcome read room w bytes) .number ≡ 0 →
+      (g : Pairs) × (read-outcome read room w bytes ≡ taken g)
+  unfolding read-outcome reading-of
+  outcome-zero room w bytes = go (any-short (read-buffers w)) (read room bytes) refl
+    where
+      go : (t : Bool) (o : Outcome Pairs) → read room bytes ≡ o → reading-of (cond t (refused 12) o) .number ≡ 0 →
+          (g : Pairs) × (cond t (refused 12) o ≡ taken g)
+      go true o e z = absurd (omega (arith, z))
+      go false (refused k) e z = absurd (omega (arith, reads .numbers room bytes k e .0, z))
+      go false (taken g) e z = (g, refl)
+
   -- its pairs fit the list and the words
   abbrev Fitting : (room w : ℕ) → List Lists.Pair → Type 0
   Fitting room w qs = (length qs ≤ room) × (length qs ≤ 4096) × (0 < length qs → 12288 ≤ w)

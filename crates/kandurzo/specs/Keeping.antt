@@ -23,6 +23,7 @@ use Rattle.theory.specs.Lists as Lists
 use Rattle.pairs.specs.Held.{same-ends, is-held, smaller-first-pair}
 use Rattle.pairfile.specs.File.{read-file, file-of}
 use Rattle.pairfile.specs.Promise.{times-named, Names, names-two, Different, Taken-as}
+use Rattle.dimacs.specs.Edges.{read-dimacs}
 use Rattle.records.specs.declared.Pair.{Pair}
 use Rattle.records.specs.declared.Head.{Head}
 use Rattle.records.specs.Records.{held-list, agrees, blank}
@@ -111,6 +112,8 @@ pub record Thirteen-never-follows : Type 0 where
       Remove-says h ps a b r ps′ → r .number ≡ 0 → agrees (r .head) ps′ ≡ true
   pub read : (bytes : List ℕ) (ps : List Pair) (work : List ℕ) (r : Changed) (ps′ : List Pair) (work′ : List ℕ) →
       Read-call read-file bytes ps work r ps′ work′ → r .number ≡ 0 → agrees (r .head) ps′ ≡ true
+  pub read-dimacs : (bytes : List ℕ) (ps : List Pair) (work : List ℕ) (r : Changed) (ps′ : List Pair) (work′ : List ℕ) →
+      Read-call read-dimacs bytes ps work r ps′ work′ → r .number ≡ 0 → agrees (r .head) ps′ ≡ true
 
 -- ---- the order of arrival
 

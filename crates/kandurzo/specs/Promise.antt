@@ -11,7 +11,7 @@
 --   every list    Lent, Lent-held; Peel-served, Every-list-peeled; Solve-served, Every-list-solved; Every-list-judged, Every-list-compared
 --   refusals      Refusals-keep; Unsplit-never, Fifteen-never
 --   answers       Peeling-of, Peel-exact; Best-of-all, Check-exact; Shares-alike, Solve-alone, Solve-accepted; Compare-alike, Records-in-order
--- Those of start, add, remove and read are in Keeping. Assumes nothing: these are definitions.
+-- Those of start, add, remove and read are in Keeping, those of read_dimacs and write_dimacs in Exchange. Assumes nothing: these are definitions.
 use mathlib.Core.Path.{_≡_}
 use mathlib.Core.Bool.{true, false}
 use mathlib.Core.List.{List}
@@ -30,16 +30,17 @@ use Rattle.theory.specs.Promise.{Both-best, Largest-order}
 use Rattle.verify.specs.declared.Verdict.{Verdict}
 use Rattle.verify.specs.declared.Difference.{Difference}
 use Rattle.verify.specs.Answers.{Check-says, Surplus-says}
-use Rattle.pairfile.specs.File.{read-file}
 use Rattle.pairfile.specs.Promise.{all-once}
 use Rattle.records.specs.declared.Pair.{Pair}
 use Rattle.records.specs.declared.Head.{Head}
 use Rattle.records.specs.Records.{held-list, agrees}
 use Rattle.kandurzo.specs.declared.Changed.{Changed}
 use Rattle.kandurzo.specs.declared.Solved.{Solved}
+use Rattle.kandurzo.specs.declared.Written.{Written}
 use Rattle.kandurzo.specs.Buffers.{in-front, cleared}
 use Rattle.kandurzo.specs.Listing.{head-of, as-records, Add-says, Remove-says}
-use Rattle.kandurzo.specs.Reading.{Read-call}
+use Rattle.kandurzo.specs.Reading.{Reader, Read-call}
+use Rattle.kandurzo.specs.Writing.{Write-call}
 use Rattle.kandurzo.specs.Peeling.{Peel-call}
 use Rattle.kandurzo.specs.Solving.{Unsplit, Handed, Solve-call}
 use Rattle.kandurzo.specs.Judging.{Check-call, Surplus-call}
@@ -101,19 +102,23 @@ Every-list-compared =
 
 -- ---- refusals
 
--- A REFUSED CALL CHANGES NO HEAD, LIST OR ANSWER BUFFER (start has none of them; peel, solve, check and surplus only read head and list)
+-- A REFUSED CALL CHANGES NO HEAD, LIST OR ANSWER BUFFER (start has none of them; peel, solve, check, surplus and write_dimacs
+-- only read head and list)
 pub record Refusals-keep : Type 0 where
   pub add : (h : Head) (ps : List Pair) (a b : ℕ) (r : Changed) (ps′ : List Pair) →
       Add-says h ps a b r ps′ → (r .number ≡ 0 → ⊥) → (r .head ≡ h) × (ps′ ≡ ps)
   pub remove : (h : Head) (ps : List Pair) (a b : ℕ) (r : Changed) (ps′ : List Pair) →
       Remove-says h ps a b r ps′ → (r .number ≡ 0 → ⊥) → (r .head ≡ h) × (ps′ ≡ ps)
-  pub read : (bytes : List ℕ) (ps : List Pair) (work : List ℕ) (r : Changed) (ps′ : List Pair) (work′ : List ℕ) →
-      Read-call read-file bytes ps work r ps′ work′ → (r .number ≡ 0 → ⊥) → ps′ ≡ ps
+  -- read and read_dimacs
+  pub read : (read : Reader) (bytes : List ℕ) (ps : List Pair) (work : List ℕ) (r : Changed) (ps′ : List Pair) (work′ : List ℕ) →
+      Read-call read bytes ps work r ps′ work′ → (r .number ≡ 0 → ⊥) → ps′ ≡ ps
   pub peel : (h : Head) (ps : List Pair) (order cores work : List ℕ) (r : ℕ) (order′ cores′ work′ : List ℕ) →
       Peel-call h ps order cores work r order′ cores′ work′ → (r ≡ 0 → ⊥) → (order′ ≡ order) × (cores′ ≡ cores)
   pub solve : (h : Head) (ps : List Pair) (members cores shares work : List ℕ) (r : Solved) (members′ cores′ shares′ work′ : List ℕ) →
       Solve-call h ps members cores shares work r members′ cores′ shares′ work′ → (r .number ≡ 0 → ⊥) →
       (members′ ≡ members) × (cores′ ≡ cores) × (shares′ ≡ shares)
+  pub write-dimacs : (h : Head) (ps : List Pair) (text : List ℕ) (w : Written) (text′ : List ℕ) →
+      Write-call h ps text w text′ → (w .number ≡ 0 → ⊥) → text′ ≡ text
 
 -- the condition of 15 never holds
 unfoldable pub Unsplit-never : Type 0

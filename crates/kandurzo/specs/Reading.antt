@@ -1,9 +1,9 @@
--- Document 01, "The list and its calls": what read makes of the bytes of a pair file.
---   Reader           what a file of some form says
+-- Document 01, "The list and its calls", and document 02, item 1: what read makes of the bytes of a pair file, and read_dimacs of those of a DIMACS file.
+--   Reader           what a file of some form says: `read-file` of crate pairfile, `read-dimacs` of crate dimacs
 --   read-buffers, read-outcome  what is lent; the list that is read, or the refusal: 12, then the file's own
 --   read-head, records-front    the new head, and new records in front of the others
 --   Read-call        number, head, every record, and the work buffer
---   Read-on          the same on words, before the records come in
+--   no-edit, edit-of, Read-on   the same on words, before the records come in
 -- Assumes nothing: these are definitions.
 use mathlib.Core.Path.{_≡_}
 use mathlib.Core.Bool.{cond}
@@ -15,6 +15,7 @@ use Rattle.theory.specs.Lists.{Pairs}
 use Rattle.theory.specs.Words.{laid-pairs}
 use Rattle.lines.specs.Outcomes.{Outcome, refused}
 use Rattle.pairfile.specs.Answers.{reading-of, pairs-of}
+use Rattle.pairfile.specs.declared.Reading.{Reading}
 use Rattle.records.specs.declared.Pair.{Pair}
 use Rattle.records.specs.declared.Head.{Head}
 use Rattle.records.specs.Records.{Fits-records}
@@ -52,6 +53,14 @@ pub record Read-call (read : Reader) (bytes : List ℕ) (ps : List Pair) (work :
   pub left : work′ ≡ work-left (r .number) work
 
 -- ---- on words
+
+-- of a short work buffer: 12
+abbrev pub no-edit : Edit
+no-edit = record { number = 12; head = record { n = 0; m = 0 }; count = 0 }
+
+-- of a file that has been read: its number, the new head, and how many records come into the list
+abbrev pub edit-of : Reading → Edit
+edit-of f = record { number = f .number; head = record { n = f .n; m = f .m }; count = f .m }
 
 -- before the records come into the list: their pairs lie in the work buffer
 pub record Read-on (read : Reader) (room : ℕ) (bytes work work′ : List ℕ) (e : Edit) : Type 0 where

@@ -1,15 +1,18 @@
-// The public calls of Kandurzo, over lent records (document 01, "The list and its calls").
+// The public calls of Kandurzo, over lent records (document 01, "The list and its calls"; document 02, item 1: DIMACS files).
 mod buffers;
 mod edits;
 mod judging;
 mod peeling;
 mod reading;
 mod solving;
+mod writing;
 
 ghost use mathlib.Core.Path.{_≡_};
 ghost use Rattle.pairfile.specs.File.{read-file};
+ghost use Rattle.dimacs.specs.Edges.{read-dimacs};
 ghost use Rattle.kandurzo.specs.Listing.{started, changed-to, Add-says, Remove-says};
 ghost use Rattle.kandurzo.specs.Reading.{Read-call};
+ghost use Rattle.kandurzo.specs.Writing.{Write-call};
 ghost use Rattle.kandurzo.specs.Peeling.{Peel-call};
 ghost use Rattle.kandurzo.specs.Solving.{Solve-call};
 ghost use Rattle.kandurzo.specs.Judging.{Check-call, Surplus-call};
@@ -23,6 +26,7 @@ use judging::surplus_on_words;
 use peeling::peel_gate;
 use peeling::peel_on_words;
 use reading::clear_words;
+use reading::read_dimacs_on_words;
 use reading::read_on_words;
 use records::Head;
 use records::Pair;
@@ -33,8 +37,10 @@ use solving::solve_gate;
 use solving::solve_on_words;
 use verify::Difference;
 use verify::Verdict;
+use writing::write_gate;
+use writing::write_on_words;
 
-// What start, add, remove and read answer: the refusal number or 0, and the head after the call.
+// What start, add, remove, read and read_dimacs answer: the refusal number or 0, and the head after the call.
 #[repr(C)]
 pub struct Changed {
     pub number: u32,
@@ -51,6 +57,13 @@ pub struct Solved {
     pub k: u32,
     pub coresize: u32,
     pub ratio: f64,
+}
+
+// What write_dimacs answers: the refusal number or 0, and how many bytes it has written.
+#[repr(C)]
+pub struct Written {
+    pub number: u32,
+    pub length: u32,
 }
 
 // A change of the words: the number, the head after it, and how many records come back to the list.
@@ -170,6 +183,38 @@ pub extern "C" fn kandurzo_read(bytes: &[u8], list: &mut [Pair], work: &mut [u32
 }
 
 pub use kandurzo_read as read;
+
+// Reads a DIMACS edge file: comments, one line `p edge N M`, M lines `e A B` with modules numbered from 1. Makes a new head, and writes the first M records in
+// rising order. Refuses by 12 (work), then line by line: 16, 2, 3, 11; 16, 17, 4, 5, 10; at the end 16, 17. A refused file leaves every record as it was.
+#[no_mangle]
+pub extern "C" fn kandurzo_read_dimacs(bytes: &[u8], list: &mut [Pair], work: &mut [u32]) -> Changed
+    ensures { λ r. ⌜ Read-call read-dimacs (now (bytes .entry)) (now (list .entry)) (now (work .entry)) r (now (list .exit)) (now (work .exit)) ⌝ }
+{
+    let answer = read_dimacs_on_words(bytes, list.len(), work);
+    copy_in(list, work, answer.count);
+    clear_words(answer.number, work);
+    Changed {
+        number: answer.number,
+        head: answer.head,
+    }
+}
+
+pub use kandurzo_read_dimacs as read_dimacs;
+
+// Writes the list as a DIMACS edge file into the front of the text, without comments, the pairs in list order, smaller module first, modules numbered from 1,
+// and answers its length; bytes past it stay. Refuses by 13, 12 (text shorter than 65,536 bytes).
+#[no_mangle]
+pub extern "C" fn kandurzo_write_dimacs(head: Head, list: &[Pair], text: &mut [u8]) -> Written
+    ensures { λ r. ⌜ Write-call head (now (list .entry)) (now (text .entry)) r (now (text .exit)) ⌝ }
+{
+    let agreed = agree(head, list);
+    let mut words = [0u32; 12288];
+    let gate = write_gate(head, agreed, text.len());
+    copy_out(list, &mut words, gate.out);
+    write_on_words(head, gate.number, text, &mut words)
+}
+
+pub use kandurzo_write_dimacs as write_dimacs;
 
 // Leaving order and core numbers, into the first N entries of the two buffers. Refuses by 13, 12 (order, cores, work).
 #[no_mangle]

@@ -1,27 +1,31 @@
-// Read on words: 12, then the file's own refusals; the pairs come to lie in the work buffer, which is cleared in the end.
+// Read and read_dimacs on words: 12, then the file's own refusals; the pairs come to lie in the work buffer, which is cleared in the end.
 ghost use mathlib.Core.Path.{_≡_};
 ghost use Prim.Native.Nat.{_≤_};
 ghost use lib.ListN.{length};
 ghost use Rattle.pairfile.specs.File.{read-file};
+ghost use Rattle.dimacs.specs.Edges.{read-dimacs};
 ghost use Rattle.kandurzo.specs.Buffers.{work-left};
-ghost use Rattle.kandurzo.specs.Reading.{Read-on};
+ghost use Rattle.kandurzo.specs.Reading.{no-edit, edit-of, Read-on};
 use crate::Edit;
 use crate::buffers::clear;
-use pairfile::read_words;
+use pairfile::Reading;
 use records::Head;
 
-// The number, the new head, and how many records come into the list; none beside a refusal.
-pub(crate) fn read_on_words(bytes: &[u8], room: usize, work: &mut [u32]) -> Edit
-    ensures { λ r. ⌜ Read-on read-file room (now (bytes .entry)) (now (work .entry)) (now (work .exit)) r ⌝ }
+// 12, the head 0,0, and no record.
+fn no_edit() -> Edit
+    ensures { λ r. ⌜ r ≡ no-edit ⌝ }
 {
-    if work.len() < 16384 {
-        return Edit {
-            number: 12,
-            head: Head { n: 0, m: 0 },
-            count: 0,
-        };
+    Edit {
+        number: 12,
+        head: Head { n: 0, m: 0 },
+        count: 0,
     }
-    let file = read_words(bytes, room, work);
+}
+
+// The number, the new head, and how many records come into the list; none beside a refusal.
+fn edit_of(file: Reading) -> Edit
+    ensures { λ r. ⌜ r ≡ edit-of file ⌝ }
+{
     let count = file.m as usize;
     Edit {
         number: file.number,
@@ -31,6 +35,26 @@ pub(crate) fn read_on_words(bytes: &[u8], room: usize, work: &mut [u32]) -> Edit
         },
         count,
     }
+}
+
+// A pair file.
+pub(crate) fn read_on_words(bytes: &[u8], room: usize, work: &mut [u32]) -> Edit
+    ensures { λ r. ⌜ Read-on read-file room (now (bytes .entry)) (now (work .entry)) (now (work .exit)) r ⌝ }
+{
+    if work.len() < 16384 {
+        return no_edit();
+    }
+    edit_of(pairfile::read_words(bytes, room, work))
+}
+
+// A DIMACS file.
+pub(crate) fn read_dimacs_on_words(bytes: &[u8], room: usize, work: &mut [u32]) -> Edit
+    ensures { λ r. ⌜ Read-on read-dimacs room (now (bytes .entry)) (now (work .entry)) (now (work .exit)) r ⌝ }
+{
+    if work.len() < 16384 {
+        return no_edit();
+    }
+    edit_of(dimacs::read_words(bytes, room, work))
 }
 
 // Clears the work buffer's 16,384 words, unless 12 or 13 was given.

@@ -1,5 +1,8 @@
 //! A plain second computation of document 01's definitions, as slow and as literal as it may be, and a generator of lists.
 #![allow(dead_code)]
+pub mod buffers;
+pub mod dimacs;
+
 use kandurzo::{Head, Pair};
 use std::collections::BTreeSet;
 
@@ -174,15 +177,19 @@ impl Plain {
         }
     }
 
-    /// The pair file of the list, its pair lines in a random order and each pair in either order.
-    pub fn file(&self, random: &mut Random) -> Vec<u8> {
+    /// The pairs in a random order, and each in either order.
+    pub fn scattered(&self, random: &mut Random) -> Vec<(usize, usize)> {
         let mut pairs = self.pairs.clone();
         for i in (1..pairs.len()).rev() {
             pairs.swap(i, random.below(i + 1));
         }
-        let mut text = format!("modules={}\npairs={}\n", self.n, pairs.len());
-        for (a, b) in pairs {
-            let (a, b) = if random.once_in(2) { (a, b) } else { (b, a) };
+        pairs.into_iter().map(|(a, b)| if random.once_in(2) { (a, b) } else { (b, a) }).collect()
+    }
+
+    /// The pair file of the list, its pair lines in a random order and each pair in either order.
+    pub fn file(&self, random: &mut Random) -> Vec<u8> {
+        let mut text = format!("modules={}\npairs={}\n", self.n, self.pairs.len());
+        for (a, b) in self.scattered(random) {
             text += &format!("pair={a},{b}\n");
         }
         text.into_bytes()

@@ -1,0 +1,63 @@
+//! What the tests over lent buffers share: buffers of anything, what they hold after a call, and the numbers met.
+use super::Random;
+use kandurzo::Pair;
+
+pub const WORK: usize = 16384;
+
+/// Numbers met, with how often.
+#[derive(Default)]
+pub struct Met([usize; 18]);
+
+impl Met {
+    pub fn see(&mut self, number: u32) {
+        self.0[number as usize] += 1;
+    }
+
+    pub fn are(&self, wanted: &[usize]) {
+        self.are_each(1, wanted);
+    }
+
+    /// These and no others, each at least so often.
+    pub fn are_each(&self, least: usize, wanted: &[usize]) {
+        let met: Vec<usize> = (0..18).filter(|&k| self.0[k] > 0).collect();
+        assert_eq!(met, wanted, "numbers met: {self}");
+        assert!(wanted.iter().all(|&k| self.0[k] >= least), "each at least {least} times: {self}");
+    }
+}
+
+impl std::fmt::Display for Met {
+    fn fmt(&self, out: &mut std::fmt::Formatter) -> std::fmt::Result {
+        (0..18).filter(|&k| self.0[k] > 0).try_for_each(|k| write!(out, "{k}: {} times; ", self.0[k]))
+    }
+}
+
+pub fn bytes(random: &mut Random, length: usize) -> Vec<u8> {
+    (0..length).map(|_| random.next() as u8).collect()
+}
+
+pub fn halves(random: &mut Random, length: usize) -> Vec<u16> {
+    (0..length).map(|_| random.next() as u16).collect()
+}
+
+pub fn pairs(random: &mut Random, length: usize) -> Vec<Pair> {
+    (0..length).map(|_| Pair { a: random.next() as u16, b: random.next() as u16 }).collect()
+}
+
+pub fn work(random: &mut Random) -> Vec<u32> {
+    let length = random.length(WORK);
+    (0..length).map(|_| random.next() as u32).collect()
+}
+
+/// Untouched after 12 or 13; 16,384 zero words after any other return; words past them stay.
+pub fn work_after(number: u32, before: &[u32]) -> Vec<u32> {
+    let mut after = before.to_vec();
+    if number != 12 && number != 13 {
+        after[..WORK].fill(0);
+    }
+    after
+}
+
+/// The new entries in front of the old ones.
+pub fn in_front<T: Clone>(new: &[T], old: &[T]) -> Vec<T> {
+    [new, &old[new.len()..]].concat()
+}
