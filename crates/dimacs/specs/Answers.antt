@@ -32,7 +32,7 @@ pub record LineEnds (bytes : List ℕ) (at r : ℕ) : Type 0 where
   pub past : 0 < r → at < r
   pub within : r ≤ length bytes
 
--- SKIP_COMMENTS: the same lines are left, and no comment stands first
+-- SKIP_COMMENTS, from the start of a line on: the same lines are left, and no comment stands first
 pub record Skipped (bytes : List ℕ) (at r : ℕ) : Type 0 where
   pub same : plain-lines (drop at bytes) ≡ plain-lines (drop r bytes)
   pub clear : is-comment (drop r bytes) ≡ false
@@ -69,7 +69,7 @@ pub record EdgeRead (bytes : List ℕ) (at n left : ℕ) (held : List Pair) (r :
   pub end : PairEnd bytes at r
   pub place : PlaceKnown held r
 
--- READ_EDGES: the lines from a position on, m of them `e` lines. After a refusal the words of the first m pairs are free
+-- READ_EDGES: the lines from a position on, of which m have to be `e` lines and the others comments. After a refusal the words of the first m pairs are free
 pub record EdgesRead (bytes : List ℕ) (at n m : ℕ) (words words′ : List ℕ) (number : ℕ) : Type 0 where
   pub found : read-edges n m [] (plain-lines (drop at bytes)) ≡ pairs-or number (laid-pairs m words′)
   pub past : Same-past m words words′

@@ -1,6 +1,6 @@
 -- Document 02, item 1: lines starting with `c` are comments (`c` alone, or `c`, a blank and any bytes up to the LF, or none); comments stand anywhere.
 --   first-line, after-line    the line at the front of some bytes with its LF, and the bytes after it
---   lines-of, joined          all lines of a file, and the bytes of some lines
+--   begun-with, lines-of, joined    all lines of a file, and the bytes of some lines
 --   has-lf, starts-comment, is-comment    a line that has its LF, and a comment
 --   plain, plain-lines        the lines that are no comments
 --   without-comments          the file less its comments

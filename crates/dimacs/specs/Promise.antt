@@ -1,12 +1,13 @@
 -- Document 02, item 1: what is promised of DIMACS files.
 --   Written-reads-back     a list that is written and read is the same list
---   named-on, named        the pairs named on a file's `e` lines, in file order, as written less 1
+--   Written-plain          what is written has no comments and names the pairs in list order
+--   pair-on, named-on, named    the pairs named on a file's `e` lines, in file order, as written less 1
 --   Rewritten              an accepted file without comments, in list order and with the smaller module first, is rewritten byte for byte
---   Taken-as, Reads-lists  whatever is accepted is a list whose pairs are exactly those named less 1
+--   Taken-as, Reads-lists  whatever is taken is a list whose pairs are exactly those named less 1
 --   Reads-back             the file of a list reads back as that list, for every order of its pairs, either module first
 --   Reads-every            every file of different pairs is taken
 --   Comments-nothing       taking the comments out changes neither a file's number nor its list
---   Comment-anywhere       nor does a comment put in at the start or behind any line
+--   whole-lines, Comment-anywhere    nor does a comment put in at the start or behind any line
 --   is-dimacs-number, Only-these    a file is refused by no other numbers than 16, 2, 3, 11, 17, 4, 5 and 10
 --   Written-fits           65,536 bytes hold the file of any list
 -- proofs/Promises.antt has a theorem for each, of the same name in small letters. Assumes nothing: these are definitions.
@@ -36,7 +37,7 @@ unfoldable pub pair-on : Option Line → List Pair → List Pair
 pair-on none ps = ps
 pair-on (some l) ps = pair (first l - 1) (second l - 1) ∷ ps
 
--- the pairs named on `e` lines, in their order, as written less 1
+-- the pairs named on `e` lines, in their order, as written less 1 (0 stays 0; no file that is taken has it)
 unfoldable pub named-on : (lines : List (List ℕ)) → List Pair
 named-on [] = []
 named-on (l ∷ ls) = pair-on (line-of 4 edge-form l) (named-on ls)
@@ -45,7 +46,13 @@ named-on (l ∷ ls) = pair-on (line-of 4 edge-form l) (named-on ls)
 unfoldable pub named : (bytes : List ℕ) → List Pair
 named bs = named-on (plain-lines bs)
 
--- AN ACCEPTED FILE WITHOUT COMMENTS, IN LIST ORDER AND WITH THE SMALLER MODULE FIRST, IS REWRITTEN BYTE FOR BYTE
+-- WHAT IS WRITTEN HAS NO COMMENTS, AND NAMES THE PAIRS IN LIST ORDER, the smaller module first
+unfoldable pub Written-plain : Type 0
+Written-plain =
+    (g : Pairs) → is-list g ≡ true → all-once (g .pairs) ≡ true →
+    (without-comments (dimacs-of g) ≡ dimacs-of g) × (named (dimacs-of g) ≡ g .pairs)
+
+-- AN ACCEPTED FILE (one that is taken) WITHOUT COMMENTS, IN LIST ORDER AND WITH THE SMALLER MODULE FIRST, IS REWRITTEN BYTE FOR BYTE
 unfoldable pub Rewritten : Type 0
 Rewritten =
     (room : ℕ) (bytes : List ℕ) (g : Pairs) → read-dimacs room bytes ≡ taken g → without-comments bytes ≡ bytes →
@@ -62,7 +69,7 @@ pub record Taken-as (room : ℕ) (bytes : List ℕ) (g : Pairs) : Type 0 where
   pub as-many : length (named bytes) ≡ length (g .pairs)
   pub file : without-comments bytes ≡ dimacs-file (g .n) (named bytes)
 
--- WHATEVER IS ACCEPTED IS A LIST WHOSE PAIRS ARE EXACTLY THOSE NAMED LESS 1
+-- WHATEVER IS TAKEN IS A LIST WHOSE PAIRS ARE EXACTLY THOSE NAMED LESS 1
 unfoldable pub Reads-lists : Type 0
 Reads-lists = (room : ℕ) (bytes : List ℕ) (g : Pairs) → read-dimacs room bytes ≡ taken g → Taken-as room bytes g
 

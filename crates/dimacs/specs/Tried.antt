@@ -19,6 +19,8 @@ tried =
     ∷ try "c \r\np edge 1 0\nc p edge 1 0\nc c\n" 0
     ∷ try "p edge 1 0\n" 0
     ∷ try "p edge 512 0\n" 0
+    ∷ try "p edge 3 3\ne 3 1\ne 1 2\ne 2 3\n" 0
+    ∷ try "p edge 512 1\ne 512 1\n" 0
     ∷ try "" 16
     ∷ try "c\n" 16
     ∷ try "c" 16
@@ -37,21 +39,30 @@ tried =
     ∷ try "p edge 1 0\r\n" 16
     ∷ try "p edge 0 4097\n" 2
     ∷ try "p edge 513 0\n" 2
+    ∷ try "p edge 9999 0\n" 2
     ∷ try "p edge 2 4097\n" 3
     ∷ try "p edge 2 4\n" 11
+    ∷ try "p edge 2 4096\n" 11
     ∷ try "p edge 2 0\np edge 2 0\n" 16
+    ∷ try "p edge 2 1\ne 1 2\np edge 2 1\n" 16
     ∷ try "p edge 2 1\ne 1 2" 16
     ∷ try "p edge 2 1\ne 1  2\n" 16
     ∷ try "p edge 2 1\ne 01 2\n" 16
+    ∷ try "p edge 2 1\ne 10000 1\n" 16
+    ∷ try "p edge 2 2\ne 1 2" 16
+    ∷ try "p edge 2 1\ne 1 2\ne 1 x\n" 16
     ∷ try "p edge 2 1\ne 1 2\n\n" 16
     ∷ try "p edge 2 1\ne 1 2\nc the end" 16
     ∷ try "p edge 2 0\ne 1 2" 16
     ∷ try "p edge 2 1\n" 17
     ∷ try "p edge 2 1\nc e 1 2\n" 17
     ∷ try "p edge 2 1\ne 1 2\ne 9 9\n" 17
+    ∷ try "p edge 2 1\ne 1 2\ne 1 1\n" 17
+    ∷ try "p edge 2 1\ne 1 2\ne 2 1\n" 17
     ∷ try "p edge 2 0\ne 0 0\n" 17
     ∷ try "p edge 2 1\ne 0 1\n" 4
     ∷ try "p edge 2 1\ne 1 3\n" 4
+    ∷ try "p edge 2 1\ne 9999 1\n" 4
     ∷ try "p edge 5 1\ne 9 9\n" 4
     ∷ try "p edge 5 1\ne 0 0\n" 4
     ∷ try "p edge 5 1\ne 5 5\n" 5

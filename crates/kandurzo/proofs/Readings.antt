@@ -38,7 +38,7 @@ use Rattle.records.specs.Records.{held-list, agrees, put-back, Fits-records, Ro
 use Rattle.kandurzo.specs.declared.Edit.{Edit}
 use Rattle.kandurzo.specs.Listing.{head-of, as-records}
 use Rattle.kandurzo.specs.Buffers.{buffer, any-short, work-words, cleared, work-left}
-use Rattle.kandurzo.specs.Reading.{Reader, read-buffers, read-outcome, read-head, records-front, Read-call, no-edit, edit-of, Read-on}
+use Rattle.kandurzo.specs.Reading.{Reader, read-buffers, read-outcome, read-head, records-front, Read-call, no-edit, file-edit, Read-on}
 use Rattle.kandurzo.proofs.Outcomes.{answer}
 use Rattle.kandurzo.proofs.Filling.{work-zeros, cleared-past}
 use Rattle.kandurzo.proofs.Gates.{none-short}
@@ -129,7 +129,7 @@ module _ {read : Reader} (reads : Reads read) (room : ℕ) (bytes : List ℕ) wh
         (omega (arith, small (2 * j) (omega arith)), omega (arith, small (2 * j + 1) (omega arith)))
 
     -- of any other: the file's answer
-    pub read-on : Read-on read room bytes work after (edit-of f)
+    pub read-on : Read-on read room bytes work after (file-edit f)
     read-on =
         let s = outcome-long read room (length work) bytes long in
         record {

@@ -1,4 +1,4 @@
--- The refusals that come first in peel, solve, check and surplus: 13, then 12; and what is known in the words once neither holds.
+-- The refusals that come first in peel, solve, check, surplus and write_dimacs: 13, then 12; and what is known in the words once neither holds.
 --   gate-number, gate-of    13: head and list disagree; 12: a lent buffer is shorter than stated; and how many records go out to words
 --   Fits-16-bits            a list whose numbers fit the buffers
 --   Behind                  what a function on words knows behind the gate

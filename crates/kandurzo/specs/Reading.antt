@@ -3,7 +3,7 @@
 --   read-buffers, read-outcome  what is lent; the list that is read, or the refusal: 12, then the file's own
 --   read-head, records-front    the new head, and new records in front of the others
 --   Read-call        number, head, every record, and the work buffer
---   no-edit, edit-of, Read-on   the same on words, before the records come in
+--   no-edit, file-edit, Read-on   the same on words, before the records come in
 -- Assumes nothing: these are definitions.
 use mathlib.Core.Path.{_≡_}
 use mathlib.Core.Bool.{cond}
@@ -59,8 +59,8 @@ abbrev pub no-edit : Edit
 no-edit = record { number = 12; head = record { n = 0; m = 0 }; count = 0 }
 
 -- of a file that has been read: its number, the new head, and how many records come into the list
-abbrev pub edit-of : Reading → Edit
-edit-of f = record { number = f .number; head = record { n = f .n; m = f .m }; count = f .m }
+abbrev pub file-edit : Reading → Edit
+file-edit f = record { number = f .number; head = record { n = f .n; m = f .m }; count = f .m }
 
 -- before the records come into the list: their pairs lie in the work buffer
 pub record Read-on (read : Reader) (room : ℕ) (bytes work work′ : List ℕ) (e : Edit) : Type 0 where

@@ -5,7 +5,7 @@ ghost use lib.ListN.{length};
 ghost use Rattle.pairfile.specs.File.{read-file};
 ghost use Rattle.dimacs.specs.Edges.{read-dimacs};
 ghost use Rattle.kandurzo.specs.Buffers.{work-left};
-ghost use Rattle.kandurzo.specs.Reading.{no-edit, edit-of, Read-on};
+ghost use Rattle.kandurzo.specs.Reading.{no-edit, file-edit, Read-on};
 use crate::Edit;
 use crate::buffers::clear;
 use pairfile::Reading;
@@ -23,8 +23,8 @@ fn no_edit() -> Edit
 }
 
 // The number, the new head, and how many records come into the list; none beside a refusal.
-fn edit_of(file: Reading) -> Edit
-    ensures { λ r. ⌜ r ≡ edit-of file ⌝ }
+fn file_edit(file: Reading) -> Edit
+    ensures { λ r. ⌜ r ≡ file-edit file ⌝ }
 {
     let count = file.m as usize;
     Edit {
@@ -44,7 +44,7 @@ pub(crate) fn read_on_words(bytes: &[u8], room: usize, work: &mut [u32]) -> Edit
     if work.len() < 16384 {
         return no_edit();
     }
-    edit_of(pairfile::read_words(bytes, room, work))
+    file_edit(pairfile::read_words(bytes, room, work))
 }
 
 // A DIMACS file.
@@ -54,7 +54,7 @@ pub(crate) fn read_dimacs_on_words(bytes: &[u8], room: usize, work: &mut [u32]) 
     if work.len() < 16384 {
         return no_edit();
     }
-    edit_of(dimacs::read_words(bytes, room, work))
+    file_edit(dimacs::read_words(bytes, room, work))
 }
 
 // Clears the work buffer's 16,384 words, unless 12 or 13 was given.

@@ -37,16 +37,16 @@ unfolding numbered
 numbered-none [] = refl
 numbered-none (p ∷ ps) = rw (add-zero (p .a), add-zero (p .b), numbered-none ps)
 
-module _ (form : List ℕ) (first m : ℕ) (words : List ℕ) (j : ℕ) where
+module _ (form : List ℕ) (lowest m : ℕ) (words : List ℕ) (j : ℕ) where
   -- what is left of the lines from pair j on
   abbrev pub lines-from : List ℕ
-  lines-from = pair-lines form (numbered first (drop j (laid-pairs m words)))
+  lines-from = pair-lines form (numbered lowest (drop j (laid-pairs m words)))
 
   -- the next line
   pub next-line : j < m →
       lines-from ≡
-      filled form ((getD words (2 * j) 0 + first) ∷ (getD words (2 * j + 1) 0 + first) ∷ [])
-      ++ pair-lines form (numbered first (drop (j + 1) (laid-pairs m words)))
+      filled form ((getD words (2 * j) 0 + lowest) ∷ (getD words (2 * j + 1) 0 + lowest) ∷ [])
+      ++ pair-lines form (numbered lowest (drop (j + 1) (laid-pairs m words)))
   unfolding pair-lines numbered
   next-line h =
       rw (drop-cons (laid-pairs m words) j (pair 0 0) (omega (arith, length-laid m words)), laid-at m words j (pair 0 0) h, add-one j)
@@ -57,15 +57,15 @@ module _ (form : List ℕ) (first m : ℕ) (words : List ℕ) (j : ℕ) where
   no-line h = rw (drop-of-length-le (laid-pairs m words) {i = j} (omega (arith, h, length-laid m words)))
 
 -- three bytes at most for each number more than the form has
-pub lines-length : (form : List ℕ) (n first : ℕ) (ps : List Pair) → n ≤ 512 → first ≤ 1 → all (ends-in-range n) ps ≡ true →
-    length (pair-lines form (numbered first ps)) ≤ (length form + 3 * places form) * length ps
+pub lines-length : (form : List ℕ) (n lowest : ℕ) (ps : List Pair) → n ≤ 512 → lowest ≤ 1 → all (ends-in-range n) ps ≡ true →
+    length (pair-lines form (numbered lowest ps)) ≤ (length form + 3 * places form) * length ps
 unfolding pair-lines numbered all ends-in-range
-lines-length form n first [] h l e = omega arith
-lines-length form n first (p ∷ ps) h l e =
+lines-length form n lowest [] h l e = omega arith
+lines-length form n lowest (p ∷ ps) h l e =
     let e′ = simp tests at e in
-    let small = and-small (p .a + first) (omega (arith, e′ .0)) (and-small (p .b + first) (omega (arith, e′ .0)) no-more) in
-    let line = filled-length 3 (omega arith) form ((p .a + first) ∷ (p .b + first) ∷ []) (small .each) in
-    simp length-append (omega (arith, line, lines-length form n first ps h l (e′ .1)))
+    let small = and-small (p .a + lowest) (omega (arith, e′ .0)) (and-small (p .b + lowest) (omega (arith, e′ .0)) no-more) in
+    let line = filled-length 3 (omega arith) form ((p .a + lowest) ∷ (p .b + lowest) ∷ []) (small .each) in
+    simp length-append (omega (arith, line, lines-length form n lowest ps h l (e′ .1)))
 
 -- ---- a list in words
 
@@ -84,12 +84,12 @@ module _ {n m : ℕ} {words : List ℕ} (w : Holds-list n m words) where
 -- ---- N and M by one form, then each pair by another
 
 -- the file of a list in two such forms
-abbrev pub lined : (heads form : List ℕ) (first n : ℕ) → List Pair → List ℕ
-lined heads form first n ps = filled heads (n ∷ length ps ∷ []) ++ pair-lines form (numbered first ps)
+abbrev pub lined : (heads form : List ℕ) (lowest n : ℕ) → List Pair → List ℕ
+lined heads form lowest n ps = filled heads (n ∷ length ps ∷ []) ++ pair-lines form (numbered lowest ps)
 
-module _ (heads form : List ℕ) (first : ℕ) (low : first ≤ 1) (bound : length heads + 3 * places heads + (length form + 3 * places form) * 4096 ≤ 65536) where
+module _ (heads form : List ℕ) (lowest : ℕ) (low : lowest ≤ 1) (bound : length heads + 3 * places heads + (length form + 3 * places form) * 4096 ≤ 65536) where
   -- 65,536 bytes hold the file of any list
-  pub lined-length : (g : Pairs) → is-list g ≡ true → length (lined heads form first (g .n) (g .pairs)) ≤ 65536
+  pub lined-length : (g : Pairs) → is-list g ≡ true → length (lined heads form lowest (g .n) (g .pairs)) ≤ 65536
   lined-length g e =
       let k = listed g e in
       let small = and-small (g .n) (omega (arith, k .few)) (and-small (length (g .pairs)) (omega (arith, k .short)) no-more) in
@@ -98,17 +98,17 @@ module _ (heads form : List ℕ) (first : ℕ) (low : first ≤ 1) (bound : leng
         arith,
         bound,
         filled-length 3 (omega arith) heads (g .n ∷ length (g .pairs) ∷ []) (small .each),
-        lines-length form (g .n) first (g .pairs) (k .few) low (k .ends),
+        lines-length form (g .n) lowest (g .pairs) (k .few) low (k .ends),
         mul-le-mul-left (length form + 3 * places form) (k .short),
       ))
 
   module _ {n m : ℕ} {words : List ℕ} (w : Holds-list n m words) (out : List ℕ) (h : 65536 ≤ length out) where
     -- all of the file is to be written
-    all-left : Left (lined heads form first n (laid-pairs m words)) out 0
-        (filled heads (n ∷ m ∷ []) ++ pair-lines form (numbered first (laid-pairs m words))) out 0
+    all-left : Left (lined heads form lowest n (laid-pairs m words)) out 0
+        (filled heads (n ∷ m ∷ []) ++ pair-lines form (numbered lowest (laid-pairs m words))) out 0
     unfolding laid-list
     all-left =
-        let s : lined heads form first n (laid-pairs m words) ≡ filled heads (n ∷ m ∷ []) ++ pair-lines form (numbered first (laid-pairs m words)) =
+        let s : lined heads form lowest n (laid-pairs m words) ≡ filled heads (n ∷ m ∷ []) ++ pair-lines form (numbered lowest (laid-pairs m words)) =
         rw (length-laid m words) in
         rw (← s) (left-start _ out 0 (omega (arith, h, lined-length (laid-list n m words) (w .listed))))
 
@@ -118,7 +118,7 @@ module _ (heads form : List ℕ) (first : ℕ) (low : first ≤ 1) (bound : leng
 
     -- and these are left behind it
     pub pairs-left : {out′ : List ℕ} {i : ℕ} → Puts (filled heads (n ∷ m ∷ [])) out 0 out′ i →
-        Left (lined heads form first n (laid-pairs m words)) out 0 (pair-lines form (numbered first (laid-pairs m words))) out′ i
+        Left (lined heads form lowest n (laid-pairs m words)) out 0 (pair-lines form (numbered lowest (laid-pairs m words))) out′ i
     pairs-left p = left-step all-left (filled heads (n ∷ m ∷ [])) _ refl p
 
 -- ---- a pair file

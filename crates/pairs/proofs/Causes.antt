@@ -50,32 +50,32 @@ module _ (a b : ℕ) where
   self-round = by-test (eqb a b) (λ t. t ∙ sym (eq-eqb b a (sym (eqb-true a b t)))) (λ t. t ∙ sym (ne-eqb b a (λ e. eqb-false a b t (sym e))))
 
   -- and refused alike
-  pub causes-round : (first n : ℕ) → pair-causes first n a b ≡ pair-causes first n b a
+  pub causes-round : (lowest n : ℕ) → pair-causes lowest n a b ≡ pair-causes lowest n b a
   unfolding pair-causes module-unknown
-  causes-round first n = rw (and-comm (is-module first n a) (is-module first n b), self-round)
+  causes-round lowest n = rw (and-comm (is-module lowest n a) (is-module lowest n b), self-round)
 
 -- two numbers that are not refused are modules, and differ; and the causes that stand behind decide
-module _ (first n a b : ℕ) (taken : refusal (pair-causes first n a b) ≡ 0) where
-  known : ((is-module first n a && is-module first n b) ≡ true) × (self-paired a b ≡ false)
+module _ (lowest n a b : ℕ) (taken : refusal (pair-causes lowest n a b) ≡ 0) where
+  known : ((is-module lowest n a && is-module lowest n b) ≡ true) × (self-paired a b ≡ false)
   unfolding pair-causes module-unknown cause refusal
   known =
-      by-test (is-module first n a && is-module first n b)
+      by-test (is-module lowest n a && is-module lowest n b)
       (λ t. by-test (self-paired a b) (λ u. absurd (omega (arith, simp (t, u) at taken))) (λ u. (t, u)))
       (λ t. by-test (self-paired a b) (λ u. absurd (omega (arith, simp (t, u) at taken))) (λ u. absurd (omega (arith, simp (t, u) at taken))))
 
-  pub pair-then : (cs : List Cause) → refusal (pair-causes first n a b ++ cs) ≡ refusal cs
+  pub pair-then : (cs : List Cause) → refusal (pair-causes lowest n a b ++ cs) ≡ refusal cs
   unfolding pair-causes module-unknown cause refusal
   pair-then cs = simp (known .0, known .1)
 
-  pub numbers-known : ((first ≤ a) × (a < first + n)) × ((first ≤ b) × (b < first + n)) × (a ≡ b → ⊥)
+  pub numbers-known : ((lowest ≤ a) × (a < lowest + n)) × ((lowest ≤ b) × (b < lowest + n)) × (a ≡ b → ⊥)
   unfolding is-module self-paired
   numbers-known = let k = simp tests at (known .0) in (k .0, k .1, eqb-false a b (known .1))
 
 -- two modules that differ are not refused
-pub pair-fit : (first n a b : ℕ) → first ≤ a → a < first + n → first ≤ b → b < first + n → (a ≡ b → ⊥) → refusal (pair-causes first n a b) ≡ 0
+pub pair-fit : (lowest n a b : ℕ) → lowest ≤ a → a < lowest + n → lowest ≤ b → b < lowest + n → (a ≡ b → ⊥) → refusal (pair-causes lowest n a b) ≡ 0
 unfolding pair-causes module-unknown is-module self-paired cause refusal
-pair-fit first n a b h l i m d =
-    rw (le-leb first a h, lt-ltb a (first + n) l, le-leb first b i, lt-ltb b (first + n) m, ne-eqb a b d)
+pair-fit lowest n a b h l i m d =
+    rw (le-leb lowest a h, lt-ltb a (lowest + n) l, le-leb lowest b i, lt-ltb b (lowest + n) m, ne-eqb a b d)
 
 -- numbered from 0 both are below N
 pub modules-known : (n a b : ℕ) → refusal (pair-causes 0 n a b) ≡ 0 → (a < n) × (b < n) × (a ≡ b → ⊥)

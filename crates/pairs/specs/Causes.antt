@@ -1,5 +1,5 @@
 -- Document 01, "Numbers from the input" and "from the state": when add and remove refuse, in their orders.
---   is-module       whether a number is a module's, as a list or a file numbers its modules
+--   is-module, module-unknown, self-paired    whether a number is a module's, as a list or a file numbers them; the conditions of 4 and 5
 --   pair-causes     what add, remove and the readers refuse of two module numbers: 4, 5
 --   add-causes      13, 4, 5, 10, 11
 --   remove-causes   13, 4, 5, 14
@@ -12,21 +12,21 @@ use Rattle.theory.specs.Lists.{Pairs}
 use Rattle.theory.specs.Refusals.{Cause, cause}
 use Rattle.pairs.specs.Held.{is-held, smaller-first-pair}
 
--- one of the n modules, which are numbered from `first` on: from 0 in a list and in a pair file, from 1 in a DIMACS file
-unfoldable pub is-module : (first n a : ℕ) → Bool
-is-module first n a = leb first a && ltb a (first + n)
+-- one of the n modules, the lowest of them numbered `lowest`: 0 in a list and in a pair file, 1 in a DIMACS file
+unfoldable pub is-module : (lowest n a : ℕ) → Bool
+is-module lowest n a = leb lowest a && ltb a (lowest + n)
 
 -- 4: a module number is N or more; in a DIMACS file, 0 or above N
-unfoldable pub module-unknown : (first n a b : ℕ) → Bool
-module-unknown first n a b = not (is-module first n a && is-module first n b)
+unfoldable pub module-unknown : (lowest n a b : ℕ) → Bool
+module-unknown lowest n a b = not (is-module lowest n a && is-module lowest n b)
 
 -- 5: a module is paired with itself
 unfoldable pub self-paired : (a b : ℕ) → Bool
 self-paired a b = eqb a b
 
 -- of two module numbers, in the order that add, remove and the readers share
-unfoldable pub pair-causes : (first n a b : ℕ) → List Cause
-pair-causes first n a b = cause 4 (module-unknown first n a b) ∷ cause 5 (self-paired a b) ∷ []
+unfoldable pub pair-causes : (lowest n a b : ℕ) → List Cause
+pair-causes lowest n a b = cause 4 (module-unknown lowest n a b) ∷ cause 5 (self-paired a b) ∷ []
 
 -- ADD of modules a and b to a list; 13 where head and list disagree, 11 where no record is free
 unfoldable pub add-causes : (disagree : Bool) → Pairs → (full : Bool) → (a b : ℕ) → List Cause

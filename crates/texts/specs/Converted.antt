@@ -29,7 +29,7 @@ converted file-of-list (taken g) = file-of-list g
 unfoldable pub pair-file : Pairs → List ℕ
 pair-file g = file-of (g .n) (g .pairs)
 
--- 109: comments have no bound, so `from_dimacs` has one, and a file of more bytes is refused, whatever it holds
+-- 109: the file has more than 1,048,576 bytes, whatever it holds. Comments have no bound, so `from_dimacs` has one
 unfoldable pub is-long : (file : List ℕ) → Bool
 is-long file = ltb 1048576 (length file)
 

@@ -2,7 +2,7 @@
 //
 // A file is read into the list in words and written from it, each once, from front to back. 65,536 bytes hold the file of any list. Of a pair file the first
 // 65,536 bytes decide. Comments of a DIMACS file have no bound, so a file of more than 1,048,576 bytes is refused by 109, and never cut short: the input's
-// buffer has room for a byte more, and whoever fills it has a longer file.
+// buffer has room for a byte more, so that a longer file shows.
 ghost use Prim.Native.Nat.{_≤_};
 ghost use lib.ListN.{length};
 ghost use Rattle.texts.specs.Contracts.{Prints, Input};
