@@ -21,8 +21,9 @@
 // `order` several conditions hold; those in `taken` are accepted, the starred lists of document 01 among them. In `audits` are sheets that `sheet`
 // printed, NAME.sheet of the pair file NAME, and such sheets altered by hand. In `full` are the longest pair file that there is, 53,271 bytes, and its
 // sheet of 77,151, with line ends behind them up to 65,536 and 100,000 bytes: whether the last byte of a line is read, or one behind the last line,
-// turns the answer. In `dimacs`, files of the folders `before`, `problem`, `edge`, `end` and `comments` break a rule before the `p` line, on it, on an `e`
-// line, after the last, or by a comment that is none; `order` and `taken` are as above, and in `lists` are the files due of lists that are written.
+// turns the answer. In `dimacs`, files of the folders `before`, `problem`, `edge` and `end` break a rule before the `p` line, on it, on an `e` line, behind
+// the last; `comments` has comments of every kind in each place, and lines that are none; `order` and `taken` are as above. In `lists` are files due of lists
+// that are written.
 //
 // An answer is the refusal number, or 0 and the values:
 //   files, large   P/Q; K and the size of the core of order K; the member bytes as runs, where 1x4 0x1 is 1, 1, 1, 1, 0. All 512 member bytes are 2

@@ -142,13 +142,13 @@ fn pairs(plan: Plan, way: u32, count: u32) -> u32 {
     }
 }
 
-// What stands behind the lines: a line too many in way 2, an empty line in way 3, the last LF missing in way 4, a module 0 in way 7, a module with itself
-// in way 8, the last pair again, turned, in way 9. The file's length then.
+// What stands behind the lines: a line too many in way 2, no comment in way 3, the last LF missing in way 4, a module 0 in way 7, a module with itself in
+// way 8, the last pair again, turned, in way 9. The file's length then.
 fn put_end(file: &mut [u8], text: Text, way: u32) -> usize {
     let end = text.end;
     match way {
-        2 => reads::put_text(file, end, b"e 1 2\n"),
-        3 => reads::put_text(file, end, b"\n"),
+        2 => reads::put_text(file, end, b"e 0 0\n"),
+        3 => reads::put_text(file, end, b"cx\n"),
         4 => std::num::wrapping_sub_usize(end, 1),
         7 => reads::put_text(file, end, b"e 0 1\n"),
         8 => reads::put_text(file, end, b"e 1 1\n"),

@@ -213,9 +213,7 @@ fn every_size(name: &[u8], plan: Plan, apart: u32) {
 
 // One list.
 fn one(name: &[u8], plan: Plan) {
-    let mut desk = [0u32; 294928];
-    every_way(plan, 2463534242, &mut desk);
-    line(name, &desk);
+    every_size(name, plan, plan.n);
 }
 
 // Lists of so many modules and records, with one record left free, read in every way.
