@@ -5,11 +5,13 @@ ghost use lib.ListN.{length};
 ghost use Rattle.records.specs.Records.{Fits-records};
 use kandurzo::Changed;
 use kandurzo::Solved;
+use kandurzo::Written;
 use kandurzo::add;
 use kandurzo::check;
 use kandurzo::peel;
 use kandurzo::solve;
 use kandurzo::surplus;
+use kandurzo::write_dimacs;
 use records::Head;
 use records::Pair;
 use records::copy_in;
@@ -110,6 +112,16 @@ pub(crate) fn surplus_4096(
     let k = held(words, 4096);
     copy_in(&mut list, words, k);
     let answer = surplus(head, &list, first, second);
+    copy_out(&list, words, k);
+    answer
+}
+
+// write_dimacs of 4,096 records.
+pub(crate) fn write_dimacs_4096(words: &mut [u32], head: Head, text: &mut [u8]) -> Written {
+    let mut list = [Pair { a: 0, b: 0 }; 4096];
+    let k = held(words, 4096);
+    copy_in(&mut list, words, k);
+    let answer = write_dimacs(head, &list, text);
     copy_out(&list, words, k);
     answer
 }

@@ -1,5 +1,6 @@
 // The lists that are lent, in words.
 ghost use Prim.Native.Nat.{_≤_};
+use crate::lent;
 use crate::words;
 use records::Head;
 
@@ -64,4 +65,57 @@ pub(crate) fn at_most(len: usize, k: usize) -> usize
     ensures { λ r. ⌜ r ≤ len ⌝ }
 {
     if k < len { k } else { len }
+}
+
+// ---- lists of 512 modules
+
+// The kinds of large lists: pairs by chance; each module with the next so many on a circle; all pairs of 64 modules.
+pub(crate) enum Kind {
+    Chance,
+    Circle,
+    Clique,
+}
+
+// Two modules.
+struct Two {
+    a: u32,
+    b: u32,
+}
+
+// Pair i of such a list: some come twice, or are of one module.
+fn pair(kind: Kind, i: u32) -> Two {
+    let state = words::next(words::next(std::num::wrapping_add_u32(i, 1)));
+    let step = std::num::wrapping_add_u32(std::num::wrapping_add_u32(i, 1), i / 512);
+    match kind {
+        Kind::Chance => Two {
+            a: state / 65536 % 512,
+            b: words::next(state) / 65536 % 512,
+        },
+        Kind::Circle => Two {
+            a: i % 512,
+            b: step % 512,
+        },
+        Kind::Clique => Two {
+            a: i % 64,
+            b: i / 64,
+        },
+    }
+}
+
+// Adds pair i to the list, where add takes it; the head then.
+fn add_pair(kind: Kind, i: u32, head: Head, words: &mut [u32]) -> Head {
+    let ends = pair(kind, i);
+    let answer = lent::add_4096(words, head, ends.a, ends.b);
+    answer.head
+}
+
+// The head of a list to which so many of them are added.
+pub(crate) fn add_pairs(kind: Kind, many: u32, words: &mut [u32]) -> Head {
+    let mut head = Head { n: 512, m: 0 };
+    let mut i = 0;
+    while i < many {
+        head = add_pair(kind, i, head, words);
+        i += 1;
+    }
+    head
 }

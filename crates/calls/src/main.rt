@@ -1,7 +1,7 @@
-// The public calls that read a list, on lent records: peel, solve, check and surplus on sound lists, on buffers that are short or long, and on heads and
-// records that do not agree.
+// The public calls that read a list, on lent records: peel, solve, check, surplus and write_dimacs on sound lists, on buffers that are short or long, and on
+// heads and records that do not agree.
 //
-// Each line has the call, what is altered, the number that document 01 gives it and the number that the call gave; then what it answered
+// Each line has the call, what is altered, the number that documents 01 and 02 give it and the number that the call gave; then what it answered
 // and what it left of the lent buffers: of those of 8 entries all, each 9 before, and of the work buffer how many words are 0 and how many are 7 as before.
 mod checks;
 mod lent;
@@ -11,6 +11,7 @@ mod print;
 mod solves;
 mod surpluses;
 mod words;
+mod writes;
 
 use lists::Damage;
 
@@ -41,6 +42,14 @@ fn damaged(name: &[u8], damage: Damage) {
         },
     );
     surpluses::damaged(name, damage);
+    writes::tried(
+        name,
+        13,
+        writes::Altered {
+            damage,
+            ..writes::sound()
+        },
+    );
 }
 
 // Heads that disagree with the list.
@@ -65,6 +74,7 @@ fn main() {
     solves::run();
     checks::run();
     surpluses::run();
+    writes::run();
     heads();
     records();
 }

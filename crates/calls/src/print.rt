@@ -69,7 +69,7 @@ fn word_of(x: u8) -> u32 {
     x as u32
 }
 
-fn byte_at(bytes: &[u8], i: usize) -> u32 {
+pub(crate) fn byte_at(bytes: &[u8], i: usize) -> u32 {
     if i < bytes.len() {
         word_of(bytes[i])
     } else {

@@ -12,6 +12,11 @@ pub(crate) fn plus(x: usize, y: usize) -> usize {
     std::num::wrapping_add_usize(x, y)
 }
 
+// Entry i, and 0 where there is none.
+pub(crate) fn word_at(words: &[u32], i: usize) -> u32 {
+    if i < words.len() { words[i] } else { 0 }
+}
+
 // Writes entry i, where there is one.
 fn put_word(words: &mut [u32], i: usize, x: u32) {
     if i < words.len() {

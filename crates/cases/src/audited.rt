@@ -1,9 +1,9 @@
 // Sheets that are audited beside a pair file: whole, with each byte altered, and as far as a buffer holds them.
+use crate::files::Opened;
+use crate::files::open_both;
 use crate::files::read_open;
 use crate::text::Given;
-use crate::text::after;
 use crate::text::byte_at;
-use crate::text::find;
 use crate::text::no_file;
 use crate::text::number_at;
 use crate::text::one_more;
@@ -12,36 +12,11 @@ use crate::text::put_two;
 use sheetfile::audit;
 use verify::Verdict;
 
-// A pair file and a sheet that a line names, opened, and where the rest of the line begins.
-struct Opened {
-    file: i32,
-    sheet: i32,
-    rest: usize,
-}
-
 // What became of altered sheets.
 struct Fates {
     caught: u32,
     best: u32,
     other: u32,
-}
-
-// Opens the two files that a line begins with.
-fn open_both(line: &[u8]) -> Opened {
-    let space = find(line, 0, b' ');
-    if space == line.len() {
-        return Opened {
-            file: -1,
-            sheet: -1,
-            rest: space,
-        };
-    }
-    let end = find(line, space + 1, b' ');
-    Opened {
-        file: os::open_read(&line[0..space]),
-        sheet: os::open_read(&line[space + 1..end]),
-        rest: after(end),
-    }
 }
 
 // ---- whole, and altered
@@ -149,11 +124,11 @@ pub(crate) fn try_audit(line: &[u8], text: &mut [u8], alters: bool) -> Given {
     let mut file = io::large_buffer();
     let mut sheet = io::large_buffer();
     let opened = open_both(line);
-    if opened.file < 0 || opened.sheet < 0 {
+    if opened.first < 0 || opened.second < 0 {
         return no_file(text, opened.rest);
     }
-    let n = read_open(opened.file, &mut file);
-    let k = read_open(opened.sheet, &mut sheet);
+    let n = read_open(opened.first, &mut file);
+    let k = read_open(opened.second, &mut sheet);
     Given {
         due: opened.rest,
         end: put_audit(text, &file[..n], &mut sheet[..k], alters),
@@ -164,8 +139,8 @@ pub(crate) fn try_audit(line: &[u8], text: &mut [u8], alters: bool) -> Given {
 
 // How many bytes were read of each, and what audit answers of them.
 fn put_read(text: &mut [u8], opened: Opened, file: &mut [u8], sheet: &mut [u8]) -> usize {
-    let n = read_open(opened.file, file);
-    let k = read_open(opened.sheet, sheet);
+    let n = read_open(opened.first, file);
+    let k = read_open(opened.second, sheet);
     let first = put_number(text, 0, b' ', n as u64);
     let second = put_number(text, first, b' ', k as u64);
     put_verdict(text, second, audit(&file[..n], &sheet[..k]))
@@ -191,7 +166,7 @@ pub(crate) fn try_limits(line: &[u8], text: &mut [u8]) -> Given {
     let mut file = [0u8; 65537];
     let mut sheet = [0u8; 100001];
     let opened = open_both(line);
-    if opened.file < 0 || opened.sheet < 0 {
+    if opened.first < 0 || opened.second < 0 {
         return no_file(text, opened.rest);
     }
     let n = number_at(line, opened.rest);

@@ -1,4 +1,4 @@
-// Cases with the answer that document 01 gives them, run through the public calls and compared.
+// Cases with the answer that documents 01 and 02 give them, run through the product's functions and compared.
 //
 // The run folder holds lists of cases, a case a line, and the files that they name. A line has what is tried, a space, and the answer due:
 //
@@ -8,11 +8,21 @@
 //   bytes    FILE SHEET             so is the sheet with each byte one more, and one less, in turn
 //   limits   FILE SHEET B C         so is what is read of the two into buffers of B and C bytes
 //
+// and for DIMACS files, in the folder `dimacs`:
+//
+//   files    FILE                   the DIMACS file is read, with room for 4,096 records
+//   rooms    ROOM FILE              so it is with room for ROOM records
+//   made     N M LINES AGAIN EVERY LENGTH    so is a file made here: `p edge N M`, LINES `e` lines, AGAIN of the first again, and, where EVERY is not 0,
+//                                   comments of LENGTH bytes behind the `c`: before every EVERY lines, before the `p` line and at the end
+//   written  FILE DIMACS            the list of the pair file is written, and the DIMACS file that is due is read back
+//   full     N M LINES AGAIN MORE   so is the list of a pair file made as for `large`; what is due is made here from the rule of its pairs
+//
 // Files of the folders `first`, `second`, `pair` and `end` break a rule on the first line, on the second, on a pair line, after the last; of those in
 // `order` several conditions hold; those in `taken` are accepted, the starred lists of document 01 among them. In `audits` are sheets that `sheet`
 // printed, NAME.sheet of the pair file NAME, and such sheets altered by hand. In `full` are the longest pair file that there is, 53,271 bytes, and its
 // sheet of 77,151, with line ends behind them up to 65,536 and 100,000 bytes: whether the last byte of a line is read, or one behind the last line,
-// turns the answer.
+// turns the answer. In `dimacs`, files of the folders `before`, `problem`, `edge`, `end` and `comments` break a rule before the `p` line, on it, on an `e`
+// line, after the last, or by a comment that is none; `order` and `taken` are as above, and in `lists` are the files due of lists that are written.
 //
 // An answer is the refusal number, or 0 and the values:
 //   files, large   P/Q; K and the size of the core of order K; the member bytes as runs, where 1x4 0x1 is 1, 1, 1, 1, 0. All 512 member bytes are 2
@@ -20,23 +30,35 @@
 //   audited        P/Q
 //   bytes          how many of the altered sheets are refused, how many are best sheets themselves (accepted with the same P/Q), and how many neither
 //   limits         P/Q; before the number stands how many bytes were read of each file
+//   dimacs/files, rooms      N,M and the pairs of the list, modules numbered from 0, with its count behind a pair where that is not 1
+//   dimacs/made    N,M and how many of the pairs are named by a line, smaller module first, behind the one before; before the number the file's length
+//   dimacs/written, full     in the place of the number: the length written, how many bytes are not those due (7 past the length, as before),
+//                            and how much of what is read back is not the list
 //
 // A line is printed for each list of cases, and one for each case that did not come out as due.
 mod audited;
+mod edges;
 mod files;
+mod made;
 mod solved;
 mod text;
+mod written;
 
 use audited::try_audit;
 use audited::try_limits;
+use edges::try_edges;
+use edges::try_room;
 use files::read_open;
 use libc::STDOUT_FILENO;
+use made::try_made;
 use solved::try_file;
 use solved::try_large;
 use text::Given;
 use text::find;
 use text::one_more;
 use text::same;
+use written::try_full;
+use written::try_written;
 
 // What is tried.
 enum Kind {
@@ -45,6 +67,11 @@ enum Kind {
     Audited,
     Bytes,
     Limits,
+    Edges,
+    Rooms,
+    Made,
+    Written,
+    Full,
 }
 
 // How many cases came out as due, and how many did not.
@@ -61,6 +88,11 @@ fn try_case(kind: Kind, line: &[u8], text: &mut [u8]) -> Given {
         Kind::Audited => try_audit(line, text, false),
         Kind::Bytes => try_audit(line, text, true),
         Kind::Limits => try_limits(line, text),
+        Kind::Edges => try_edges(line, text),
+        Kind::Rooms => try_room(line, text),
+        Kind::Made => try_made(line, text),
+        Kind::Written => try_written(line, text),
+        Kind::Full => try_full(line, text),
     }
 }
 
@@ -122,11 +154,16 @@ fn try_list(kind: Kind, name: &[u8]) {
     io::write_all(STDOUT_FILENO, b"\n");
 }
 
-// All five lists.
+// All lists.
 fn main() {
     try_list(Kind::Files, b"files");
     try_list(Kind::Large, b"large");
     try_list(Kind::Audited, b"audited");
     try_list(Kind::Bytes, b"bytes");
     try_list(Kind::Limits, b"limits");
+    try_list(Kind::Edges, b"dimacs/files");
+    try_list(Kind::Rooms, b"dimacs/rooms");
+    try_list(Kind::Made, b"dimacs/made");
+    try_list(Kind::Written, b"dimacs/written");
+    try_list(Kind::Full, b"dimacs/full");
 }

@@ -123,7 +123,7 @@ fn put_head(file: &mut [u8], n: u32, m: u32) -> usize {
 }
 
 // Makes the file that the line's numbers describe.
-fn put_file(file: &mut [u8], line: &[u8]) -> Given {
+pub(crate) fn put_file(file: &mut [u8], line: &[u8]) -> Given {
     let n = number_at(line, 0);
     let m = number_at(line, n.next);
     let lines = number_at(line, m.next);

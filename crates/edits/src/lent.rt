@@ -8,6 +8,7 @@ use kandurzo::Changed;
 use kandurzo::add;
 use kandurzo::add_to;
 use kandurzo::read;
+use kandurzo::read_dimacs;
 use kandurzo::remove;
 use kandurzo::remove_from;
 use records::Head;
@@ -122,6 +123,26 @@ pub(crate) fn read_100(words: &mut [u32], bytes: &[u8], work: &mut [u32]) -> Cha
     let k = held(words, 100);
     copy_in(&mut list, words, k);
     let answer = read(bytes, &mut list, work);
+    copy_out(&list, words, k);
+    answer
+}
+
+// read_dimacs into 100 records.
+pub(crate) fn read_dimacs_100(words: &mut [u32], bytes: &[u8], work: &mut [u32]) -> Changed {
+    let mut list = [Pair { a: 0, b: 0 }; 100];
+    let k = held(words, 100);
+    copy_in(&mut list, words, k);
+    let answer = read_dimacs(bytes, &mut list, work);
+    copy_out(&list, words, k);
+    answer
+}
+
+// read_dimacs into 4,096 records.
+pub(crate) fn read_dimacs_4096(words: &mut [u32], bytes: &[u8], work: &mut [u32]) -> Changed {
+    let mut list = [Pair { a: 0, b: 0 }; 4096];
+    let k = held(words, 4096);
+    copy_in(&mut list, words, k);
+    let answer = read_dimacs(bytes, &mut list, work);
     copy_out(&list, words, k);
     answer
 }

@@ -1,5 +1,8 @@
-// The public calls that make and change a list, on lent records: start; read; then add, remove, add_to and remove_from step by step against a plain model.
+// The public calls that make and change a list, on lent records: start; read and read_dimacs; then add, remove, add_to and remove_from step by step against
+// a plain model.
 mod desk;
+mod draws;
+mod edges;
 mod lent;
 mod model;
 mod print;
@@ -11,5 +14,6 @@ mod steps;
 fn main() {
     starts::run();
     reads::run();
+    edges::run();
     runs::run_all();
 }

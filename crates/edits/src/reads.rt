@@ -22,7 +22,7 @@ fn put_byte(file: &mut [u8], at: usize, byte: u8) {
     }
 }
 
-fn put_text(file: &mut [u8], at: usize, text: &[u8]) -> usize {
+pub(crate) fn put_text(file: &mut [u8], at: usize, text: &[u8]) -> usize {
     let mut end = at;
     let mut i = 0;
     while i < text.len() {
@@ -34,7 +34,7 @@ fn put_text(file: &mut [u8], at: usize, text: &[u8]) -> usize {
 }
 
 // A label and a number.
-fn put_field(file: &mut [u8], at: usize, label: &[u8], value: u32) -> usize {
+pub(crate) fn put_field(file: &mut [u8], at: usize, label: &[u8], value: u32) -> usize {
     let mut digits = [0u8; 20];
     let end = put_text(file, at, label);
     let k = io::decimal(value as u64, &mut digits);
@@ -111,7 +111,7 @@ fn print_list(words: &[u32]) {
 }
 
 // The smaller of the two.
-fn at_most(len: usize, k: usize) -> usize
+pub(crate) fn at_most(len: usize, k: usize) -> usize
     ensures { λ r. ⌜ r ≤ len ⌝ }
 {
     if k < len { k } else { len }
