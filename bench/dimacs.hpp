@@ -112,7 +112,8 @@ class Dimacs {
     void write_by_lemon() {
         std::ostringstream out;
         writeDimacsMat(out, arcs);
-        if (out.str().size() + 1 != listed.size()) fail("LEMON writes");  // `mat` is a letter shorter than `edge`
+        std::string written = out.str();  // LEMON numbers the modules in an order of its own
+        if (std::count(written.begin(), written.end(), '\n') != head.m + 1) fail("LEMON writes");
     }
 
     void write_by_igraph(const igraph_t &graph) {

@@ -18,7 +18,8 @@ use Rattle.lines.specs.declared.FoundNumber.the-variants.{Number as numb
 use Rattle.lines.specs.declared.FoundLine.{FoundLine}
 use Rattle.lines.specs.declared.FoundLine.the-variants.{Line as line, Malformed}
 
--- Number: its value, and the bytes after it. Missing: none; so is its line (line-of), which line-due refuses by 1 in pair files, by 16 in DIMACS files, by 101 on sheets
+-- Number: its value, and the bytes after it. Missing: none; so is its line (line-of), which line-due refuses by 1 in pair files, by 16 in DIMACS files,
+-- by 101 on sheets
 unfoldable pub number-in : (bytes : List ℕ) → FoundNumber → Option Number
 number-in bs Missing = none
 number-in bs (number v i) = some (record { value = v; rest = drop i bs })
@@ -33,7 +34,8 @@ pub record NumberFound (d : ℕ) (bytes : List ℕ) (at : ℕ) (r : FoundNumber)
   pub found : number-of d (drop at bytes) ≡ number-in bytes r
   pub within : number-end r ≤ length bytes
 
--- Line: its numbers, the first k of a buffer, and the bytes after it. Malformed: none, which line-due refuses by 1 in pair files, by 16 in DIMACS files, by 101 on sheets
+-- Line: its numbers, the first k of a buffer, and the bytes after it. Malformed: none, which line-due refuses by 1 in pair files, by 16 in DIMACS files,
+-- by 101 on sheets
 unfoldable pub line-in : (bytes : List ℕ) → (k : ℕ) → (numbers : List ℕ) → FoundLine → Option Line
 line-in bs k ns Malformed = none
 line-in bs k ns (line i) = some (record { numbers = take k ns; rest = drop i bs })

@@ -47,8 +47,8 @@ use Rattle.texts.specs.Example.{tail-file, tail-text, Tail-printed}
 tail-named : read-file 4096 tail-file ≡ taken tail
 unfolding tail-file tail of-modules pair stands-before cause refusal same-ends is-held insert-pair smaller-first-pair is-module module-unknown
     self-paired pair-causes text between is-digit digits is-number value-on value number-of modules-form pairs-form pair-form is-place first second with-numbers
-    after-number after-byte line-of _>>=_ _>>_ passed judge line-or line-due head-line modules-causes modules-line pairs-causes pairs-line pair-line-causes pair-line end-causes
-    read-pairs read-file
+    after-number after-byte line-of _>>=_ _>>_ passed judge line-or line-due head-line modules-causes modules-line pairs-causes pairs-line
+    pair-line-causes pair-line end-causes read-pairs read-file
 tail-named = refl
 
 -- the seventh starred case
