@@ -1,13 +1,10 @@
 // The desk: one buffer for all the words that a run keeps, so that a function is lent one slice. An index past the end reads 0 and writes nothing.
 //   0        a list's words, in the layout of `records`
 //   OWN      those of a second list, which add_to and remove_from change
-//   COUNTS   what is counted of files that are read, in the place of that list's counts
 //   DUE      the numbers of the records that are due
 //   TALLY    what is counted
 //   TABLE    the model's table: 512 words for each of 512 modules
 pub(crate) const OWN: usize = 12288;
-
-pub(crate) const COUNTS: usize = 20480;
 
 pub(crate) const DUE: usize = 24576;
 

@@ -7,8 +7,6 @@ ghost use Rattle.records.specs.Records.{Fits-records};
 use kandurzo::Changed;
 use kandurzo::add;
 use kandurzo::add_to;
-use kandurzo::read;
-use kandurzo::read_dimacs;
 use kandurzo::remove;
 use kandurzo::remove_from;
 use records::Head;
@@ -113,36 +111,6 @@ pub(crate) fn remove_from_100(words: &mut [u32], head: Head, a: u32, b: u32) -> 
     let k = held(words, 100);
     copy_in(&mut list, words, k);
     let answer = remove_own(head, &mut list, a, b);
-    copy_out(&list, words, k);
-    answer
-}
-
-// read into 100 records.
-pub(crate) fn read_100(words: &mut [u32], bytes: &[u8], work: &mut [u32]) -> Changed {
-    let mut list = [Pair { a: 0, b: 0 }; 100];
-    let k = held(words, 100);
-    copy_in(&mut list, words, k);
-    let answer = read(bytes, &mut list, work);
-    copy_out(&list, words, k);
-    answer
-}
-
-// read_dimacs into 100 records.
-pub(crate) fn read_dimacs_100(words: &mut [u32], bytes: &[u8], work: &mut [u32]) -> Changed {
-    let mut list = [Pair { a: 0, b: 0 }; 100];
-    let k = held(words, 100);
-    copy_in(&mut list, words, k);
-    let answer = read_dimacs(bytes, &mut list, work);
-    copy_out(&list, words, k);
-    answer
-}
-
-// read_dimacs into 4,096 records.
-pub(crate) fn read_dimacs_4096(words: &mut [u32], bytes: &[u8], work: &mut [u32]) -> Changed {
-    let mut list = [Pair { a: 0, b: 0 }; 4096];
-    let k = held(words, 4096);
-    copy_in(&mut list, words, k);
-    let answer = read_dimacs(bytes, &mut list, work);
     copy_out(&list, words, k);
     answer
 }

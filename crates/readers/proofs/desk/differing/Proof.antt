@@ -1,0 +1,30 @@
+-- `desk::differing` is safe and ends. The loop keeps: nothing. Assumes nothing.
+use Prim.Native.Nat.{_-_}
+use borrow.Author.Needs.{needs}
+use Rattle.readers.proofs.desk.differing.Statement.{statement}
+use Rattle.readers.proofs.desk.differing.Tie as tie
+
+abbrev Inv-loop : tie.InvT-loop
+Inv-loop words first second n found₀ i₀ found i = Unit {0}
+
+abbrev μ-loop : tie.MeasureT-loop
+μ-loop words first second n found₀ i₀ found i = n - i
+
+pub differing-spec : {M : Type 1} → statement M
+differing-spec =
+    tie.close
+    (tie.spec
+    Inv-loop
+    μ-loop
+    (λ c. search needs)
+    (λ c κs. search needs)
+    (λ c κs. search needs)
+    (λ c κs. search needs)
+    (λ c κs. search needs)
+    (λ c κs. search needs)
+    (λ c κs. search needs)
+    (λ c κs. search needs)
+    (λ c. search needs)
+    (λ c. search needs)
+    (λ c. search needs)
+    (λ c. search needs))

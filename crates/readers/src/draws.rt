@@ -1,0 +1,203 @@
+// Lists drawn into the model's table, and written as DIMACS files: the pairs in the order drawn, either module first, with comments before some lines.
+use crate::desk;
+use crate::model;
+use crate::reads;
+
+// How lists are drawn and read: modules, records of the list, draws, pairs at most; in how many ways their files are read; and what is altered before it is
+// compared (1 the number, 2 the count of pairs, 3 the records, 4 the work buffer; 0 nothing).
+pub(crate) struct Plan {
+    pub(crate) n: u32,
+    pub(crate) len: u32,
+    pub(crate) draws: u32,
+    pub(crate) most: u32,
+    pub(crate) ways: u32,
+    pub(crate) altered: u32,
+}
+
+// Two modules, and the random state after the draw.
+struct Two {
+    a: u32,
+    b: u32,
+    state: u32,
+}
+
+// A file's length so far, how many comments it has, and the pair of its last line.
+pub(crate) struct Text {
+    pub(crate) end: usize,
+    pub(crate) comments: u32,
+    a: u32,
+    b: u32,
+}
+
+// ---- the list
+
+// Two modules of n by chance, or one of them twice.
+fn drawn(n: u32, state: u32) -> Two {
+    let first = desk::next(state);
+    let second = desk::next(first);
+    Two {
+        a: desk::below(first, n),
+        b: desk::below(second, n),
+        state: second,
+    }
+}
+
+// Whether a draw is a pair that the table has not, and there are fewer than the most.
+fn is_new(plan: Plan, two: Two, count: u32, desk: &[u32]) -> bool {
+    if two.a == two.b {
+        return false;
+    }
+    if count == plan.most {
+        return false;
+    }
+    !model::held(desk, two.a, two.b)
+}
+
+// Puts such a pair into the table; how many there are then.
+fn put_drawn(plan: Plan, two: Two, count: u32, desk: &mut [u32]) -> u32 {
+    if !is_new(plan, two, count, desk) {
+        return count;
+    }
+    model::put_pair(desk, two.a, two.b, 1);
+    std::num::wrapping_add_u32(count, 1)
+}
+
+// All draws; how many pairs the table has then.
+pub(crate) fn fill(plan: Plan, state: u32, desk: &mut [u32]) -> u32 {
+    let mut count = 0;
+    let mut now = state;
+    let mut i = 0;
+    while i < plan.draws {
+        let two = drawn(plan.n, now);
+        count = put_drawn(plan, two, count, desk);
+        now = two.state;
+        i += 1;
+    }
+    count
+}
+
+// ---- its file
+
+// A comment of one of four kinds.
+fn put_kind(file: &mut [u8], at: usize, kind: u32) -> usize {
+    match kind {
+        0 => reads::put_text(file, at, b"c\n"),
+        1 => reads::put_text(file, at, b"c \n"),
+        2 => reads::put_text(file, at, b"c e 1 2\r\n"),
+        _ => reads::put_text(file, at, b"c p edge 1 0\n"),
+    }
+}
+
+// A comment one time in four.
+fn put_comment(file: &mut [u8], text: Text, state: u32) -> Text {
+    let kind = state / 4096 % 16;
+    if 3 < kind {
+        return text;
+    }
+    Text {
+        end: put_kind(file, text.end, kind),
+        comments: std::num::wrapping_add_u32(text.comments, 1),
+        ..text
+    }
+}
+
+// The line of two modules, numbered from 1.
+fn put_edge(file: &mut [u8], at: usize, a: u32, b: u32) -> usize {
+    let first = reads::put_field(file, at, b"e ", std::num::wrapping_add_u32(a, 1));
+    let second = reads::put_field(file, first, b" ", std::num::wrapping_add_u32(b, 1));
+    reads::put_text(file, second, b"\n")
+}
+
+// The line of a draw, where the pair is in the table still; it is taken out.
+fn put_line(file: &mut [u8], text: Text, two: Two, desk: &mut [u32]) -> Text {
+    if !model::held(desk, two.a, two.b) {
+        return text;
+    }
+    model::put_pair(desk, two.a, two.b, 0);
+    let after = put_comment(file, text, two.state);
+    Text {
+        end: put_edge(file, after.end, two.a, two.b),
+        comments: after.comments,
+        a: two.a,
+        b: two.b,
+    }
+}
+
+// The lines of all draws.
+fn put_lines(plan: Plan, state: u32, file: &mut [u8], text: Text, desk: &mut [u32]) -> Text {
+    let mut put = text;
+    let mut now = state;
+    let mut i = 0;
+    while i < plan.draws {
+        let two = drawn(plan.n, now);
+        put = put_line(file, put, two, desk);
+        now = two.state;
+        i += 1;
+    }
+    put
+}
+
+// N on the `p` line: 513 in way 5, and in way 11, where nothing of the file counts.
+fn modules(plan: Plan, way: u32) -> u32 {
+    if way == 5 || way == 11 { 513 } else { plan.n }
+}
+
+// M on the `p` line: one more than there are in ways 1, 7, 8 and 9, too many in way 6, one more than there is room for in way 10.
+fn pairs(plan: Plan, way: u32, count: u32) -> u32 {
+    match way {
+        1 | 7 | 8 | 9 => std::num::wrapping_add_u32(count, 1),
+        6 => 4097,
+        10 => std::num::wrapping_add_u32(plan.len, 1),
+        _ => count,
+    }
+}
+
+// What stands behind the lines: a line too many in way 2, no comment in way 3, the last LF missing in way 4, a module 0 in way 7, a module with itself in
+// way 8, the last pair again, turned, in way 9. The file's length then.
+fn put_end(file: &mut [u8], text: Text, way: u32) -> usize {
+    let end = text.end;
+    match way {
+        2 => reads::put_text(file, end, b"e 0 0\n"),
+        3 => reads::put_text(file, end, b"cx\n"),
+        4 => std::num::wrapping_sub_usize(end, 1),
+        7 => reads::put_text(file, end, b"e 0 1\n"),
+        8 => reads::put_text(file, end, b"e 1 1\n"),
+        9 => put_edge(file, end, text.b, text.a),
+        _ => end,
+    }
+}
+
+// The `p` line, behind a comment or none.
+fn put_head(plan: Plan, way: u32, count: u32, state: u32, file: &mut [u8]) -> Text {
+    let empty = Text {
+        end: 0,
+        comments: 0,
+        a: 0,
+        b: 0,
+    };
+    let start = put_comment(file, empty, state);
+    let n = reads::put_field(file, start.end, b"p edge ", modules(plan, way));
+    let m = reads::put_field(file, n, b" ", pairs(plan, way, count));
+    Text {
+        end: reads::put_text(file, m, b"\n"),
+        ..start
+    }
+}
+
+// The whole file.
+pub(crate) fn put_file(
+    plan: Plan,
+    way: u32,
+    count: u32,
+    state: u32,
+    file: &mut [u8],
+    desk: &mut [u32],
+) -> Text {
+    let head = put_head(plan, way, count, state, file);
+    let lines = put_lines(plan, state, file, head, desk);
+    let last = put_comment(file, lines, desk::next(state));
+    Text {
+        end: put_end(file, last, way),
+        ..last
+    }
+}
