@@ -19,11 +19,6 @@ pub(crate) fn next(state: u32) -> u32 {
     y ^ (y << 5)
 }
 
-// A number below k, by chance; 0 where k is 0.
-pub(crate) fn below(state: u32, k: u32) -> u32 {
-    if k == 0 { 0 } else { (state / 65536) % k }
-}
-
 // A word as an index.
 pub(crate) fn wide(x: u32) -> usize {
     x as usize

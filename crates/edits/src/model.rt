@@ -13,7 +13,7 @@ fn entry(a: u32, b: u32) -> usize {
     desk::plus(TABLE, desk::wide(512 * a + b))
 }
 
-pub(crate) fn held(desk: &[u32], a: u32, b: u32) -> bool {
+fn held(desk: &[u32], a: u32, b: u32) -> bool {
     desk::word_at(desk, entry(a, b)) == 1
 }
 

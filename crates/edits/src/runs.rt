@@ -128,7 +128,7 @@ fn disagreeing(plan: Plan, head: Head, desk: &mut [u32]) {
 }
 
 // Fills the lists with numbers of 60,000 to 64,095, which are no module's.
-pub(crate) fn litter(desk: &mut [u32]) {
+fn litter(desk: &mut [u32]) {
     let mut j = 0;
     while j < 4096 {
         let x = std::num::wrapping_add_u32(60000, j);

@@ -37,12 +37,17 @@ pub(crate) struct Ask {
     pub(crate) state: u32,
 }
 
+// A number below k, by chance; 0 where k is 0.
+fn below(state: u32, k: u32) -> u32 {
+    if k == 0 { 0 } else { (state / 65536) % k }
+}
+
 // A module number, or n, or one time in 64 any number.
 fn drawn_end(n: u32, state: u32) -> u32 {
     if state % 64 == 0 {
         return state;
     }
-    desk::below(state, std::num::wrapping_add_u32(n, 1))
+    below(state, std::num::wrapping_add_u32(n, 1))
 }
 
 // A pair of the list one time in two, else any; in either order.
@@ -50,7 +55,7 @@ fn drawn(n: u32, adds: bool, m: u32, state: u32, desk: &[u32]) -> Ask {
     let first = desk::next(state);
     let second = desk::next(first);
     let third = desk::next(second);
-    let j = desk::place(0, desk::below(second, m));
+    let j = desk::place(0, below(second, m));
     let mut a = drawn_end(n, second);
     let mut b = drawn_end(n, third);
     if first % 2 == 0 {
