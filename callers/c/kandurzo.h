@@ -13,7 +13,7 @@
  *    2  N outside 1 to 512
  *    3  the file's M above 4,096
  *    4  a module number is N or more; in a DIMACS file, where modules are numbered from 1, it is 0 or above N
- *    5  a module is paired with itself
+ *    5  a module is paired with itself, be it one of the N or not: 5 comes before 4
  *    6  bytes follow the last pair line
  *    7  a member byte above 1 among the first N, or none is 1
  *    8  a share above Q among the first M
@@ -102,27 +102,27 @@ typedef struct {
 kandurzo_changed_t kandurzo_start(uint32_t n);
 
 /* Add: the pair of modules a and b, in either order, at its place; later records shift up. Answers the new head, or beside a refusal the one passed.
- * Refuses by 13, 4, 5, 10, 11. */
+ * Refuses by 13, 5, 4, 10, 11. */
 kandurzo_changed_t kandurzo_add(kandurzo_head_t head, kandurzo_pair_t *list, size_t length, uint32_t a, uint32_t b);
 
 /* Remove: the pair of modules a and b, in either order; later records shift down and the one freed becomes 0,0. Answers the new head, or beside a
- * refusal the one passed. Refuses by 13, 4, 5, 14. */
+ * refusal the one passed. Refuses by 13, 5, 4, 14. */
 kandurzo_changed_t kandurzo_remove(kandurzo_head_t head, kandurzo_pair_t *list, size_t length, uint32_t a, uint32_t b);
 
-/* Add, on the caller's own head; answers the number. Refuses by 13, 4, 5, 10, 11. */
+/* Add, on the caller's own head; answers the number. Refuses by 13, 5, 4, 10, 11. */
 uint32_t kandurzo_add_to(kandurzo_head_t *head, kandurzo_pair_t *list, size_t length, uint32_t a, uint32_t b);
 
-/* Remove, on the caller's own head; answers the number. Refuses by 13, 4, 5, 14. */
+/* Remove, on the caller's own head; answers the number. Refuses by 13, 5, 4, 14. */
 uint32_t kandurzo_remove_from(kandurzo_head_t *head, kandurzo_pair_t *list, size_t length, uint32_t a, uint32_t b);
 
 /* Read: a pair file, which is `modules=N`, `pairs=M` and M lines `pair=A,B`, each ended by LF. Makes a new head and writes the first M records. Wants
- * 16,384 words of work. Refuses by 12 (work); on the first line 1, 2; on the second 1, 3, 11; on a pair line 1, 4, 5, 10; last 6. The head is then 0,0.
+ * 16,384 words of work. Refuses by 12 (work); on the first line 1, 2; on the second 1, 3, 11; on a pair line 1, 5, 4, 10; last 6. The head is then 0,0.
  * The work buffer is untouched after 12 and holds 16,384 zero words after any other return. */
 kandurzo_changed_t kandurzo_read(const uint8_t *bytes, size_t count, kandurzo_pair_t *list, size_t length, uint32_t *work, size_t work_length);
 
 /* Read a DIMACS edge file: one line `p edge N M`, then M lines `e A B`, modules numbered from 1 (in the list from 0); anywhere, comments, which are `c`
  * alone, or `c`, a blank and any bytes. Each line is ended by LF. Makes a new head and writes the first M records. Wants 16,384 words of work. Refuses by 12
- * (work); then line by line, on the `p` line 16, 2, 3, 11, on an `e` line 16, 17 (M came already), 4, 5, 10, on any other 16; last 16 (no `p` line), 17
+ * (work); then line by line, on the `p` line 16, 2, 3, 11, on an `e` line 16, 17 (M came already), 5, 4, 10, on any other 16; last 16 (no `p` line), 17
  * (fewer than M). The head is then 0,0. The work buffer is untouched after 12 and holds 16,384 zero words after any other return. */
 kandurzo_changed_t kandurzo_read_dimacs(const uint8_t *bytes, size_t count, kandurzo_pair_t *list, size_t length, uint32_t *work, size_t work_length);
 

@@ -192,12 +192,12 @@ pub fn start(n: u32) -> Changed {
     unsafe { library::kandurzo_start(n) }
 }
 
-/// Adds the pair of a and b, in either order. Refuses by 13, 4, 5, 10, 11.
+/// Adds the pair of a and b, in either order. Refuses by 13, 5, 4, 10, 11.
 pub fn add(head: Head, list: &mut [Pair], a: u32, b: u32) -> Changed {
     unsafe { library::kandurzo_add(head, list.as_mut_ptr(), list.len(), a, b) }
 }
 
-/// Removes the pair of a and b, in either order. Refuses by 13, 4, 5, 14.
+/// Removes the pair of a and b, in either order. Refuses by 13, 5, 4, 14.
 pub fn remove(head: Head, list: &mut [Pair], a: u32, b: u32) -> Changed {
     unsafe { library::kandurzo_remove(head, list.as_mut_ptr(), list.len(), a, b) }
 }
@@ -212,7 +212,7 @@ pub fn remove_from(head: &mut Head, list: &mut [Pair], a: u32, b: u32) -> u32 {
     unsafe { library::kandurzo_remove_from(head, list.as_mut_ptr(), list.len(), a, b) }
 }
 
-/// Reads a pair file into the list. Refuses by 12, then line by line 1, 2; 1, 3, 11; 1, 4, 5, 10; 6.
+/// Reads a pair file into the list. Refuses by 12, then line by line 1, 2; 1, 3, 11; 1, 5, 4, 10; 6.
 pub fn read(bytes: &[u8], list: &mut [Pair], work: &mut [u32]) -> Changed {
     unsafe {
         library::kandurzo_read(
@@ -226,7 +226,7 @@ pub fn read(bytes: &[u8], list: &mut [Pair], work: &mut [u32]) -> Changed {
     }
 }
 
-/// Reads a DIMACS edge file into the list. Refuses by 12, then line by line 16, 2, 3, 11 (`p`); 16, 17, 4, 5, 10 (`e`); last 16, 17.
+/// Reads a DIMACS edge file into the list. Refuses by 12, then line by line 16, 2, 3, 11 (`p`); 16, 17, 5, 4, 10 (`e`); last 16, 17.
 pub fn read_dimacs(bytes: &[u8], list: &mut [Pair], work: &mut [u32]) -> Changed {
     unsafe {
         library::kandurzo_read_dimacs(

@@ -138,7 +138,7 @@ impl List {
         Ok(List { head: answer.head, records: vec![Pair::default(); PAIRS], work: vec![0; WORK] })
     }
 
-    /// The list of a pair file. Refuses by 1, 2; 1, 3; 1, 4, 5, 10; 6.
+    /// The list of a pair file. Refuses by 1, 2; 1, 3; 1, 5, 4, 10; 6.
     pub fn read(bytes: &[u8]) -> Result<List, Refusal> {
         let (mut records, mut work) = (vec![Pair::default(); PAIRS], vec![0; WORK]);
         let answer = ffi::read(bytes, &mut records, &mut work);
@@ -146,7 +146,7 @@ impl List {
         Ok(List { head: answer.head, records, work })
     }
 
-    /// The list of a DIMACS edge file, whose modules are numbered from 1. Refuses by 16, 2, 3; 16, 17, 4, 5, 10; 16, 17.
+    /// The list of a DIMACS edge file, whose modules are numbered from 1. Refuses by 16, 2, 3; 16, 17, 5, 4, 10; 16, 17.
     pub fn read_dimacs(bytes: &[u8]) -> Result<List, Refusal> {
         let (mut records, mut work) = (vec![Pair::default(); PAIRS], vec![0; WORK]);
         let answer = ffi::read_dimacs(bytes, &mut records, &mut work);
@@ -180,12 +180,12 @@ impl List {
         Ok(text)
     }
 
-    /// Adds the pair of a and b, in either order. Refuses by 4, 5, 10, 11.
+    /// Adds the pair of a and b, in either order. Refuses by 5, 4, 10, 11.
     pub fn add(&mut self, a: u32, b: u32) -> Result<(), Refusal> {
         Refusal::of(ffi::add_to(&mut self.head, &mut self.records, a, b))
     }
 
-    /// Removes the pair of a and b, in either order. Refuses by 4, 5, 14.
+    /// Removes the pair of a and b, in either order. Refuses by 5, 4, 14.
     pub fn remove(&mut self, a: u32, b: u32) -> Result<(), Refusal> {
         Refusal::of(ffi::remove_from(&mut self.head, &mut self.records, a, b))
     }

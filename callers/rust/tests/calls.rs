@@ -57,11 +57,11 @@ fn edited(adds: bool, head: Head, list: &[Pair], a: u32, b: u32) -> (u32, Head, 
     if !plain::agree(head, list) {
         return refused(13);
     }
-    if a >= head.n || b >= head.n {
-        return refused(4);
-    }
     if a == b {
         return refused(5);
+    }
+    if a >= head.n || b >= head.n {
+        return refused(4);
     }
     let m = head.m as usize;
     let mut held: BTreeSet<Pair> = list[..m].iter().copied().collect();
@@ -86,7 +86,7 @@ fn edited(adds: bool, head: Head, list: &[Pair], a: u32, b: u32) -> (u32, Head, 
 }
 
 fn edits(adds: bool, seed: u64) -> Met {
-    let (mut random, mut met) = (Random(seed), Met::default());
+    let (mut random, mut met, mut unknown_twice) = (Random(seed), Met::default(), 0);
     for _ in 0..20_000 {
         let full = random.once_in(200);
         let list = if full { plain::uniform(&mut random, 200, 4096) } else { plain::any(&mut random) };
@@ -107,7 +107,9 @@ fn edits(adds: bool, seed: u64) -> Met {
         assert_eq!((on_own, own), (number, new));
         assert!(records == after && lent == after, "the list after {number} of {a},{b}");
         met.see(number);
+        unknown_twice += u32::from(number == 5 && a >= head.n);
     }
+    assert!(unknown_twice >= 20, "a module of number N or more with itself, {unknown_twice} times");
     met
 }
 

@@ -47,7 +47,8 @@ fn tried_by_hand() {
     assert!(List::new(512).is_ok());
     assert_eq!((number(List::new(0)), number(List::new(513))), (2, 2));
     assert_eq!(number(List::read(b"modules=01\npairs=0\n")), 1);
-    assert_eq!(number(List::read(b"modules=5\npairs=1\npair=9,9\n")), 4);
+    // 4 in document 01; 5 since document 02, item 2
+    assert_eq!(number(List::read(b"modules=5\npairs=1\npair=9,9\n")), 5);
 }
 
 #[test]
@@ -56,6 +57,7 @@ fn refusals_have_numbers_and_texts() {
     assert_eq!(List::new(0).unwrap_err().to_string(), "2: N outside 1 to 512");
     assert_eq!((number(tail.add(0, 5)), number(tail.add(2, 2)), number(tail.add(1, 0))), (4, 5, 10));
     assert_eq!((number(tail.remove(0, 5)), number(tail.remove(2, 2)), number(tail.remove(4, 0))), (4, 5, 14));
+    assert_eq!((number(tail.add(5, 5)), number(tail.remove(9, 9)), number(tail.add(5, 9))), (5, 5, 4));
     assert_eq!((number(tail.check(&[1; 4], &[0; 7])), number(tail.check(&[1; 5], &[0; 6]))), (12, 12));
     assert_eq!((number(tail.check(&[0; 5], &[0; 7])), number(tail.surplus(&[1; 5], &[2; 5]))), (7, 7));
     assert_eq!((number(tail.surplus(&[1; 4], &[1; 5])), number(tail.surplus(&[1; 5], &[1; 4]))), (12, 12));
@@ -78,6 +80,7 @@ fn dimacs_files() {
     assert_eq!(refused(b"p edge 2 1\n").to_string(), "17: the count of `e` lines isn't M");
     assert_eq!((refused(b"p edge 0 0\n").number(), refused(b"p edge 2 4097\n").number()), (2, 3));
     assert_eq!((refused(b"p edge 2 1\ne 0 1\n").number(), refused(b"p edge 2 1\ne 1 1\n").number()), (4, 5));
+    assert_eq!((refused(b"p edge 2 1\ne 0 0\n").number(), refused(b"p edge 2 1\ne 3 3\n").number()), (5, 5));
     assert_eq!(refused(b"p edge 2 2\ne 1 2\ne 2 1\n").number(), 10);
 }
 

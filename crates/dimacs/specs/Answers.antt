@@ -53,7 +53,7 @@ pub record ProblemRead (bytes : List ℕ) (at room : ℕ) (r : ProblemLine) : Ty
   pub found : problem-line room (first-line (drop at bytes)) ≡ sizes-in r
   pub end : SizesEnd bytes at r
 
--- Refused: its number, 16, 17, 4, 5 or 10 by edge-line (specs/Edges.antt). Named: the pair a,b; PairEnd has the bytes after its line, PlaceKnown its place
+-- Refused: its number, 16, 17, 5, 4 or 10 by edge-line (specs/Edges.antt). Named: the pair a,b; PairEnd has the bytes after its line, PlaceKnown its place
 unfoldable pub pair-in : PairLine → Outcome Pair
 pair-in (line-refused k) = refused k
 pair-in (named a b place i) = taken (pair a b)

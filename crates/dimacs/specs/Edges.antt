@@ -1,6 +1,7 @@
 -- Document 02, item 1: DIMACS edge files. One line `p edge N M` precedes the M lines `e A B` with modules numbered from 1; comments stand anywhere.
 -- 16: a line of none of these forms, out of place, or lacking its LF, or no `p` line. 17: the count of `e` lines isn't M, judged at the first line
--- too many, before its 4, 5 and 10, or at the end. Lines are judged in file order: the `p` line by 16, 2, 3, 11, an `e` line by 16, 17, 4, 5, 10.
+-- too many, before its 5, 4 and 10, or at the end. Lines are judged in file order: the `p` line by 16, 2, 3, 11, an `e` line by 16, 17, 5, 4, 10
+-- (5 before 4: item 2).
 --   problem-form, edge-form               the forms of the lines
 --   problem-causes, problem-line          the `p` line, with its causes
 --   named-pair, edge-causes, edge-line    an `e` line, with its causes, and the pair that it names
@@ -45,11 +46,11 @@ problem-line room bs = do
 unfoldable pub named-pair : (a b : ℕ) → Pair
 named-pair a b = smaller-first-pair (a - 1) (b - 1)
 
--- 17: a line too many; 4: a module numbered 0 or above N; 5; 10: the pair is named on an earlier line, in either order
+-- 17: a line too many; 5; 4: a module numbered 0 or above N; 10: the pair is named on an earlier line, in either order
 unfoldable pub edge-causes : (n left : ℕ) → (held : List Pair) → (a b : ℕ) → List Cause
 edge-causes n left held a b = cause 17 (eqb left 0) ∷ (pair-causes 1 n a b ++ (cause 10 (is-held (named-pair a b) held) ∷ []))
 
--- an `e` line, so many being left, by 16, 17, 4, 5, 10; the pairs of the earlier lines are held
+-- an `e` line, so many being left, by 16, 17, 5, 4, 10; the pairs of the earlier lines are held
 unfoldable pub edge-line : (n left : ℕ) → (held : List Pair) → (line : List ℕ) → Outcome Pair
 edge-line n left held bs = do
   l ← line-due 16 4 edge-form bs

@@ -8,7 +8,7 @@
 --   Reads-every            every file of different pairs is taken
 --   Comments-nothing       taking the comments out changes neither a file's number nor its list
 --   whole-lines, Comment-anywhere    nor does a comment put in at the start or behind any line
---   is-dimacs-number, Only-these    a file is refused by no other numbers than 16, 2, 3, 11, 17, 4, 5 and 10
+--   is-dimacs-number, Only-these    a file is refused by no other numbers than 16, 2, 3, 11, 17, 5, 4 and 10
 --   Written-fits           65,536 bytes hold the file of any list
 -- proofs/Promises.antt has a theorem for each, of the same name in small letters. Assumes nothing: these are definitions.
 use mathlib.Core.Path.{_≡_}

@@ -60,12 +60,12 @@ tried =
     ∷ try "p edge 2 1\ne 1 2\ne 1 1\n" 17
     ∷ try "p edge 2 1\ne 1 2\ne 2 1\n" 17
     ∷ try "p edge 2 0\ne 0 0\n" 17
+    ∷ try "p edge 5 1\ne 5 5\n" 5
+    ∷ try "p edge 5 1\ne 9 9\n" 5
+    ∷ try "p edge 5 1\ne 0 0\n" 5
     ∷ try "p edge 2 1\ne 0 1\n" 4
     ∷ try "p edge 2 1\ne 1 3\n" 4
     ∷ try "p edge 2 1\ne 9999 1\n" 4
-    ∷ try "p edge 5 1\ne 9 9\n" 4
-    ∷ try "p edge 5 1\ne 0 0\n" 4
-    ∷ try "p edge 5 1\ne 5 5\n" 5
     ∷ try "p edge 5 2\ne 1 2\ne 2 1\n" 10
     ∷ []
 

@@ -23,15 +23,15 @@ pub(crate) fn put_pair(desk: &mut [u32], a: u32, b: u32, x: u32) {
     desk::put_word(desk, entry(b, a), x);
 }
 
-// 4: a module number of N or more. 5: a module with itself.
+// 5: a module with itself. 4: a module number of N or more.
 fn pair_number(n: u32, a: u32, b: u32) -> u32 {
+    if a == b {
+        return 5;
+    }
     if n <= a {
         return 4;
     }
-    if n <= b {
-        return 4;
-    }
-    if a == b { 5 } else { 0 }
+    if n <= b { 4 } else { 0 }
 }
 
 // What add answers on a list of n modules and `count` pairs that has room for `len`.

@@ -1,10 +1,11 @@
--- One theorem for each statement of specs/Promise.antt, specs/Keeping.antt and specs/Exchange.antt, in their order.
+-- One theorem for each statement of specs/Promise.antt, specs/Keeping.antt, specs/Twice.antt and specs/Exchange.antt, in their order.
 --   lent-held, every-list-peeled, every-list-solved, every-list-judged, every-list-compared    every list
 --   refusals-keep, unsplit-never, fifteen-never    refusals
 --   peel-exact, check-exact, solve-alone, solve-accepted, records-in-order    answers
 --   held-once, either-way-round, add-exactly, remove-exactly, add-holds, remove-drops, thirteen-never-follows    one pair more, one pair less
 --   arrival-traceless, any-order-taken, every-list-added, same-pairs-same-records, add-undone    the order of arrival
 --   every-file-read, read-exact    read
+--   only-twice-changed    5 before 4
 --   every-list-written, written-read, read-rewritten, comments-unread, read-dimacs-exact, every-dimacs-read    read_dimacs and write_dimacs
 -- Assumes nothing.
 use Rattle.kandurzo.specs.Promise.{Lent-held, Every-list-peeled, Every-list-solved, Every-list-judged, Every-list-compared, Refusals-keep, Unsplit-never}
@@ -12,6 +13,7 @@ use Rattle.kandurzo.specs.Promise.{Fifteen-never, Peel-exact, Check-exac
 use Rattle.kandurzo.specs.Keeping.{Held-once, Either-way-round, Add-exactly, Remove-exactly, Add-holds, Remove-drops, Thirteen-never-follows}
 use Rattle.kandurzo.specs.Keeping.{Arrival-traceless, Any-order-taken, Every-list-added, Same-pairs-same-records, Add-undone}
 use Rattle.kandurzo.specs.Keeping.{Every-file-read, Read-exact}
+use Rattle.kandurzo.specs.Twice.{Only-twice-changed}
 use Rattle.kandurzo.specs.Exchange.{Every-list-written, Written-read, Read-rewritten, Comments-unread, Read-dimacs-exact, Every-dimacs-read}
 use Rattle.kandurzo.proofs.Readings.{reads-file, reads-dimacs}
 use Rattle.kandurzo.proofs.Exchanges as exchange
@@ -21,6 +23,7 @@ use Rattle.kandurzo.proofs.Solves as solves
 use Rattle.kandurzo.proofs.Keeping as keeping
 use Rattle.kandurzo.proofs.Arrivals as arrivals
 use Rattle.kandurzo.proofs.ReadKeeps as reading
+use Rattle.kandurzo.proofs.Twice as twice
 
 -- ---- every list
 
@@ -121,6 +124,11 @@ every-file-read = reading.every-file-read
 
 pub read-exact : Read-exact
 read-exact = reading.read-exact
+
+-- ---- 5 before 4
+
+pub only-twice-changed : Only-twice-changed
+only-twice-changed = twice.only-twice-changed
 
 -- ---- read_dimacs and write_dimacs
 

@@ -10,4 +10,5 @@ pub mod Judging
 pub mod Solving
 pub mod Promise
 pub mod Keeping
+pub mod Twice
 pub mod Exchange

@@ -45,7 +45,7 @@ as-record p = record { a = p .a; b = p .b }
 unfoldable pub as-records : List Lists.Pair → List Pair
 as-records ps = map as-record ps
 
--- ---- add: 13, 4, 5, 10, 11
+-- ---- add: 13, 5, 4, 10, 11
 
 -- 11: no free record: M is 4,096 or the length of the lent list
 unfoldable pub is-full : Head → (len : ℕ) → Bool
@@ -65,7 +65,7 @@ pub record Add-says (h : Head) (ps : List Pair) (a b : ℕ) (r : Changed) (after
   pub head : r .head ≡ if-taken (add-number h ps a b) (head-of (h .n) (h .m + 1)) h
   pub list : after ≡ if-taken (add-number h ps a b) (added h ps a b) ps
 
--- ---- remove: 13, 4, 5, 14
+-- ---- remove: 13, 5, 4, 14
 
 -- the number that remove gives
 unfoldable pub remove-number : Head → List Pair → (a b : ℕ) → ℕ

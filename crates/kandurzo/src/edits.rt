@@ -39,7 +39,7 @@ fn refused(number: u32, head: Head) -> Edit
     }
 }
 
-// The refusals that come first in both: 13, 4, 5.
+// The refusals that come first in both: 13, 5, 4.
 fn first_number(head: Head, agreed: bool, a: u32, b: u32) -> u32
     ensures { λ r. ⌜ r ≡ refusal (cause 13 (not agreed) ∷ pair-causes 0 (head .n) a b) ⌝ }
 {
@@ -69,7 +69,7 @@ fn full(head: Head, len: usize) -> bool
     m == 4096
 }
 
-// Refuses by 13, 4, 5, 10, 11.
+// Refuses by 13, 5, 4, 10, 11.
 pub(crate) fn add_on_words(
     head: Head,
     agreed: bool,
@@ -104,7 +104,7 @@ pub(crate) fn add_on_words(
     }
 }
 
-// Refuses by 13, 4, 5, 14. The record freed comes back as 0,0.
+// Refuses by 13, 5, 4, 14. The record freed comes back as 0,0.
 pub(crate) fn remove_on_words(
     head: Head,
     agreed: bool,

@@ -104,7 +104,7 @@ pub extern "C" fn kandurzo_start(n: u32) -> Changed
 
 pub use kandurzo_start as start;
 
-// Adds the pair of modules a and b, in either order. Refuses by 13, 4, 5, 10, 11; head and list are then as before. Copies the held
+// Adds the pair of modules a and b, in either order. Refuses by 13, 5, 4, 10, 11; head and list are then as before. Copies the held
 // records to words and back.
 #[no_mangle]
 pub extern "C" fn kandurzo_add(head: Head, list: &mut [Pair], a: u32, b: u32) -> Changed
@@ -124,7 +124,7 @@ pub extern "C" fn kandurzo_add(head: Head, list: &mut [Pair], a: u32, b: u32) ->
 
 pub use kandurzo_add as add;
 
-// Removes the pair of modules a and b, in either order. Refuses by 13, 4, 5, 14; head and list are then as before.
+// Removes the pair of modules a and b, in either order. Refuses by 13, 5, 4, 14; head and list are then as before.
 #[no_mangle]
 pub extern "C" fn kandurzo_remove(head: Head, list: &mut [Pair], a: u32, b: u32) -> Changed
     ensures { λ r. ⌜ Remove-says head (now (list .entry)) a b r (now (list .exit)) ⌝ }
@@ -168,7 +168,7 @@ pub extern "C" fn kandurzo_remove_from(head: &mut Head, list: &mut [Pair], a: u3
 pub use kandurzo_remove_from as remove_from;
 
 // Reads a pair file: makes a new head, and writes the first M records in rising order. Refuses by 12 (work), then line by line: 1, 2; 1, 3, 11;
-// 1, 4, 5, 10; 6. A refused file leaves every record as it was.
+// 1, 5, 4, 10; 6. A refused file leaves every record as it was.
 #[no_mangle]
 pub extern "C" fn kandurzo_read(bytes: &[u8], list: &mut [Pair], work: &mut [u32]) -> Changed
     ensures { λ r. ⌜ Read-call read-file (now (bytes .entry)) (now (list .entry)) (now (work .entry)) r (now (list .exit)) (now (work .exit)) ⌝ }
@@ -185,7 +185,7 @@ pub extern "C" fn kandurzo_read(bytes: &[u8], list: &mut [Pair], work: &mut [u32
 pub use kandurzo_read as read;
 
 // Reads a DIMACS edge file: comments, one line `p edge N M`, M lines `e A B` with modules numbered from 1. Makes a new head, and writes the first M records in
-// rising order. Refuses by 12 (work), then line by line: 16, 2, 3, 11; 16, 17, 4, 5, 10; at the end 16, 17. A refused file leaves every record as it was.
+// rising order. Refuses by 12 (work), then line by line: 16, 2, 3, 11; 16, 17, 5, 4, 10; at the end 16, 17. A refused file leaves every record as it was.
 #[no_mangle]
 pub extern "C" fn kandurzo_read_dimacs(bytes: &[u8], list: &mut [Pair], work: &mut [u32]) -> Changed
     ensures { λ r. ⌜ Read-call read-dimacs (now (bytes .entry)) (now (list .entry)) (now (work .entry)) r (now (list .exit)) (now (work .exit)) ⌝ }

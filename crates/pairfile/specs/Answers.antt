@@ -40,7 +40,7 @@ pub record HeadRead (bytes : List ℕ) (due : Outcome Line) (r : HeadLine) : Typ
   pub found : due ≡ head-in bytes r
   pub within : head-end r ≤ length bytes
 
--- Refused: its number, 1, 4, 5 or 10 by pair-line (specs/File.antt). Named: the pair a,b, and the bytes after its line; PlaceKnown has its place
+-- Refused: its number, 1, 5, 4 or 10 by pair-line (specs/File.antt). Named: the pair a,b, and the bytes after its line; PlaceKnown has its place
 unfoldable pub named-in : (bytes : List ℕ) → PairLine → Outcome Named
 named-in bs (line-refused k) = refused k
 named-in bs (named a b place i) = taken (record { pair = pair a b; rest = drop i bs })

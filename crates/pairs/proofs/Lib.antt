@@ -5,6 +5,7 @@ pub mod Rising
 pub mod Changes
 pub mod Keeps
 pub mod Causes
+pub mod Twice
 pub mod Shifts
 pub mod Moves
 pub mod Words

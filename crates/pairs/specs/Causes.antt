@@ -1,8 +1,8 @@
--- Document 01, "Numbers from the input" and "from the state": when add and remove refuse, in their orders.
+-- Document 01, "Numbers from the input" and "from the state": when add and remove refuse, in their orders; of 4 and 5, 5 comes first (document 02, item 2).
 --   is-module, module-unknown, self-paired    whether a number is a module's, as a list or a file numbers them; the conditions of 4 and 5
---   pair-causes     what add, remove and the readers refuse of two module numbers: 4, 5
---   add-causes      13, 4, 5, 10, 11
---   remove-causes   13, 4, 5, 14
+--   pair-causes     what add, remove and the readers refuse of two module numbers: 5, 4
+--   add-causes      13, 5, 4, 10, 11
+--   remove-causes   13, 5, 4, 14
 -- Assumes nothing: these are definitions.
 use mathlib.Core.Bool.{Bool, _&&_, not}
 use mathlib.Core.List.{List, [], _∷_, _++_}
@@ -26,7 +26,7 @@ self-paired a b = eqb a b
 
 -- of two module numbers, in the order that add, remove and the readers share
 unfoldable pub pair-causes : (lowest n a b : ℕ) → List Cause
-pair-causes lowest n a b = cause 4 (module-unknown lowest n a b) ∷ cause 5 (self-paired a b) ∷ []
+pair-causes lowest n a b = cause 5 (self-paired a b) ∷ cause 4 (module-unknown lowest n a b) ∷ []
 
 -- ADD of modules a and b to a list; 13 where head and list disagree, 11 where no record is free
 unfoldable pub add-causes : (disagree : Bool) → Pairs → (full : Bool) → (a b : ℕ) → List Cause

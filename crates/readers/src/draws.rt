@@ -142,10 +142,10 @@ fn modules(plan: Plan, way: u32) -> u32 {
     if way == 5 || way == 11 { 513 } else { plan.n }
 }
 
-// M on the `p` line: one more than there are in ways 1, 7, 8 and 9, too many in way 6, one more than there is room for in way 10.
+// M on the `p` line: one more than there are in ways 1, 7, 8, 9 and 12, too many in way 6, one more than there is room for in way 10.
 fn pairs(plan: Plan, way: u32, count: u32) -> u32 {
     match way {
-        1 | 7 | 8 | 9 => std::num::wrapping_add_u32(count, 1),
+        1 | 7 | 8 | 9 | 12 => std::num::wrapping_add_u32(count, 1),
         6 => 4097,
         10 => std::num::wrapping_add_u32(plan.len, 1),
         _ => count,
@@ -153,7 +153,7 @@ fn pairs(plan: Plan, way: u32, count: u32) -> u32 {
 }
 
 // What stands behind the lines: a line too many in way 2, no comment in way 3, the last LF missing in way 4, a module 0 in way 7, a module with itself in
-// way 8, the last pair again, turned, in way 9. The file's length then.
+// way 8, the last pair again, turned, in way 9, a module 0 with itself in way 12. The file's length then.
 fn put_end(file: &mut [u8], text: Text, way: u32) -> usize {
     let end = text.end;
     match way {
@@ -163,6 +163,7 @@ fn put_end(file: &mut [u8], text: Text, way: u32) -> usize {
         7 => reads::put_text(file, end, b"e 0 1\n"),
         8 => reads::put_text(file, end, b"e 1 1\n"),
         9 => put_edge(file, end, text.b, text.a),
+        12 => reads::put_text(file, end, b"e 0 0\n"),
         _ => end,
     }
 }

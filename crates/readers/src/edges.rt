@@ -1,4 +1,4 @@
-// read_dimacs: lists are drawn, and their files read as they are and in eleven ways that are refused, into a list of numbers that are no module's. The answer
+// read_dimacs: lists are drawn, and their files read as they are and in twelve ways that are refused, into a list of numbers that are no module's. The answer
 // must be the number due and the head, the records those of the model's table in rising order, and all others as before; after 12 the work buffer must be as
 // before, else 16,384 zeros. Prints a line a kind of list: files, comments in them, answers of each number, pairs of the files taken, and how many differ.
 // Then lines with something altered.
@@ -27,7 +27,7 @@ fn due(plan: Plan, way: u32) -> u32 {
         5 => 2,
         6 => 3,
         7 => 4,
-        8 => 5,
+        8 | 12 => 5,
         9 => 10,
         10 => if plan.len == 4096 { 3 } else { 11 },
         _ => 12,
@@ -233,7 +233,7 @@ fn lists(n: u32, len: u32, draws: u32) -> Plan {
         len,
         draws,
         most: std::num::wrapping_sub_u32(len, 1),
-        ways: 12,
+        ways: 13,
         altered: 0,
     }
 }

@@ -32,7 +32,7 @@ pub fn lines_of(file: &[u8]) -> Vec<Vec<u8>> {
 }
 
 /// In which order causes are given that hold at the same line.
-const ORDER: [u32; 8] = [16, 2, 3, 11, 17, 4, 5, 10];
+const ORDER: [u32; 8] = [16, 2, 3, 11, 17, 5, 4, 10];
 
 /// The file's N and pairs, for a list of so many records; or the refusal number. Each cause has lines at which its condition holds, counted from 0, the
 /// file's end standing behind the last; the first such line decides, and of the causes there the first in `ORDER`.
@@ -62,7 +62,7 @@ pub fn read(file: &[u8], records: usize) -> Result<Plain, u32> {
     let mut pairs = BTreeSet::new();
     for (at, a, b) in edges {
         let again = !pairs.insert((a.min(b), a.max(b)));
-        holds.extend(true_at(at, [(4, !known(a) || !known(b)), (5, a == b), (10, again)]));
+        holds.extend(true_at(at, [(5, a == b), (4, !known(a) || !known(b)), (10, again)]));
     }
     match holds.iter().min_by_key(|(at, number)| (*at, ORDER.iter().position(|x| x == number))) {
         Some((_, number)) => Err(*number),

@@ -273,11 +273,11 @@ pub fn read(bytes: &[u8], records: usize) -> Result<Plain, u32> {
         let ends = line("pair=")?;
         let (a, b) = ends.split_once(',').ok_or(1u32)?;
         let (a, b) = (number(a).ok_or(1u32)?, number(b).ok_or(1u32)?);
-        if a >= n || b >= n {
-            return Err(4);
-        }
         if a == b {
             return Err(5);
+        }
+        if a >= n || b >= n {
+            return Err(4);
         }
         if !seen.insert((a.min(b), a.max(b))) {
             return Err(10);
