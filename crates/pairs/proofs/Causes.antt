@@ -59,9 +59,9 @@ module _ (lowest n a b : ℕ) (taken : refusal (pair-causes lowest n a b) ≡ 0)
   known : ((is-module lowest n a && is-module lowest n b) ≡ true) × (self-paired a b ≡ false)
   unfolding pair-causes module-unknown cause refusal
   known =
-      by-test (self-paired a b)
-      (λ t. absurd (omega (arith, simp t at taken)))
-      (λ t. by-test (is-module lowest n a && is-module lowest n b) (λ u. (u, t)) (λ u. absurd (omega (arith, simp (t, u) at taken))))
+      by-test (is-module lowest n a && is-module lowest n b)
+      (λ t. by-test (self-paired a b) (λ u. absurd (omega (arith, simp (t, u) at taken))) (λ u. (t, u)))
+      (λ t. by-test (self-paired a b) (λ u. absurd (omega (arith, simp (t, u) at taken))) (λ u. absurd (omega (arith, simp (t, u) at taken))))
 
   pub pair-then : (cs : List Cause) → refusal (pair-causes lowest n a b ++ cs) ≡ refusal cs
   unfolding pair-causes module-unknown cause refusal
