@@ -1,4 +1,4 @@
-/* Kandurzo from C: fault groups of a pair list (document 01; document 02, item 1).
+/* Kandurzo from C: fault groups of a pair list (document 01; document 02, items 1 and 2).
  *
  * A list has N modules (1 to 512), numbered 0 to N-1, and M pairs (at most 4,096) of two different modules. The caller lends every buffer: a head with
  * N and M, and records, smaller module first, in strictly rising order by first and then second number. Of a list, `length` is how many records

@@ -204,6 +204,9 @@ static void edits(enum call adds, enum call removes) {
     a = head.n;
     run(adds, 4);
     run(removes, 4);
+    b = a;
+    run(adds, 5);
+    run(removes, 5);
     head.n = 0;
     run(adds, 13);
     run(removes, 13);

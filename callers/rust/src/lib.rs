@@ -1,5 +1,5 @@
 //! Kandurzo from Rust: the largest group of greatest ratio in a list of fault pairs, with core numbers and a load sheet that shows
-//! that no group is denser (document 01; document 02, item 1).
+//! that no group is denser (document 01; document 02, items 1 and 2).
 //!
 //! ```
 //! let tail = b"modules=5\npairs=7\npair=0,1\npair=0,2\npair=0,3\npair=1,2\npair=1,3\npair=2,3\npair=3,4\n";
@@ -180,12 +180,12 @@ impl List {
         Ok(text)
     }
 
-    /// Adds the pair of a and b, in either order. Refuses by 5, 4, 10, 11.
+    /// Adds the pair of a and b, in either order. Refuses by 5, 4, 10, 11: a module with itself gives 5, also where the list has no such module.
     pub fn add(&mut self, a: u32, b: u32) -> Result<(), Refusal> {
         Refusal::of(ffi::add_to(&mut self.head, &mut self.records, a, b))
     }
 
-    /// Removes the pair of a and b, in either order. Refuses by 5, 4, 14.
+    /// Removes the pair of a and b, in either order. Refuses by 5, 4, 14, as `add` does.
     pub fn remove(&mut self, a: u32, b: u32) -> Result<(), Refusal> {
         Refusal::of(ffi::remove_from(&mut self.head, &mut self.records, a, b))
     }

@@ -4,7 +4,7 @@ mod plain;
 
 use kandurzo::ffi::{self, Changed, Difference, Solved, Verdict, Written};
 use kandurzo::{Head, Pair};
-use plain::buffers::{bytes, halves, in_front, pairs, work, work_after, Met, WORK};
+use plain::buffers::{bytes, from_4_to_5, halves, in_front, pairs, work, work_after, Met, WORK};
 use plain::{Plain, Random};
 use std::collections::BTreeSet;
 use std::mem::{align_of, offset_of, size_of};
@@ -132,7 +132,7 @@ fn file(random: &mut Random) -> Vec<u8> {
     }
     let mut lines: Vec<Vec<u8>> = file.split_inclusive(|&c| c == b'\n').map(<[u8]>::to_vec).collect();
     let (i, j) = (random.below(lines.len()), random.below(lines.len()));
-    let wrong: [&[u8]; 16] = [
+    let wrong: [&[u8]; 18] = [
         b"modules=0\n",
         b"modules=513\n",
         b"modules=01\n",
@@ -149,16 +149,18 @@ fn file(random: &mut Random) -> Vec<u8> {
         b"pair=+1,2\n",
         b"pair= 1,2\n",
         b"pair=1,2\r\n",
+        b"pair=600,600\n",
+        b"pair=9999,9999\n",
     ];
     let at = random.below(file.len());
     match random.below(12) {
-        0 => lines[i] = wrong[random.below(16)].to_vec(),
+        0 => lines[i] = wrong[random.below(18)].to_vec(),
         1 => lines[0] = wrong[random.below(3)].to_vec(),
         2 => lines[1] = wrong[3 + random.below(3)].to_vec(),
         3 => lines.swap(i, j),
         4 => drop(lines.remove(i)),
         5 => lines.insert(i, lines[j].clone()),
-        6 => lines.push(wrong[random.below(16)].to_vec()),
+        6 => lines.push(wrong[random.below(18)].to_vec()),
         7 => lines.last_mut().unwrap().truncate(random.below(8)),
         8 => {
             file.truncate(at);
@@ -182,7 +184,7 @@ fn file(random: &mut Random) -> Vec<u8> {
 
 #[test]
 fn read() {
-    let (mut random, mut met) = (Random(3), Met::default());
+    let (mut random, mut met, mut changed) = (Random(3), Met::default(), 0);
     for _ in 0..30_000 {
         let file = file(&mut random);
         let named = plain::read(&file, 4096).map_or(10, |list| list.pairs.len());
@@ -203,8 +205,10 @@ fn read() {
         );
         assert!(list == records && work == words, "the buffers after {number}");
         met.see(number);
+        changed += u32::from(number != 12 && from_4_to_5(plain::read_by([4, 5], &file, length), &answer));
     }
     met.are(&[0, 1, 2, 3, 4, 5, 6, 10, 11, 12]);
+    assert!(changed >= 50, "from 4 to 5 {changed} times");
 }
 
 #[test]

@@ -4,7 +4,7 @@ mod plain;
 
 use kandurzo::ffi::{self, Changed, Written};
 use kandurzo::{Head, Pair, TEXT};
-use plain::buffers::{bytes, in_front, pairs, work, work_after, Met, WORK};
+use plain::buffers::{bytes, from_4_to_5, in_front, pairs, work, work_after, Met, WORK};
 use plain::{dimacs, Plain, Random};
 
 /// Reads the file into a list of that length, with that work buffer, both full of anything; answer and buffers must be as the plain reader says.
@@ -37,15 +37,18 @@ fn file(random: &mut Random) -> (Vec<u8>, usize) {
 
 #[test]
 fn generated_files() {
-    let (mut random, mut met) = (Random(11), Met::default());
+    let (mut random, mut met, mut changed) = (Random(11), Met::default(), 0);
     for _ in 0..40_000 {
         let (file, m) = file(&mut random);
         let length = if random.once_in(2) { random.length(m) } else { 4096 };
         let work = work(&mut random);
         met.see(read(&mut random, &file, length, work));
+        let old = dimacs::read_by(dimacs::FOUR_FIRST, &file, length);
+        changed += u32::from(from_4_to_5(old, &dimacs::read(&file, length)));
     }
-    println!("{met}");
+    println!("{met}; from 4 to 5: {changed}");
     met.are_each(100, &[0, 2, 3, 4, 5, 10, 11, 12, 16, 17]);
+    assert!(changed >= 100, "from 4 to 5 {changed} times");
 }
 
 /// Small files: N and M at their least, one and two digits, three digits; with comments and without; the last lacks most of its lines.

@@ -82,12 +82,21 @@ fn put_everywhere(two: Two, desk: &mut [u32]) {
     put_two(two, DUE, desk);
 }
 
-// Calls that must be refused by 13, with heads and lists as before.
-fn refused(plan: Plan, adds: bool, head: Head, desk: &mut [u32]) {
+// Whom module 0 is paired with: module 1, itself, or no module of any list, by turns. 13 comes before 5 and 4.
+fn partner(way: u32) -> u32 {
+    match way % 3 {
+        0 => 1,
+        1 => 0,
+        _ => 600,
+    }
+}
+
+// A call that must be refused by 13, with heads and lists as before.
+fn refused(plan: Plan, adds: bool, head: Head, way: u32, desk: &mut [u32]) {
     let ask = Ask {
         adds,
         a: 0,
-        b: 1,
+        b: partner(way),
         state: 0,
     };
     let run = Run {
@@ -106,8 +115,8 @@ fn disagree(plan: Plan, head: Head, two: Two, desk: &mut [u32]) {
     while way < 9 {
         put_everywhere(spoiled(way, head.n, two), desk);
         let bad = bad_head(way, head, plan.len);
-        refused(plan, true, bad, desk);
-        refused(plan, false, bad, desk);
+        refused(plan, true, bad, way, desk);
+        refused(plan, false, bad, way, desk);
         way += 1;
     }
     put_everywhere(two, desk);

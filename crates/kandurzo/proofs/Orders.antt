@@ -1,7 +1,7 @@
 -- The orders of refusal of add and remove, a step at a time.
---   First, first-none, none-first                       the number of 13, 4 and 5, which come first in both; what holds where it is 0, and back
---   add-13, add-first, add-10, add-11, add-taken        13; 13, 4 and 5; 10, 11, none
---   remove-13, remove-first, remove-14, remove-taken    13; 13, 4 and 5; 14, none
+--   First, first-none, none-first                       the number of 13, 5 and 4, which come first in both; what holds where it is 0, and back
+--   add-13, add-first, add-10, add-11, add-taken        13; 13, 5 and 4; 10, 11, none
+--   remove-13, remove-first, remove-14, remove-taken    13; 13, 5 and 4; 14, none
 --   add-none, remove-none                               what holds where none is given
 -- Assumes nothing.
 use mathlib.Core.Path.{_≡_, sym, _∙_}

@@ -11,7 +11,8 @@
 --   every list    Lent, Lent-held; Peel-served, Every-list-peeled; Solve-served, Every-list-solved; Every-list-judged, Every-list-compared
 --   refusals      Refusals-keep; Unsplit-never, Fifteen-never
 --   answers       Peeling-of, Peel-exact; Best-of-all, Check-exact; Shares-alike, Solve-alone, Solve-accepted; Compare-alike, Records-in-order
--- Those of start, add, remove and read are in Keeping (and 13 after read_dimacs), the others of read_dimacs and write_dimacs in Exchange.
+-- Those of start, add, remove and read are in Keeping (and 13 after read_dimacs), the others of read_dimacs and write_dimacs in Exchange; what 5 before 4
+-- says of add, remove and both readers is in Twice.
 -- Assumes nothing: these are definitions.
 use mathlib.Core.Path.{_≡_}
 use mathlib.Core.Bool.{true, false}

@@ -1,4 +1,4 @@
-// The public calls of Kandurzo, over lent records (document 01, "The list and its calls"; document 02, item 1: DIMACS files).
+// The public calls of Kandurzo, over lent records (document 01, "The list and its calls"; document 02, items 1 and 2: DIMACS files; 5 before 4).
 mod buffers;
 mod edits;
 mod judging;

@@ -1,6 +1,6 @@
--- Document 01, "Numbers from the input" and "from the state": when add and remove refuse, in their orders; of 4 and 5, 5 comes first (document 02, item 2).
+-- Document 01, "Numbers from the input" and "from the state": when add and remove refuse, in their orders; document 02, item 2: 5 before 4.
 --   is-module, module-unknown, self-paired    whether a number is a module's, as a list or a file numbers them; the conditions of 4 and 5
---   pair-causes     what add, remove and the readers refuse of two module numbers: 5, 4
+--   pair-causes     what add, remove and both readers refuse of two module numbers: 5, 4
 --   add-causes      13, 5, 4, 10, 11
 --   remove-causes   13, 5, 4, 14
 -- Assumes nothing: these are definitions.
@@ -24,7 +24,7 @@ module-unknown lowest n a b = not (is-module lowest n a && is-module lowest n b)
 unfoldable pub self-paired : (a b : ℕ) → Bool
 self-paired a b = eqb a b
 
--- of two module numbers, in the order that add, remove and the readers share
+-- of two module numbers 5, then 4 (document 02, item 2): the order that add, remove and both readers share
 unfoldable pub pair-causes : (lowest n a b : ℕ) → List Cause
 pair-causes lowest n a b = cause 5 (self-paired a b) ∷ cause 4 (module-unknown lowest n a b) ∷ []
 

@@ -31,12 +31,18 @@ pub fn lines_of(file: &[u8]) -> Vec<Vec<u8>> {
     file.split_inclusive(|&c| c == b'\n').map(<[u8]>::to_vec).collect()
 }
 
-/// In which order causes are given that hold at the same line.
+/// In which order causes are given that hold at the same line; and the order of item 1, before item 2.
 const ORDER: [u32; 8] = [16, 2, 3, 11, 17, 5, 4, 10];
+pub const FOUR_FIRST: [u32; 8] = [16, 2, 3, 11, 17, 4, 5, 10];
 
 /// The file's N and pairs, for a list of so many records; or the refusal number. Each cause has lines at which its condition holds, counted from 0, the
 /// file's end standing behind the last; the first such line decides, and of the causes there the first in `ORDER`.
 pub fn read(file: &[u8], records: usize) -> Result<Plain, u32> {
+    read_by(ORDER, file, records)
+}
+
+/// The same, by this order.
+pub fn read_by(order: [u32; 8], file: &[u8], records: usize) -> Result<Plain, u32> {
     let (mut problems, mut edges, mut holds) = (vec![], vec![], vec![]);
     let lines = lines_of(file);
     for (at, text) in lines.iter().enumerate() {
@@ -64,7 +70,7 @@ pub fn read(file: &[u8], records: usize) -> Result<Plain, u32> {
         let again = !pairs.insert((a.min(b), a.max(b)));
         holds.extend(true_at(at, [(5, a == b), (4, !known(a) || !known(b)), (10, again)]));
     }
-    match holds.iter().min_by_key(|(at, number)| (*at, ORDER.iter().position(|x| x == number))) {
+    match holds.iter().min_by_key(|(at, number)| (*at, order.iter().position(|x| x == number))) {
         Some((_, number)) => Err(*number),
         None => Ok(Plain { n, pairs: pairs.into_iter().map(|(a, b)| (a - 1, b - 1)).collect() }),
     }
@@ -169,13 +175,13 @@ fn damage_line(random: &mut Random, lines: &mut Vec<Vec<u8>>) {
     }
 }
 
-/// Other numbers on the `p` line, another on an `e` line, or a pair in the place of an `e` line: of one module, or one that the list has.
+/// Other numbers on the `p` line, another on an `e` line, or a pair in the place of an `e` line: of one module, known or not, or one that the list has.
 fn damage_number(random: &mut Random, lines: &mut [Vec<u8>], list: &Plain) {
     let (n, m) = (list.n, list.pairs.len());
     let first = lines.iter().position(|text| text.starts_with(b"p"));
     let edges: Vec<usize> = (0..lines.len()).filter(|&i| lines[i].starts_with(b"e")).collect();
     let (one, two, v) = (digits(random, n, m), digits(random, n, m), 1 + random.below(n));
-    let kind = random.below(7);
+    let kind = random.below(8);
     if let (0..3, Some(at)) = (kind, first) {
         let others = [format!("{one} {m}"), format!("{n} {one}"), format!("{one} {two}")];
         lines[at] = format!("p edge {}\n", others[kind]).into();
@@ -185,6 +191,7 @@ fn damage_number(random: &mut Random, lines: &mut [Vec<u8>], list: &Plain) {
             3 => format!("e {v} {v}\n"),
             4 => format!("e {} {}\n", b + 1, a + 1),
             5 => format!("e {one} {v}\n"),
+            6 => format!("e {one} {one}\n"),
             _ => format!("e {v} {one}\n"),
         };
         lines[edges[random.below(edges.len())]] = text.into();

@@ -250,6 +250,11 @@ fn number(text: &str) -> Option<usize> {
 
 /// The file's N and pairs, for a list of so many records; or the refusal number.
 pub fn read(bytes: &[u8], records: usize) -> Result<Plain, u32> {
+    read_by([5, 4], bytes, records)
+}
+
+/// The same, with 5 and 4 in this order: document 01 had 4 first.
+pub fn read_by(order: [u32; 2], bytes: &[u8], records: usize) -> Result<Plain, u32> {
     let mut rest = bytes;
     let mut line = |form: &str| -> Result<String, u32> {
         let end = rest.iter().position(|&c| c == b'\n').ok_or(1u32)?;
@@ -273,11 +278,9 @@ pub fn read(bytes: &[u8], records: usize) -> Result<Plain, u32> {
         let ends = line("pair=")?;
         let (a, b) = ends.split_once(',').ok_or(1u32)?;
         let (a, b) = (number(a).ok_or(1u32)?, number(b).ok_or(1u32)?);
-        if a == b {
-            return Err(5);
-        }
-        if a >= n || b >= n {
-            return Err(4);
+        let met = |number: &u32| if *number == 5 { a == b } else { a >= n || b >= n };
+        if let Some(number) = order.into_iter().find(met) {
+            return Err(number);
         }
         if !seen.insert((a.min(b), a.max(b))) {
             return Err(10);

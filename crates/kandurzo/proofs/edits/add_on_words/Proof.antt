@@ -11,7 +11,7 @@ use Rattle.kandurzo.proofs.Changes.{edit-refused, edit-taken, insert-sa
 use Rattle.kandurzo.proofs.edits.add_on_words.Statement.{statement}
 use Rattle.kandurzo.proofs.edits.add_on_words.Tie as tie
 
--- where 13, 4 and 5 do not hold; after the lookup; where 10 does not hold, nor 11; and before the pair is put in
+-- where 13, 5 and 4 do not hold; after the lookup; where 10 does not hold, nor 11; and before the pair is put in
 abbrev begin : tie.Else1 → tie.Start
 begin c = c .before .before .before
 

@@ -12,7 +12,7 @@ use Rattle.kandurzo.proofs.Changes.{edit-refused, edit-taken, find-asks
 use Rattle.kandurzo.proofs.edits.remove_on_words.Statement.{statement}
 use Rattle.kandurzo.proofs.edits.remove_on_words.Tie as tie
 
--- where 13, 4 and 5 do not hold; after the lookup; and where 14 does not hold
+-- where 13, 5 and 4 do not hold; after the lookup; and where 14 does not hold
 abbrev begin : tie.Else1 → tie.Start
 begin c = c .before .before .before
 
