@@ -262,6 +262,7 @@ static void pair_files(void) {
                                          {"modules=2\npairs=4097\n", 3},
                                          {"modules=2\npairs=1\npair=0,2\n", 4},
                                          {"modules=2\npairs=1\npair=1,1\n", 5},
+                                         {"modules=2\npairs=1\npair=2,2\n", 5},
                                          {"modules=2\npairs=2\npair=0,1\npair=1,0\n", 10}};
     write_file(0);
     reads(READ, 1, 6, wrong, sizeof wrong / sizeof *wrong);
@@ -278,6 +279,7 @@ static void dimacs_files(void) {
                                          {"p edge 2 0\ne 1 2\n", 17},
                                          {"p edge 2 1\ne 1 3\n", 4},
                                          {"p edge 2 1\ne 1 1\n", 5},
+                                         {"p edge 2 1\ne 0 0\n", 5},
                                          {"p edge 2 2\ne 1 2\ne 2 1\n", 10}};
     run(WRITE_DIMACS, 0);
     memcpy(file, text, count);

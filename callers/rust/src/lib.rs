@@ -185,7 +185,7 @@ impl List {
         Refusal::of(ffi::add_to(&mut self.head, &mut self.records, a, b))
     }
 
-    /// Removes the pair of a and b, in either order. Refuses by 5, 4, 14, as `add` does.
+    /// Removes the pair of a and b, in either order. Refuses by 5, 4, 14: a module with itself gives 5, as in `add`.
     pub fn remove(&mut self, a: u32, b: u32) -> Result<(), Refusal> {
         Refusal::of(ffi::remove_from(&mut self.head, &mut self.records, a, b))
     }

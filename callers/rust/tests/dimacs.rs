@@ -42,9 +42,10 @@ fn generated_files() {
         let (file, m) = file(&mut random);
         let length = if random.once_in(2) { random.length(m) } else { 4096 };
         let work = work(&mut random);
-        met.see(read(&mut random, &file, length, work));
+        let number = read(&mut random, &file, length, work);
+        met.see(number);
         let old = dimacs::read_by(dimacs::FOUR_FIRST, &file, length);
-        changed += u32::from(from_4_to_5(old, &dimacs::read(&file, length)));
+        changed += u32::from(number != 12 && from_4_to_5(old, &dimacs::read(&file, length)));
     }
     println!("{met}; from 4 to 5: {changed}");
     met.are_each(100, &[0, 2, 3, 4, 5, 10, 11, 12, 16, 17]);

@@ -66,6 +66,9 @@ tried =
     ∷ try "p edge 2 1\ne 0 1\n" 4
     ∷ try "p edge 2 1\ne 1 3\n" 4
     ∷ try "p edge 2 1\ne 9999 1\n" 4
+    ∷ try "p edge 5 1\ne 6 7\n" 4
+    ∷ try "p edge 5 1\ne 0 6\n" 4
+    ∷ try "p edge 5 2\ne 1 2\ne 0 2\n" 4
     ∷ try "p edge 5 2\ne 1 2\ne 2 1\n" 10
     ∷ []
 

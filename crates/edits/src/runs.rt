@@ -82,21 +82,12 @@ fn put_everywhere(two: Two, desk: &mut [u32]) {
     put_two(two, DUE, desk);
 }
 
-// Whom module 0 is paired with: module 1, itself, or no module of any list, by turns. 13 comes before 5 and 4.
-fn partner(way: u32) -> u32 {
-    match way % 3 {
-        0 => 1,
-        1 => 0,
-        _ => 600,
-    }
-}
-
-// A call that must be refused by 13, with heads and lists as before.
-fn refused(plan: Plan, adds: bool, head: Head, way: u32, desk: &mut [u32]) {
+// A call for modules 0 and b that must be refused by 13, with heads and lists as before.
+fn refused_pair(plan: Plan, adds: bool, head: Head, b: u32, desk: &mut [u32]) {
     let ask = Ask {
         adds,
         a: 0,
-        b: partner(way),
+        b,
         state: 0,
     };
     let run = Run {
@@ -109,14 +100,21 @@ fn refused(plan: Plan, adds: bool, head: Head, way: u32, desk: &mut [u32]) {
     steps::compare_all(plan, desk);
 }
 
+// Such calls: for a pair, a module twice, and a module of no list. 13 comes before 5 and 4.
+fn refused(plan: Plan, adds: bool, head: Head, desk: &mut [u32]) {
+    refused_pair(plan, adds, head, 1, desk);
+    refused_pair(plan, adds, head, 0, desk);
+    refused_pair(plan, adds, head, 600, desk);
+}
+
 // Every way in which head and list do not agree.
 fn disagree(plan: Plan, head: Head, two: Two, desk: &mut [u32]) {
     let mut way = 0;
     while way < 9 {
         put_everywhere(spoiled(way, head.n, two), desk);
         let bad = bad_head(way, head, plan.len);
-        refused(plan, true, bad, way, desk);
-        refused(plan, false, bad, way, desk);
+        refused(plan, true, bad, desk);
+        refused(plan, false, bad, desk);
         way += 1;
     }
     put_everywhere(two, desk);

@@ -25,7 +25,7 @@ use Rattle.pairfile.proofs.Names.{Kept, kept-none, kept-insert, kept-li
 use Rattle.pairfile.proofs.ReadsBack.{read-back}
 
 -- a line of two different modules
-line-two : (n : ℕ) (l : Pair) → names-two n l ≡ true → (l .a < n) × (l .b < n) × (l .a ≡ l .b → ⊥)
+pub line-two : (n : ℕ) (l : Pair) → names-two n l ≡ true → (l .a < n) × (l .b < n) × (l .a ≡ l .b → ⊥)
 unfolding names-two ends-in-range
 line-two n l e =
     let e′ = simp tests at e in

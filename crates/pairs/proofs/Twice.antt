@@ -1,6 +1,6 @@
 -- Which numbers change with 5 before 4 (document 02, item 2).
 --   twice-five            a module paired with itself gives 5
---   turned                two causes in either order
+--   either-order          two causes in either order
 --   both-met              which modules meet both
 --   only-twice-changes    whatever causes stand earlier and later
 -- Assumes nothing.
@@ -22,13 +22,13 @@ unfolding pair-causes self-paired cause refusal
 twice-five lowest n a b later e = rw (eq-eqb a b e)
 
 -- two causes in either order: the numbers differ where both are met
-turned : (unknown twice : Bool) (later : List Cause) →
+either-order : (unknown twice : Bool) (later : List Cause) →
     From-4-to-5 (twice && unknown) (refusal (cause 4 unknown ∷ cause 5 twice ∷ later)) (refusal (cause 5 twice ∷ cause 4 unknown ∷ later))
 unfolding cause refusal
-turned true true later = record { changed = λ e. (refl, refl); same = λ e. no (sym e) }
-turned true false later = record { changed = λ e. no e; same = λ e. refl }
-turned false true later = record { changed = λ e. no e; same = λ e. refl }
-turned false false later = record { changed = λ e. no e; same = λ e. refl }
+either-order true true later = record { changed = λ e. (refl, refl); same = λ e. no (sym e) }
+either-order true false later = record { changed = λ e. no e; same = λ e. refl }
+either-order false true later = record { changed = λ e. no e; same = λ e. refl }
+either-order false false later = record { changed = λ e. no e; same = λ e. refl }
 
 -- both are met by a module that is none of the n, paired with itself
 both-met : (lowest n a b : ℕ) → unknown-twice lowest n a b ≡ (self-paired a b && module-unknown lowest n a b)
@@ -38,7 +38,7 @@ both-met lowest n a b =
 
 pub only-twice-changes : Only-twice-changes
 unfolding Only-twice-changes all unmet refusal four-first pair-causes
-only-twice-changes lowest n a b [] later = rw (both-met lowest n a b) (turned (module-unknown lowest n a b) (self-paired a b) later)
+only-twice-changes lowest n a b [] later = rw (both-met lowest n a b) (either-order (module-unknown lowest n a b) (self-paired a b) later)
 only-twice-changes lowest n a b (c ∷ cs) later =
     by-test (c .met)
     (λ t. rw t (record { changed = λ e. no e; same = λ e. refl }))

@@ -1,4 +1,4 @@
-//! What the tests over lent buffers share: buffers of anything, what they hold after a call, and the numbers met.
+//! What the tests over lent buffers share: buffers of anything, what they hold after a call, the numbers met, and the old order of 5 and 4.
 use super::{Plain, Random};
 use kandurzo::Pair;
 
@@ -40,7 +40,8 @@ pub fn from_4_to_5(old: Result<Plain, u32>, new: &Result<Plain, u32>) -> bool {
             false
         }
         (old, new) => {
-            assert_eq!(old.unwrap().records(), new.as_ref().unwrap().records());
+            let (old, new) = (old.unwrap(), new.as_ref().unwrap());
+            assert_eq!((old.head(), old.records()), (new.head(), new.records()));
             false
         }
     }

@@ -1,4 +1,5 @@
-//! A plain second computation of document 01's definitions, as slow and as literal as it may be, and a generator of lists.
+//! A plain second computation of the definitions of document 01 and of document 02, item 2, as slow and as literal as it may be, and a generator of
+//! lists.
 #![allow(dead_code)]
 pub mod buffers;
 pub mod dimacs;
