@@ -1,7 +1,7 @@
--- A file of different pairs up to an `e` line with a module twice gives 5, whatever follows (document 02, item 2).
---   edge-twice       that line
---   edges-then       the lines before it
---   twice-refused    the whole file
+-- A file of different pairs up to an `e` line that is refused by 5 or 4 gets that number, whatever follows (document 02, item 2).
+--   edge-refused                that line
+--   edges-then, edges-refused   the lines before it, and with it
+--   file-refused                the whole file
 -- Assumes nothing.
 use mathlib.Core.Path.{_≡_, refl, _∙_}
 use mathlib.Core.Bool.{true}
@@ -14,7 +14,7 @@ use Rattle.theory.specs.Basics.{all}
 use Rattle.theory.specs.Lists.{Pair}
 use Rattle.theory.specs.Refusals.{cause, refusal}
 use Rattle.pairs.specs.Held.{insert-pair, smaller-first-pair}
-use Rattle.pairs.proofs.Twice.{twice-five}
+use Rattle.pairs.proofs.Twice.{Gives}
 use Rattle.lines.specs.Lines.{first, second, filled}
 use Rattle.lines.specs.Outcomes.{refused, _>>=_, _>>_, passed, judge, line-or, line-due}
 use Rattle.pairfile.specs.File.{numbered, pair-lines}
@@ -25,9 +25,10 @@ use Rattle.dimacs.specs.Edges.{problem-form, edge-form, edge-causes, edg
 use Rattle.dimacs.proofs.Forms.{edge-formed, line-written}
 use Rattle.dimacs.proofs.ReadsBack.{edge-plain, problem-plain, edge-back, problem-back}
 
-edge-twice : (n left a : ℕ) (held : List Pair) → a ≤ 9999 → edge-line n (suc left) held (filled edge-form (a ∷ a ∷ [])) ≡ refused 5
+edge-refused : (n left a b k : ℕ) (held : List Pair) → a ≤ 9999 → b ≤ 9999 → Gives 1 n a b k →
+    edge-line n (suc left) held (filled edge-form (a ∷ b ∷ [])) ≡ refused (suc k)
 unfolding edge-line edge-causes cause refusal line-due line-or first second judge passed _>>=_ _>>_
-edge-twice n left a held l = rw (line-written edge-formed a a l l, ne-eqb (suc left) 0 (λ e. omega arith), twice-five 1 n a a _ refl)
+edge-refused n left a b k held l m gives = rw (line-written edge-formed a b l m, ne-eqb (suc left) 0 (λ e. omega arith), gives _)
 
 -- the lines before it are taken
 edges-then : (n : ℕ) → n ≤ 512 → (ls held : List Pair) (m left : ℕ) (rest : List ℕ) → Fresh n ls held → m ≡ length ls + left →
@@ -46,22 +47,21 @@ edges-then n few (l ∷ ls) held m left rest f e =
       less,
     ) (edges-then n few ls (insert-pair (smaller-first-pair (l .a) (l .b)) held) (length ls + left) left rest (fresh-more n l ls held f) refl)
 
--- all `e` lines up to it
-edges-twice : (n : ℕ) → n ≤ 512 → (ls : List Pair) (m a : ℕ) (rest : List ℕ) → Fresh n ls [] → length ls < m → a ≤ 9999 →
-    read-edges n m [] (plain-lines (edge-lines ls ++ (filled edge-form (a ∷ a ∷ []) ++ rest))) ≡ refused 5
-unfolding read-edges _>>=_
-edges-twice n few ls m a rest f more l =
-    edges-then n few ls [] m (suc (m - length ls - 1)) (filled edge-form (a ∷ a ∷ []) ++ rest) f (omega arith)
-    ∙ rw (edge-plain a a l l rest, edge-twice n (m - length ls - 1) a (held-after ls []) l)
+module _ (n m a b k : ℕ) (ls : List Pair) (rest : List ℕ) (high : n ≤ 512) (two : all (names-two n) ls ≡ true) (once : Different ls)
+    (more : length ls < m) (la : a ≤ 9999) (lb : b ≤ 9999) (gives : Gives 1 n a b k) where
+  edges-refused : read-edges n m [] (plain-lines (edge-lines ls ++ (filled edge-form (a ∷ b ∷ []) ++ rest))) ≡ refused (suc k)
+  unfolding read-edges _>>=_
+  edges-refused =
+      edges-then n high ls [] m (suc (m - length ls - 1)) (filled edge-form (a ∷ b ∷ []) ++ rest) (fresh-all n ls two once) (omega arith)
+      ∙ rw (edge-plain a b la lb rest, edge-refused n (m - length ls - 1) a b k (held-after ls []) la lb gives)
 
--- the whole file
-pub twice-refused : (room n m a : ℕ) (before : List Pair) (rest : List ℕ) → 1 ≤ n → n ≤ 512 → m ≤ 4096 → m ≤ room →
-    all (names-two n) before ≡ true → Different before → length before < m → a ≤ 9999 →
-    read-dimacs room (filled problem-form (n ∷ m ∷ []) ++ (edge-lines before ++ (filled edge-form (a ∷ a ∷ []) ++ rest))) ≡ refused 5
-unfolding read-dimacs read-lines first second _>>=_
-twice-refused room n m a before rest low high short fits two once more l =
-    rw (
-      problem-plain n m (omega arith) (omega arith) (edge-lines before ++ (filled edge-form (a ∷ a ∷ []) ++ rest)),
-      problem-back room n m low high short fits,
-      edges-twice n high before m a rest (fresh-all n before two once) more l,
-    )
+  -- the whole file
+  pub file-refused : (room : ℕ) → 1 ≤ n → m ≤ 4096 → m ≤ room →
+      read-dimacs room (filled problem-form (n ∷ m ∷ []) ++ (edge-lines ls ++ (filled edge-form (a ∷ b ∷ []) ++ rest))) ≡ refused (suc k)
+  unfolding read-dimacs read-lines first second _>>=_
+  file-refused room low short fits =
+      rw (
+        problem-plain n m (omega arith) (omega arith) (edge-lines ls ++ (filled edge-form (a ∷ b ∷ []) ++ rest)),
+        problem-back room n m low high short fits,
+        edges-refused,
+      )

@@ -5,7 +5,7 @@
 --   held-once, either-way-round, add-exactly, remove-exactly, add-holds, remove-drops, thirteen-never-follows    one pair more, one pair less
 --   arrival-traceless, any-order-taken, every-list-added, same-pairs-same-records, add-undone    the order of arrival
 --   every-file-read, read-exact    read
---   twice-is-five, otherwise-as-before    5 before 4
+--   five-before-four, otherwise-as-before    5 before 4
 --   every-list-written, written-read, read-rewritten, comments-unread, read-dimacs-exact, every-dimacs-read    read_dimacs and write_dimacs
 -- Assumes nothing.
 use Rattle.kandurzo.specs.Promise.{Lent-held, Every-list-peeled, Every-list-solved, Every-list-judged, Every-list-compared, Refusals-keep, Unsplit-never}
@@ -13,7 +13,7 @@ use Rattle.kandurzo.specs.Promise.{Fifteen-never, Peel-exact, Check-exac
 use Rattle.kandurzo.specs.Keeping.{Held-once, Either-way-round, Add-exactly, Remove-exactly, Add-holds, Remove-drops, Thirteen-never-follows}
 use Rattle.kandurzo.specs.Keeping.{Arrival-traceless, Any-order-taken, Every-list-added, Same-pairs-same-records, Add-undone}
 use Rattle.kandurzo.specs.Keeping.{Every-file-read, Read-exact}
-use Rattle.kandurzo.specs.Twice.{Twice-is-five, Otherwise-as-before}
+use Rattle.kandurzo.specs.Twice.{Five-before-four, Otherwise-as-before}
 use Rattle.kandurzo.specs.Exchange.{Every-list-written, Written-read, Read-rewritten, Comments-unread, Read-dimacs-exact, Every-dimacs-read}
 use Rattle.kandurzo.proofs.Readings.{reads-file, reads-dimacs}
 use Rattle.kandurzo.proofs.Exchanges as exchange
@@ -127,8 +127,8 @@ read-exact = reading.read-exact
 
 -- ---- 5 before 4
 
-pub twice-is-five : Twice-is-five
-twice-is-five = twice.twice-is-five
+pub five-before-four : Five-before-four
+five-before-four = twice.five-before-four
 
 pub otherwise-as-before : Otherwise-as-before
 otherwise-as-before = twice.otherwise-as-before

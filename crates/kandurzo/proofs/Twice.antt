@@ -1,8 +1,8 @@
 -- What 5 before 4 says of the calls (document 02, item 2).
---   past-13, number-five, twice-is-five    a module paired with itself gives 5
---   one-earlier, behind-13    where one cause stands before 5 and 4
---   judged                    the number of a line is that of its causes
---   otherwise-as-before       the orders of the calls beside the old ones: `only-twice-changes` between their other causes
+--   past-13, file-number, five-before-four    5 for a module paired with itself, else 4 where a module is unknown
+--   one-earlier, behind-13                    where one cause stands before 5 and 4
+--   judged-by, judged                         the number of a line is that of its causes
+--   otherwise-as-before                       the old orders: `only-twice-changes` between their other causes
 -- Assumes nothing.
 use mathlib.Core.Path.{_≡_, refl, ap, _∙_}
 use mathlib.Core.Bool.{Bool, true, false, _&&_, not}
@@ -15,12 +15,13 @@ use Rattle.theory.specs.Lists.{Pairs}
 use Rattle.theory.specs.Refusals.{Cause, cause, refusal, unmet}
 use Rattle.theory.proofs.Refusals.{refusal-passed}
 use Rattle.pairs.specs.Causes.{pair-causes, add-causes, remove-causes}
-use Rattle.pairs.specs.Twice.{four-first, unknown-twice, From-4-to-5, Only-twice-changes}
-use Rattle.pairs.proofs.Twice.{twice-five, only-twice-changes}
+use Rattle.pairs.specs.Twice.{Five-else-four, four-first, unknown-twice, From-4-to-5, Only-twice-changes}
+use Rattle.pairs.proofs.Twice.{Gives, five-else-four, only-twice-changes}
 use Rattle.lines.specs.Lines.{first, second}
 use Rattle.lines.specs.Outcomes.{Outcome, refused, taken, _>>=_, _>>_, passed, judge, line-or, line-due}
 use Rattle.pairfile.specs.File.{pair-line-causes, pair-line}
 use Rattle.pairfile.specs.Answers.{reading-of}
+use Rattle.pairfile.specs.Tried.{number-given}
 use Rattle.pairfile.proofs.Twice as File
 use Rattle.dimacs.specs.Edges.{edge-causes, edge-line}
 use Rattle.dimacs.proofs.Twice as Dimacs
@@ -29,32 +30,43 @@ use Rattle.records.specs.Records.{held-list, agrees}
 use Rattle.kandurzo.specs.declared.Changed.{Changed}
 use Rattle.kandurzo.specs.Listing.{add-number, remove-number}
 use Rattle.kandurzo.specs.Reading.{Reader, Read-call}
-use Rattle.kandurzo.specs.Twice.{Twice-is-five, line-number, Otherwise-as-before}
+use Rattle.kandurzo.specs.Twice.{Five-before-four, Otherwise-as-before}
 use Rattle.kandurzo.proofs.Readings.{outcome-long}
 
--- ---- a module paired with itself
+-- ---- 5, else 4
 
 -- where head and list agree
-past-13 : (agreed : Bool) (n a : ℕ) (later : List Cause) → agreed ≡ true → refusal (cause 13 (not agreed) ∷ (pair-causes 0 n a a ++ later)) ≡ 5
-past-13 agreed n a later e = refusal-passed 13 (not agreed) (pair-causes 0 n a a ++ later) (rw e) ∙ twice-five 0 n a a later refl
+past-13 : (agreed : Bool) (n a b : ℕ) (later : List Cause) → agreed ≡ true →
+    Five-else-four 0 n a b (refusal (cause 13 (not agreed) ∷ (pair-causes 0 n a b ++ later)))
+past-13 agreed n a b later e = rw (refusal-passed 13 (not agreed) (pair-causes 0 n a b ++ later) (rw e)) (five-else-four 0 n a b later)
 
--- a file that is refused by 5, where the work buffer is long enough
-number-five : {read : Reader} {bytes : List ℕ} {ps : List Pair} {work : List ℕ} {r : Changed} {ps′ : List Pair} {work′ : List ℕ} →
-    Read-call read bytes ps work r ps′ work′ → 16384 ≤ length work → read (length ps) bytes ≡ refused 5 → r .number ≡ 5
+-- in a file that gets the number that two modules give
+file-number : {read : Reader} {bytes : List ℕ} {ps : List Pair} {work : List ℕ} {r : Changed} {ps′ : List Pair} {work′ : List ℕ} (lowest n a b : ℕ) →
+    Read-call read bytes ps work r ps′ work′ → 16384 ≤ length work →
+    ((k : ℕ) → Gives lowest n a b k → read (length ps) bytes ≡ refused (suc k)) → Five-else-four lowest n a b (r .number)
 unfolding reading-of
-number-five {read = read} {bytes = bytes} {ps = ps} {work = work} call long due =
-    call .number ∙ ap (λ (o : Outcome Pairs). reading-of o .number) (outcome-long read (length ps) (length work) bytes long ∙ due)
-
-pub twice-is-five : Twice-is-five
-unfolding add-number remove-number add-causes remove-causes held-list
-twice-is-five =
+file-number {read = read} {bytes = bytes} {ps = ps} {work = work} {r = r} lowest n a b call long file =
+    let is : (k : ℕ) → Gives lowest n a b k → r .number ≡ suc k =
+    λ k g. call .number ∙ ap (λ (o : Outcome Pairs). reading-of o .number) (outcome-long read (length ps) (length work) bytes long ∙ file k g) in
     record {
-      add = λ h ps a r ps′ says agreed. says .number ∙ past-13 (agrees h ps) (h .n) a _ agreed;
-      remove = λ h ps a r ps′ says agreed. says .number ∙ past-13 (agrees h ps) (h .n) a _ agreed;
-      read = λ n m a before rest ps work r ps′ work′ low high short fits long two once more small call.
-          number-five call long (File.twice-refused (length ps) n m a before rest low high short fits two once more small);
-      read-dimacs = λ n m a before rest ps work r ps′ work′ low high short fits long two once more small call.
-          number-five call long (Dimacs.twice-refused (length ps) n m a before rest low high short fits two once more small);
+      twice = λ e. is 4 (λ later. five-else-four lowest n a b later .twice e);
+      unknown = λ d u. is 3 (λ later. five-else-four lowest n a b later .unknown d u);
+    }
+
+pub five-before-four : Five-before-four
+unfolding add-number remove-number add-causes remove-causes held-list
+five-before-four =
+    record {
+      add = λ h ps a b r ps′ says agreed. rw (says .number) (past-13 (agrees h ps) (h .n) a b _ agreed);
+      remove = λ h ps a b r ps′ says agreed. rw (says .number) (past-13 (agrees h ps) (h .n) a b _ agreed);
+      read = λ n m a b lines rest ps work r ps′ work′ u la lb call.
+          file-number 0 n a b call (u .long)
+          (λ k gives. File.file-refused n m a b k lines rest (u .few-modules) (u .two) (u .once) (u .more) la lb gives
+          (length ps) (u .some-modules) (u .few-pairs) (u .room));
+      read-dimacs = λ n m a b lines rest ps work r ps′ work′ u la lb call.
+          file-number 1 n a b call (u .long)
+          (λ k gives. Dimacs.file-refused n m a b k lines rest (u .few-modules) (u .two) (u .once) (u .more) la lb gives
+          (length ps) (u .some-modules) (u .few-pairs) (u .room));
     }
 
 -- ---- the old orders
@@ -77,12 +89,12 @@ behind-13 true n a b later = one-earlier 13 false 0 n a b later
 behind-13 false n a b later = one-earlier 13 true 0 n a b later
 
 -- the number of a line that is judged by causes
-judged-by : {A : Type 0} (x : A) (k : ℕ) → line-number (_>>_ (passed k) (taken x)) ≡ k
-unfolding passed line-number _>>_
+judged-by : {A : Type 0} (x : A) (k : ℕ) → number-given (_>>_ (passed k) (taken x)) ≡ k
+unfolding passed number-given _>>_
 judged-by x zero = refl
 judged-by x (suc k) = refl
 
-judged : {A : Type 0} (x : A) (cs : List Cause) → line-number (_>>_ (judge cs) (taken x)) ≡ refusal cs
+judged : {A : Type 0} (x : A) (cs : List Cause) → number-given (_>>_ (judge cs) (taken x)) ≡ refusal cs
 unfolding judge
 judged x cs = judged-by x (refusal cs)
 

@@ -1,7 +1,7 @@
--- A file of different pairs up to a line with a module twice gives 5, whatever follows (document 02, item 2).
---   line-twice       that line
---   lines-then       the lines before it
---   twice-refused    the whole file
+-- A file of different pairs up to a line that is refused by 5 or 4 gets that number, whatever follows (document 02, item 2).
+--   line-refused                that line
+--   lines-then, lines-refused   the lines before it, and with it
+--   file-refused                the whole file
 -- Assumes nothing.
 use mathlib.Core.Path.{_≡_, refl, _∙_}
 use mathlib.Core.Bool.{true}
@@ -12,7 +12,7 @@ use lib.ListN.{length}
 use Rattle.theory.specs.Basics.{all}
 use Rattle.theory.specs.Lists.{Pair}
 use Rattle.pairs.specs.Held.{insert-pair, smaller-first-pair}
-use Rattle.pairs.proofs.Twice.{twice-five}
+use Rattle.pairs.proofs.Twice.{Gives}
 use Rattle.lines.specs.Lines.{first, second, filled}
 use Rattle.lines.specs.Outcomes.{refused, _>>=_, _>>_, passed, judge, line-or, line-due}
 use Rattle.pairfile.specs.File.{modules-form, pairs-form, pair-form, pair-line-causes, pair-line, read-pairs, read-file, pair-lines}
@@ -21,9 +21,10 @@ use Rattle.pairfile.proofs.Naming.{ends-fit}
 use Rattle.pairfile.proofs.ReadsBack.{pair-form-line, line-back, first-back, second-back}
 use Rattle.pairfile.proofs.Fresh.{Fresh, fresh-all, fresh-ends, fresh-new, fresh-more, held-after}
 
-line-twice : (n a : ℕ) (held : List Pair) (rest : List ℕ) → a ≤ 9999 → pair-line n held (filled pair-form (a ∷ a ∷ []) ++ rest) ≡ refused 5
+line-refused : (n a b k : ℕ) (held : List Pair) (rest : List ℕ) → a ≤ 9999 → b ≤ 9999 → Gives 0 n a b k →
+    pair-line n held (filled pair-form (a ∷ b ∷ []) ++ rest) ≡ refused (suc k)
 unfolding pair-line pair-line-causes line-due line-or first second judge passed _>>=_ _>>_
-line-twice n a held rest l = rw (pair-form-line a a rest l l, twice-five 0 n a a _ refl)
+line-refused n a b k held rest l m gives = rw (pair-form-line a b rest l m, gives _)
 
 -- the lines before it are taken
 lines-then : (n : ℕ) → n ≤ 512 → (ls held : List Pair) (m left : ℕ) (rest : List ℕ) → Fresh n ls held → m ≡ length ls + left →
@@ -40,23 +41,20 @@ lines-then n few (l ∷ ls) held m left rest f e =
       line-back n (l .a) (l .b) held (pair-lines pair-form ls ++ rest) (omega (arith, ends)) (omega (arith, ends)) fit (fresh-new n l ls held f),
     ) (lines-then n few ls (insert-pair (smaller-first-pair (l .a) (l .b)) held) (length ls + left) left rest (fresh-more n l ls held f) refl)
 
--- all pair lines up to it
-lines-twice : (n : ℕ) → n ≤ 512 → (ls : List Pair) (m a : ℕ) (rest : List ℕ) → Fresh n ls [] → length ls < m → a ≤ 9999 →
-    read-pairs n m [] (pair-lines pair-form ls ++ (filled pair-form (a ∷ a ∷ []) ++ rest)) ≡ refused 5
-unfolding read-pairs _>>=_
-lines-twice n few ls m a rest f more l =
-    lines-then n few ls [] m (suc (m - length ls - 1)) (filled pair-form (a ∷ a ∷ []) ++ rest) f (omega arith) ∙ rw (line-twice n a (held-after ls []) rest l)
+module _ (n m a b k : ℕ) (ls : List Pair) (rest : List ℕ) (high : n ≤ 512) (two : all (names-two n) ls ≡ true) (once : Different ls)
+    (more : length ls < m) (la : a ≤ 9999) (lb : b ≤ 9999) (gives : Gives 0 n a b k) where
+  lines-refused : read-pairs n m [] (pair-lines pair-form ls ++ (filled pair-form (a ∷ b ∷ []) ++ rest)) ≡ refused (suc k)
+  unfolding read-pairs _>>=_
+  lines-refused =
+      lines-then n high ls [] m (suc (m - length ls - 1)) (filled pair-form (a ∷ b ∷ []) ++ rest) (fresh-all n ls two once) (omega arith)
+      ∙ rw (line-refused n a b k (held-after ls []) rest la lb gives)
 
--- the whole file
-pub twice-refused : (room n m a : ℕ) (before : List Pair) (rest : List ℕ) → 1 ≤ n → n ≤ 512 → m ≤ 4096 → m ≤ room →
-    all (names-two n) before ≡ true → Different before → length before < m → a ≤ 9999 →
-    read-file room
-    (filled modules-form (n ∷ []) ++ (filled pairs-form (m ∷ []) ++ (pair-lines pair-form before ++ (filled pair-form (a ∷ a ∷ []) ++ rest)))) ≡ refused 5
-unfolding read-file first _>>=_
-twice-refused room n m a before rest low high short fits two once more l =
-    let after = pair-lines pair-form before ++ (filled pair-form (a ∷ a ∷ []) ++ rest) in
-    rw (
-      first-back n (filled pairs-form (m ∷ []) ++ after) low high,
-      second-back room m after short fits,
-      lines-twice n high before m a rest (fresh-all n before two once) more l,
-    )
+  -- the whole file
+  pub file-refused : (room : ℕ) → 1 ≤ n → m ≤ 4096 → m ≤ room →
+      read-file room
+      (filled modules-form (n ∷ []) ++ (filled pairs-form (m ∷ []) ++ (pair-lines pair-form ls ++ (filled pair-form (a ∷ b ∷ []) ++ rest))))
+      ≡ refused (suc k)
+  unfolding read-file first _>>=_
+  file-refused room low short fits =
+      let after = pair-lines pair-form ls ++ (filled pair-form (a ∷ b ∷ []) ++ rest) in
+      rw (first-back n (filled pairs-form (m ∷ []) ++ after) low high, second-back room m after short fits, lines-refused)

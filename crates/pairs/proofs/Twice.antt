@@ -1,5 +1,6 @@
 -- Which numbers change with 5 before 4 (document 02, item 2).
---   twice-five            a module paired with itself gives 5
+--   Gives                 two modules are refused by a number, whatever causes stand later
+--   five-else-four        a module paired with itself gives 5, else an unknown one 4
 --   either-order          two causes in either order
 --   both-met              which modules meet both
 --   only-twice-changes    whatever causes stand earlier and later
@@ -7,19 +8,23 @@
 use mathlib.Core.Path.{_≡_, refl, sym}
 use mathlib.Core.Bool.{Bool, true, false, _&&_}
 use mathlib.Core.List.{List, [], _∷_, _++_}
-use Prim.Native.Nat.{ℕ}
+use Prim.Native.Nat.{ℕ, suc}
 use lib.Dec.{eqb}
-use borrow.Author.Tests.{eqb-true, eq-eqb}
+use borrow.Author.Tests.{eqb-true, eq-eqb, ne-eqb}
 use Rattle.theory.specs.Basics.{all}
 use Rattle.theory.specs.Refusals.{Cause, cause, refusal, unmet}
 use Rattle.theory.proofs.Tests.{no, by-test}
 use Rattle.pairs.specs.Causes.{is-module, module-unknown, self-paired, pair-causes}
-use Rattle.pairs.specs.Twice.{four-first, unknown-twice, From-4-to-5, Only-twice-changes}
+use Rattle.pairs.specs.Twice.{Five-else-four, four-first, unknown-twice, From-4-to-5, Only-twice-changes}
 
--- a module paired with itself gives 5, whatever stands later
-pub twice-five : (lowest n a b : ℕ) (later : List Cause) → a ≡ b → refusal (pair-causes lowest n a b ++ later) ≡ 5
+-- two modules are refused by the number k + 1, whatever causes stand later
+abbrev pub Gives : (lowest n a b k : ℕ) → Type 0
+Gives lowest n a b k = (later : List Cause) → refusal (pair-causes lowest n a b ++ later) ≡ suc k
+
+-- a module paired with itself gives 5, else an unknown one 4, whatever stands later
+pub five-else-four : (lowest n a b : ℕ) (later : List Cause) → Five-else-four lowest n a b (refusal (pair-causes lowest n a b ++ later))
 unfolding pair-causes self-paired cause refusal
-twice-five lowest n a b later e = rw (eq-eqb a b e)
+five-else-four lowest n a b later = record { twice = λ e. rw (eq-eqb a b e); unknown = λ d u. rw (ne-eqb a b d, u) }
 
 -- two causes in either order: the numbers differ where both are met
 either-order : (unknown twice : Bool) (later : List Cause) →

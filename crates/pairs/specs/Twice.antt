@@ -1,5 +1,6 @@
 -- Document 02, item 2: a line with a module twice is a typing fault, so 5 comes before 4 in add, remove and both readers. Only the answers for a module of
 -- number N or more paired with itself change, from 4 to 5. A DIMACS `e 0 0` becomes 5 too.
+--   Five-else-four        5 for a module paired with itself, else 4 where a module is unknown
 --   four-first            the old order of the two: 4 before 5
 --   unknown-twice         a module of number N or more, in a DIMACS file 0 or above N, paired with itself
 --   From-4-to-5           the numbers that an old order and a new one give
@@ -14,7 +15,12 @@ use Rattle.theory.specs.Basics.{all}
 use Rattle.theory.specs.Refusals.{Cause, cause, refusal, unmet}
 use Rattle.pairs.specs.Causes.{is-module, module-unknown, self-paired, pair-causes}
 
--- document 01's order of the two, where pair-causes stands now
+-- 5 for a module paired with itself, be it one of the n or not; 4 for two different modules, at least one of which is none of the n
+pub record Five-else-four (lowest n a b number : ℕ) : Type 0 where
+  pub twice : a ≡ b → number ≡ 5
+  pub unknown : (a ≡ b → ⊥) → module-unknown lowest n a b ≡ true → number ≡ 4
+
+-- document 01's order of the two; pair-causes has the new one
 unfoldable pub four-first : (lowest n a b : ℕ) → List Cause
 four-first lowest n a b = cause 4 (module-unknown lowest n a b) ∷ cause 5 (self-paired a b) ∷ []
 
