@@ -5,7 +5,7 @@
 --   unknown-twice         a module of number N or more, in a DIMACS file 0 or above N, paired with itself
 --   From-4-to-5           the numbers that an old order and a new one give
 --   Only-twice-changes    which numbers change, whatever other causes an order has
--- The theorem is only-twice-changes (proofs/Twice.antt); what it says of each call is in crate kandurzo (specs/Twice.antt).
+-- The theorem is only-twice-changes (proofs/Twice.antt); of add, remove and a line of either file: crate kandurzo (specs/Twice.antt).
 -- Assumes nothing: these are definitions.
 use mathlib.Core.Path.{_≡_}
 use mathlib.Core.Bool.{Bool, true, false, _&&_, not}
