@@ -5,8 +5,10 @@ ghost use Prim.Native.Nat.{_<_, _≤_};
 ghost use lib.ListN.{length};
 ghost use Rattle.records.specs.Records.{Fits-records};
 use kandurzo::Changed;
+use kandurzo::Placed;
 use kandurzo::add;
 use kandurzo::add_to;
+use kandurzo::place;
 use kandurzo::remove;
 use kandurzo::remove_from;
 use records::Head;
@@ -73,6 +75,26 @@ pub(crate) fn remove_100(words: &mut [u32], head: Head, a: u32, b: u32) -> Chang
     let k = held(words, 100);
     copy_in(&mut list, words, k);
     let answer = remove(head, &mut list, a, b);
+    copy_out(&list, words, k);
+    answer
+}
+
+// place on 4,096 records.
+pub(crate) fn place_4096(words: &mut [u32], head: Head, a: u32, b: u32) -> Placed {
+    let mut list = [Pair { a: 0, b: 0 }; 4096];
+    let k = held(words, 4096);
+    copy_in(&mut list, words, k);
+    let answer = place(head, &list, a, b);
+    copy_out(&list, words, k);
+    answer
+}
+
+// place on 100 records.
+pub(crate) fn place_100(words: &mut [u32], head: Head, a: u32, b: u32) -> Placed {
+    let mut list = [Pair { a: 0, b: 0 }; 100];
+    let k = held(words, 100);
+    copy_in(&mut list, words, k);
+    let answer = place(head, &list, a, b);
     copy_out(&list, words, k);
     answer
 }

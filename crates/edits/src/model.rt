@@ -17,6 +17,11 @@ fn held(desk: &[u32], a: u32, b: u32) -> bool {
     desk::word_at(desk, entry(a, b)) == 1
 }
 
+// 1 where the pair is in the list, else 0.
+pub(crate) fn held_mark(desk: &[u32], a: u32, b: u32) -> u32 {
+    if held(desk, a, b) { 1 } else { 0 }
+}
+
 // Puts a pair in (1) or takes it out (0).
 pub(crate) fn put_pair(desk: &mut [u32], a: u32, b: u32, x: u32) {
     desk::put_word(desk, entry(a, b), x);
@@ -24,7 +29,7 @@ pub(crate) fn put_pair(desk: &mut [u32], a: u32, b: u32, x: u32) {
 }
 
 // 5: a module with itself. 4: a module number of N or more.
-fn pair_number(n: u32, a: u32, b: u32) -> u32 {
+pub(crate) fn pair_number(n: u32, a: u32, b: u32) -> u32 {
     if a == b {
         return 5;
     }

@@ -1,10 +1,11 @@
 // add and remove in runs of steps. At the end of each run, heads and records that do not agree must be refused by 13 and left as they are. Prints a line
-// a kind of run: steps, those made by add_to or remove_from too, lists compared, answers of each number, and how many differ. Then runs with an
-// altered answer, in which every step or list must differ.
+// a kind of run: steps, those made by add_to or remove_from too, lists compared, calls of place and those that say held, answers of each number, and how
+// many differ. Then runs with an altered answer, in which every step, list or call of place must differ.
 use crate::desk;
 use crate::desk::DUE;
 use crate::desk::OWN;
 use crate::desk::TALLY;
+use crate::places;
 use crate::print;
 use crate::steps;
 use crate::steps::Ask;
@@ -96,6 +97,7 @@ fn refused_pair(plan: Plan, adds: bool, head: Head, b: u32, desk: &mut [u32]) {
         count: head.m,
         state: 0,
     };
+    places::asked(plan, ask, 13, head, desk);
     steps::made(plan, ask, run, 13, head, desk);
     steps::compare_all(plan, desk);
 }
@@ -188,6 +190,8 @@ fn line(name: &[u8], tally: &[u32]) {
     print::field(b": steps=", desk::word_at(tally, 1));
     print::field(b" own=", desk::word_at(tally, 6));
     print::field(b" lists=", desk::word_at(tally, 2));
+    print::field(b" places=", desk::word_at(tally, 7));
+    print::field(b" held=", desk::word_at(tally, 8));
     print::field(b" done=", desk::word_at(tally, 0));
     print::field(b" 4=", desk::word_at(tally, 4));
     print::field(b" 5=", desk::word_at(tally, 5));
@@ -280,4 +284,7 @@ pub(crate) fn run_all() {
     altered_run(b"edits, count altered", 2);
     altered_run(b"edits, records altered", 3);
     altered_run(b"edits, number of add_to altered", 4);
+    altered_run(b"edits, number of place altered", 5);
+    altered_run(b"edits, held altered", 6);
+    altered_run(b"edits, place altered", 7);
 }

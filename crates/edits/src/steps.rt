@@ -7,11 +7,13 @@ use crate::desk::OWN;
 use crate::desk::TALLY;
 use crate::lent;
 use crate::model;
+use crate::places;
 use kandurzo::Changed;
 use records::Head;
 
 // How a run goes: modules, records of the list, steps of adds alone, steps of both, every how many steps the records are compared, and what is altered
-// before it is compared (1 the number, 2 the count of pairs, 3 the records, 4 the number of add_to and remove_from; 0 nothing).
+// before it is compared (1 the number, 2 the count of pairs, 3 the records, 4 the number of add_to and remove_from; of place 5 the number, 6 whether held,
+// 7 the place; 0 nothing).
 pub(crate) struct Plan {
     pub(crate) n: u32,
     pub(crate) len: u32,
@@ -101,19 +103,20 @@ fn modelled(number: u32, ask: Ask, count: u32, desk: &mut [u32]) -> u32 {
     less
 }
 
-// The tally's entries: 1 steps, 2 lists compared, 3 what differs, 6 steps by add_to and remove_from too, and each number's answers under the number.
-fn count_in(desk: &mut [u32], entry: u32) {
+// The tally's entries: 1 steps, 2 lists compared, 3 what differs, 6 steps by add_to and remove_from too, 7 calls of place, 8 those that say held, and each
+// number's answers under the number.
+pub(crate) fn count_in(desk: &mut [u32], entry: u32) {
     desk::bump(desk, desk::plus(TALLY, desk::wide(entry)));
 }
 
-fn note(same: bool, desk: &mut [u32]) {
+pub(crate) fn note(same: bool, desk: &mut [u32]) {
     if !same {
         count_in(desk, 3);
     }
 }
 
 // x, and one more where that is what is altered.
-fn altered(plan: Plan, what: u32, x: u32) -> u32 {
+pub(crate) fn altered(plan: Plan, what: u32, x: u32) -> u32 {
     if plan.altered == what {
         std::num::wrapping_add_u32(x, 1)
     } else {
@@ -228,6 +231,7 @@ fn step(plan: Plan, i: u32, mixed: bool, run: Run, desk: &mut [u32]) -> Run {
     let state = desk::next(run.state);
     let adds = !mixed || state % 4 < 2;
     let ask = drawn(plan.n, adds, run.count, state, desk);
+    places::before_step(plan, ask, run.head, desk);
     let number = due(plan, ask, run.count, desk);
     let m = modelled(number, ask, run.count, desk);
     let after = made(plan, ask, run, number, Head { n: plan.n, m }, desk);

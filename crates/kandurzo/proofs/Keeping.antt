@@ -40,9 +40,11 @@ use Rattle.records.specs.declared.Pair.{Pair}
 use Rattle.records.specs.declared.Head.{Head}
 use Rattle.records.specs.Records.{as-pair, as-pairs, held-list, agrees, blank}
 use Rattle.kandurzo.specs.declared.Changed.{Changed}
+use Rattle.kandurzo.specs.declared.Placed.{Placed}
 use Rattle.kandurzo.specs.Listing.{head-of, changed-to, started, as-records, add-number, added, Add-says, remove-number, removed, Remove-says}
 use Rattle.kandurzo.specs.Keeping.{pair-at, Held-once, Either-way-round, Add-exactly, Remove-exactly, Pair-added, Add-holds, Pair-removed, Remove-drops}
 use Rattle.kandurzo.specs.Keeping.{Same-pairs-same-records, Add-undone}
+use Rattle.kandurzo.specs.Placing.{place-number, Place-says}
 use Rattle.kandurzo.proofs.Taken.{length-as-records, held-few, held-is-list, length-held, held-ones, held-records, agrees-front}
 use Rattle.kandurzo.proofs.Taken.{taken-addable, addable-taken, held-removable, taken-removable, removable-taken}
 use Rattle.kandurzo.proofs.Taken.{added-length, held-added, added-agrees, removed-one, held-removed, removed-agrees}
@@ -146,9 +148,19 @@ module _ (h : Head) (ps : List Pair) (a b : ℕ) (r : Changed) (ps′ : List Pai
       unfold remove-number remove-causes in (rw (causes-round a b 0 (held-list h ps .n), pair-round a b)) in
       record { number = says .number ∙ k; head = rw k at (says .head); list = rw (k, pair-round a b) at (says .list) }
 
--- 2,5 is the same pair as 5,2: add and remove answer and leave the same, whichever module is named first
+-- and place
+place-round : (h : Head) (ps : List Pair) (a b : ℕ) (r : Placed) → Place-says h ps a b r → Place-says h ps b a r
+unfolding place-number
+place-round h ps a b r says = record {
+  number = says .number ∙ rw (causes-round a b 0 (h .n));
+  held = rw (pair-round a b) at (says .held);
+  at = rw (pair-round a b) at (says .at);
+  stands = rw (pair-round a b) at (says .stands);
+}
+
+-- 2,5 is the same pair as 5,2: they answer and leave the same, whichever module is named first
 pub either-way-round : Either-way-round
-either-way-round = record { add = add-round; remove = remove-round }
+either-way-round = record { add = add-round; remove = remove-round; place = place-round }
 
 -- ---- which calls are taken
 

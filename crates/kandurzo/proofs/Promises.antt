@@ -1,4 +1,4 @@
--- One theorem for each statement of specs/Promise.antt, specs/Keeping.antt, specs/Twice.antt and specs/Exchange.antt, in their order.
+-- One theorem for each statement of specs/Promise.antt, specs/Keeping.antt, specs/Twice.antt, specs/Placing.antt and specs/Exchange.antt, in their order.
 --   lent-held, every-list-peeled, every-list-solved, every-list-judged, every-list-compared    every list
 --   refusals-keep, unsplit-never, fifteen-never    refusals
 --   peel-exact, check-exact, solve-alone, solve-accepted, records-in-order    answers
@@ -6,6 +6,7 @@
 --   arrival-traceless, any-order-taken, every-list-added, same-pairs-same-records, add-undone    the order of arrival
 --   every-file-read, read-exact    read
 --   five-before-four, otherwise-as-before    5 before 4
+--   add-puts-there, remove-takes-there, refused-as-remove, every-pair-placed    where a pair stands
 --   every-list-written, written-read, read-rewritten, comments-unread, read-dimacs-exact, every-dimacs-read    read_dimacs and write_dimacs
 -- Assumes nothing.
 use Rattle.kandurzo.specs.Promise.{Lent-held, Every-list-peeled, Every-list-solved, Every-list-judged, Every-list-compared, Refusals-keep, Unsplit-never}
@@ -14,6 +15,7 @@ use Rattle.kandurzo.specs.Keeping.{Held-once, Either-way-round, Add-exac
 use Rattle.kandurzo.specs.Keeping.{Arrival-traceless, Any-order-taken, Every-list-added, Same-pairs-same-records, Add-undone}
 use Rattle.kandurzo.specs.Keeping.{Every-file-read, Read-exact}
 use Rattle.kandurzo.specs.Twice.{Five-before-four, Otherwise-as-before}
+use Rattle.kandurzo.specs.Placing.{Add-puts-there, Remove-takes-there, Refused-as-remove, Every-pair-placed}
 use Rattle.kandurzo.specs.Exchange.{Every-list-written, Written-read, Read-rewritten, Comments-unread, Read-dimacs-exact, Every-dimacs-read}
 use Rattle.kandurzo.proofs.Readings.{reads-file, reads-dimacs}
 use Rattle.kandurzo.proofs.Exchanges as exchange
@@ -24,6 +26,7 @@ use Rattle.kandurzo.proofs.Keeping as keeping
 use Rattle.kandurzo.proofs.Arrivals as arrivals
 use Rattle.kandurzo.proofs.ReadKeeps as reading
 use Rattle.kandurzo.proofs.Twice as twice
+use Rattle.kandurzo.proofs.Placing as placing
 
 -- ---- every list
 
@@ -132,6 +135,20 @@ five-before-four = twice.five-before-four
 
 pub otherwise-as-before : Otherwise-as-before
 otherwise-as-before = twice.otherwise-as-before
+
+-- ---- where a pair stands
+
+pub add-puts-there : Add-puts-there
+add-puts-there = placing.add-puts-there
+
+pub remove-takes-there : Remove-takes-there
+remove-takes-there = placing.remove-takes-there
+
+pub refused-as-remove : Refused-as-remove
+refused-as-remove = placing.refused-as-remove
+
+pub every-pair-placed : Every-pair-placed
+every-pair-placed = placing.every-pair-placed
 
 -- ---- read_dimacs and write_dimacs
 

@@ -4,6 +4,7 @@
 --   held-ones, held-records             each held pair counts once, and the held records are those of the held pairs
 --   held-kept                           they are as the laws of pair files ask it
 --   held-front, agrees-front            records of pairs in front of others
+--   ends-first                          two different modules pass the causes that come first
 --   taken-addable, addable-taken        an add is taken where its pair is new and a record is free, and only there
 --   held-removable, taken-removable, removable-taken    a remove where its pair is held
 --   added-length, removed-one           a pair more and a pair less
@@ -121,7 +122,7 @@ list-not-full h len few fits = rw (ne-eqb (h .m) 4096 (λ e. omega arith), ne-eq
 
 module _ (h : Head) (ps : List Pair) (a b : ℕ) where
   -- where head and list agree, two different modules pass the causes that come first
-  ends-first : agrees h ps ≡ true → a < h .n → b < h .n → (a ≡ b → ⊥) → First (not (agrees h ps)) (held-list h ps .n) a b ≡ 0
+  pub ends-first : agrees h ps ≡ true → a < h .n → b < h .n → (a ≡ b → ⊥) → First (not (agrees h ps)) (held-list h ps .n) a b ≡ 0
   ends-first agreed l k d = none-first _ (held-list h ps .n) a b (rw agreed) (unfold held-list in (ends-fit (h .n) a b l k d))
 
   -- an add that is taken is of a new pair, and a record is free

@@ -29,6 +29,7 @@ use Rattle.records.specs.declared.Pair.{Pair}
 use Rattle.records.specs.Records.{held-list, agrees}
 use Rattle.kandurzo.specs.declared.Changed.{Changed}
 use Rattle.kandurzo.specs.Listing.{add-number, remove-number}
+use Rattle.kandurzo.specs.Placing.{place-number}
 use Rattle.kandurzo.specs.Reading.{Reader, Read-call}
 use Rattle.kandurzo.specs.Twice.{Five-before-four, Otherwise-as-before}
 use Rattle.kandurzo.proofs.Readings.{outcome-long}
@@ -54,11 +55,12 @@ file-number {read = read} {bytes = bytes} {ps = ps} {work = work} {r = r} lowest
     }
 
 pub five-before-four : Five-before-four
-unfolding add-number remove-number add-causes remove-causes held-list
+unfolding add-number remove-number place-number add-causes remove-causes pair-causes held-list
 five-before-four =
     record {
       add = λ h ps a b r ps′ says agreed. rw (says .number) (past-13 (agrees h ps) (h .n) a b _ agreed);
       remove = λ h ps a b r ps′ says agreed. rw (says .number) (past-13 (agrees h ps) (h .n) a b _ agreed);
+      place = λ h ps a b r says agreed. rw (says .number) (past-13 (agrees h ps) (h .n) a b [] agreed);
       read = λ n m a b lines rest ps work r ps′ work′ u la lb call.
           file-number 0 n a b call (u .long)
           (λ k gives. File.file-refused n m a b k lines rest (u .few-modules) (u .two) (u .once) (u .more) la lb gives

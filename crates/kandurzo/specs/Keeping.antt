@@ -28,7 +28,9 @@ use Rattle.records.specs.declared.Pair.{Pair}
 use Rattle.records.specs.declared.Head.{Head}
 use Rattle.records.specs.Records.{held-list, agrees, blank}
 use Rattle.kandurzo.specs.declared.Changed.{Changed}
+use Rattle.kandurzo.specs.declared.Placed.{Placed}
 use Rattle.kandurzo.specs.Listing.{head-of, started, Add-says, Remove-says}
+use Rattle.kandurzo.specs.Placing.{Place-says}
 use Rattle.kandurzo.specs.Reading.{Read-call}
 
 -- ---- one pair more, one pair less
@@ -42,10 +44,11 @@ unfoldable pub Held-once : Type 0
 Held-once =
     (h : Head) (ps : List Pair) (i j : ℕ) → agrees h ps ≡ true → i < h .m → j < h .m → same-ends (pair-at ps i) (pair-at ps j) ≡ true → i ≡ j
 
--- 2,5 IS THE SAME PAIR AS 5,2: add and remove answer and leave the same, whichever module is named first
+-- 2,5 IS THE SAME PAIR AS 5,2: add, remove and place answer and leave the same, whichever module is named first
 pub record Either-way-round : Type 0 where
   pub add : (h : Head) (ps : List Pair) (a b : ℕ) (r : Changed) (ps′ : List Pair) → Add-says h ps a b r ps′ → Add-says h ps b a r ps′
   pub remove : (h : Head) (ps : List Pair) (a b : ℕ) (r : Changed) (ps′ : List Pair) → Remove-says h ps a b r ps′ → Remove-says h ps b a r ps′
+  pub place : (h : Head) (ps : List Pair) (a b : ℕ) (r : Placed) → Place-says h ps a b r → Place-says h ps b a r
 
 -- two different modules of the list, whose pair is not held, and a free record
 pub record Addable (h : Head) (ps : List Pair) (a b : ℕ) : Type 0 where

@@ -12,7 +12,7 @@
 --   refusals      Refusals-keep; Unsplit-never, Fifteen-never
 --   answers       Peeling-of, Peel-exact; Best-of-all, Check-exact; Shares-alike, Solve-alone, Solve-accepted; Compare-alike, Records-in-order
 -- Those of start, add, remove and read are in Keeping (and 13 after read_dimacs), the others of read_dimacs and write_dimacs in Exchange; what 5 before 4
--- says of add, remove and both readers is in Twice.
+-- says of add, remove, place and both readers is in Twice, and where a pair stands in Placing.
 -- Assumes nothing: these are definitions.
 use mathlib.Core.Path.{_≡_}
 use mathlib.Core.Bool.{true, false}
@@ -104,7 +104,7 @@ Every-list-compared =
 
 -- ---- refusals
 
--- A REFUSED CALL CHANGES NO HEAD, LIST OR ANSWER BUFFER (start has none of them; peel, solve, check, surplus and write_dimacs
+-- A REFUSED CALL CHANGES NO HEAD, LIST OR ANSWER BUFFER (start has none of them; place, peel, solve, check, surplus and write_dimacs
 -- only read head and list)
 pub record Refusals-keep : Type 0 where
   pub add : (h : Head) (ps : List Pair) (a b : ℕ) (r : Changed) (ps′ : List Pair) →

@@ -1,5 +1,5 @@
--- Document 02, item 2: a line with a module twice is a typing fault. 5 now comes before 4 in add, remove and both readers. Only the answers for a module of
--- number N or more paired with itself change, from 4 to 5. A DIMACS `e 0 0` becomes 5 too.
+-- Document 02, item 2: a line with a module twice is a typing fault. 5 now comes before 4 in add, remove and both readers, and so in place (item 3), which
+-- refuses as remove does. Only the answers for a module of number N or more paired with itself change, from 4 to 5. A DIMACS `e 0 0` becomes 5 too.
 --   Unrefused              what is lent to a reader, and the lines of a file up to one, give no number
 --   Five-before-four       a module paired with itself gives 5, be it one of the list's or not; two different modules give 4 where the list lacks one
 --   Otherwise-as-before    the numbers of add and remove, and of a line of either file, beside those of the old orders, 4 before 5
@@ -25,7 +25,9 @@ use Rattle.records.specs.declared.Pair.{Pair}
 use Rattle.records.specs.declared.Head.{Head}
 use Rattle.records.specs.Records.{held-list, agrees}
 use Rattle.kandurzo.specs.declared.Changed.{Changed}
+use Rattle.kandurzo.specs.declared.Placed.{Placed}
 use Rattle.kandurzo.specs.Listing.{is-full, Add-says, Remove-says}
+use Rattle.kandurzo.specs.Placing.{Place-says}
 use Rattle.kandurzo.specs.Reading.{Read-call}
 
 -- lent buffers, N and M, and lines that name pairs, which give no number: the next line decides
@@ -47,6 +49,7 @@ pub record Five-before-four : Type 0 where
       Add-says h ps a b r ps′ → agrees h ps ≡ true → Five-else-four 0 (h .n) a b (r .number)
   pub remove : (h : Head) (ps : List Pair) (a b : ℕ) (r : Changed) (ps′ : List Pair) →
       Remove-says h ps a b r ps′ → agrees h ps ≡ true → Five-else-four 0 (h .n) a b (r .number)
+  pub place : (h : Head) (ps : List Pair) (a b : ℕ) (r : Placed) → Place-says h ps a b r → agrees h ps ≡ true → Five-else-four 0 (h .n) a b (r .number)
   -- on a pair line, whatever follows it
   pub read : (n m a b : ℕ) (lines : List Lists.Pair) (rest : List ℕ) (ps : List Pair) (work : List ℕ) (r : Changed) (ps′ : List Pair) (work′ : List ℕ) →
       Unrefused n m lines ps work → a ≤ 9999 → b ≤ 9999 →

@@ -1,11 +1,10 @@
 // Add and remove on words: the refusals in their order, then the change. The crate `pairs` does the looking up and the shifting.
 ghost use mathlib.Core.Path.{_≡_};
 ghost use mathlib.Core.Bool.{not};
-ghost use mathlib.Core.List.{_∷_};
 ghost use Rattle.theory.specs.Words.{laid-pairs};
-ghost use Rattle.theory.specs.Refusals.{cause, refusal};
+ghost use Rattle.theory.specs.Refusals.{refusal};
 ghost use Rattle.pairs.specs.Held.{is-held, place-of, smaller-first-pair};
-ghost use Rattle.pairs.specs.Causes.{pair-causes};
+ghost use Rattle.pairs.specs.Causes.{place-causes};
 ghost use Rattle.pairs.specs.Located.{Rising-words};
 ghost use Rattle.kandurzo.specs.Listing.{is-full};
 ghost use Rattle.kandurzo.specs.Edits.{records-out, Ready, add-edit, add-words, remove-edit, remove-words};
@@ -39,9 +38,9 @@ fn refused(number: u32, head: Head) -> Edit
     }
 }
 
-// The refusals that come first in both: 13, 5, 4.
-fn first_number(head: Head, agreed: bool, a: u32, b: u32) -> u32
-    ensures { λ r. ⌜ r ≡ refusal (cause 13 (not agreed) ∷ pair-causes 0 (head .n) a b) ⌝ }
+// The refusals that come first in both, and are all that place has: 13, 5, 4.
+pub(crate) fn first_number(head: Head, agreed: bool, a: u32, b: u32) -> u32
+    ensures { λ r. ⌜ r ≡ refusal (place-causes (not agreed) (head .n) a b) ⌝ }
 {
     if !agreed {
         return 13;

@@ -1,8 +1,9 @@
-// The public calls of Kandurzo, over lent records (document 01, "The list and its calls"; document 02, items 1 and 2: DIMACS files; 5 before 4).
+// The public calls of Kandurzo, over lent records (document 01, "The list and its calls"; document 02, items 1 to 3: DIMACS files; 5 before 4; place).
 mod buffers;
 mod edits;
 mod judging;
 mod peeling;
+mod placing;
 mod reading;
 mod solving;
 mod writing;
@@ -11,6 +12,7 @@ ghost use mathlib.Core.Path.{_≡_};
 ghost use Rattle.pairfile.specs.File.{read-file};
 ghost use Rattle.dimacs.specs.Edges.{read-dimacs};
 ghost use Rattle.kandurzo.specs.Listing.{started, changed-to, Add-says, Remove-says};
+ghost use Rattle.kandurzo.specs.Placing.{Place-says};
 ghost use Rattle.kandurzo.specs.Reading.{Read-call};
 ghost use Rattle.kandurzo.specs.Writing.{Write-call};
 ghost use Rattle.kandurzo.specs.Peeling.{Peel-call};
@@ -23,8 +25,11 @@ use judging::check_gate;
 use judging::check_on_words;
 use judging::surplus_gate;
 use judging::surplus_on_words;
+use numbers::greater;
+use numbers::lesser;
 use peeling::peel_gate;
 use peeling::peel_on_words;
+use placing::place_answer;
 use reading::clear_words;
 use reading::read_dimacs_on_words;
 use reading::read_on_words;
@@ -33,6 +38,7 @@ use records::Pair;
 use records::agree;
 use records::copy_in;
 use records::copy_out;
+use records::lookup;
 use solving::solve_gate;
 use solving::solve_on_words;
 use verify::Difference;
@@ -45,6 +51,14 @@ use writing::write_on_words;
 pub struct Changed {
     pub number: u32,
     pub head: Head,
+}
+
+// What place answers: the refusal number or 0; 1 where the pair is held, else 0; and its place, or where it would go.
+#[repr(C)]
+pub struct Placed {
+    pub number: u32,
+    pub held: u32,
+    pub at: u32,
 }
 
 // What solve answers: the refusal number or 0; P and Q, the found group's inside count and size; K, P/Q rounded up; the number of modules in the
@@ -166,6 +180,22 @@ pub extern "C" fn kandurzo_remove_from(head: &mut Head, list: &mut [Pair], a: u3
 }
 
 pub use kandurzo_remove_from as remove_from;
+
+// Whether the pair of modules a and b, in either order, is held, and its place, or where it would go, counted from 0 among the M held records: all before it
+// are smaller, none from there on is. Refuses by 13, 5, 4. A binary search besides the test of the list (13): the records are read where they lie.
+#[no_mangle]
+pub extern "C" fn kandurzo_place(head: Head, list: &[Pair], a: u32, b: u32) -> Placed
+    ensures { λ r. ⌜ Place-says head (now (list .entry)) a b r ⌝ }
+{
+    let agreed = agree(head, list);
+    let m = records_out(head, agreed);
+    let low = lesser(a, b);
+    let high = greater(a, b);
+    let place = lookup(list, m, low, high);
+    place_answer(head, agreed, a, b, place)
+}
+
+pub use kandurzo_place as place;
 
 // Reads a pair file: makes a new head, and writes the first M records in rising order. Refuses by 12 (work), then line by line: 1, 2; 1, 3, 11;
 // 1, 5, 4, 10; 6. A refused file leaves every record as it was.

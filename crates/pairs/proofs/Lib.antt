@@ -9,7 +9,7 @@ pub mod Twice
 pub mod Shifts
 pub mod Moves
 pub mod Words
-pub mod Search
+pub mod Searching
 pub mod Counts
 pub mod Places
 pub mod Stops

@@ -3,6 +3,7 @@
 --   pair-causes     what add, remove and both readers refuse of two module numbers: 5, 4
 --   add-causes      13, 5, 4, 10, 11
 --   remove-causes   13, 5, 4, 14
+--   place-causes    13, 5, 4
 -- Assumes nothing: these are definitions.
 use mathlib.Core.Bool.{Bool, _&&_, not}
 use mathlib.Core.List.{List, [], _∷_, _++_}
@@ -37,3 +38,7 @@ add-causes disagree g full a b =
 unfoldable pub remove-causes : (disagree : Bool) → Pairs → (a b : ℕ) → List Cause
 remove-causes disagree g a b =
     cause 13 disagree ∷ (pair-causes 0 (g .n) a b ++ (cause 14 (not (is-held (smaller-first-pair a b) (g .pairs))) ∷ []))
+
+-- PLACE of modules a and b in a list of n modules: as remove, except by 14 (document 02, item 3)
+abbrev pub place-causes : (disagree : Bool) → (n a b : ℕ) → List Cause
+place-causes disagree n a b = cause 13 disagree ∷ pair-causes 0 n a b

@@ -4,4 +4,5 @@ pub mod Causes
 pub mod Twice
 pub mod Shifts
 pub mod Located
+pub mod Searching
 pub mod Counts

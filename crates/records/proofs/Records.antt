@@ -1,5 +1,5 @@
 -- The plain types of this crate, for walks.
---   plain-pair, plain-head, plain-seen       Pair, Head and Seen
+--   plain-pair, plain-head, plain-seen       Pair, Head and Seen; plain-search, plain-place: Search and Place of `pairs`
 --   pair-row, word-row, half-row, byte-row   where records and numbers lie
 --   blank-fits               the record 0,0
 --   room-as                  a length has room where one that is the same has
@@ -35,6 +35,10 @@ use Rattle.records.proofs.Head as HeadRow
 use Rattle.records.proofs.Head.Laws as HeadLaws
 use Rattle.records.proofs.Seen as SeenRow
 use Rattle.records.proofs.Seen.Laws as SeenLaws
+use Rattle.pairs.proofs.Search as SearchRow
+use Rattle.pairs.proofs.Search.Laws as SearchLaws
+use Rattle.pairs.proofs.Place as PlaceRow
+use Rattle.pairs.proofs.Place.Laws as PlaceLaws
 
 -- the bytes of a record
 abbrev pub record-size : ℕ
@@ -52,6 +56,12 @@ module _ {M : Type 1} {𝓤 : URA M} {H : Heap 𝓤} {A : Atoms 𝓤} (W : Given
 
   abbrev pub plain-seen : Plain W SeenRow.the-row
   plain-seen = plain-record W SeenRow.the-type SeenLaws.the-laws SeenLaws.the-plain SeenLaws.the-copy
+
+  abbrev pub plain-search : Plain W SearchRow.the-row
+  plain-search = plain-record W SearchRow.the-type SearchLaws.the-laws SearchLaws.the-plain SearchLaws.the-copy
+
+  abbrev pub plain-place : Plain W PlaceRow.the-row
+  plain-place = plain-record W PlaceRow.the-type PlaceLaws.the-laws PlaceLaws.the-plain PlaceLaws.the-copy
 
   abbrev pub pair-row : Share → (b o : ℕ) → Row W
   pair-row s b o = record { type = PairRow.the-row; plain = plain-pair; share = s; block = b; offset = o }

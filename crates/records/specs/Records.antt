@@ -11,15 +11,17 @@
 --   Room-at, Fits-at        words have a place for a record, and what lies there fits one; Fits-records: so at the first places
 --   Room-counts             words have places for the counts of some records
 --   Room-out, Room-back     what the copies ask
+--   Rising-records          what lookup asks
 -- Assumes nothing: these are definitions.
-use mathlib.Core.Bool.{Bool, _&&_}
+use mathlib.Core.Path.{_≡_}
+use mathlib.Core.Bool.{Bool, true, _&&_}
 use mathlib.Core.List.{List, [], _∷_, _++_, map}
 use Prim.Native.Nat.{ℕ, _+_, _*_, _≤_, _<_}
 use lib.Dec.{leb}
 use lib.ListN.{length, getD, set, take, drop}
 use Rattle.theory.specs.Basics.{table}
 use Rattle.theory.specs.Lists as Lists
-use Rattle.theory.specs.Lists.{Pairs, pair, is-list}
+use Rattle.theory.specs.Lists.{Pairs, pair, rising, is-list}
 use Rattle.theory.specs.Words.{put-at}
 use Rattle.records.specs.declared.Pair.{Pair}
 use Rattle.records.specs.declared.Head.{Head}
@@ -105,3 +107,9 @@ Fits-records m ws = (j : ℕ) → j < m → Fits-at j ws
 pub record Room-back (list : List Pair) (words : List ℕ) (m : ℕ) : Type 0 where
   pub room : Room-out list words m
   pub fits : Fits-records m words
+
+-- m records are there, 4,096 at most, and they rise
+pub record Rising-records (m : ℕ) (list : List Pair) : Type 0 where
+  pub enough : m ≤ length list
+  pub few : m ≤ 4096
+  pub rises : rising (as-pairs (take m list)) ≡ true

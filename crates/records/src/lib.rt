@@ -2,13 +2,23 @@
 //   copy_out   records to words: the numbers of record j to words 2j and 2j + 1, and its count, which is 1, to word 8,192 + j
 //   copy_in    words to records
 //   agree      whether head and list agree (document 01, number 13)
-// Each is one pass over the records that it names (copy_out one more over their counts), and blind to what is in a record: lay, lay_counts, record_at and
-// step know that.
+//   lookup     whether a pair is held, and its place (document 02, item 3): the search of crate pairs, on the records where they lie
+// Each but the last is one pass over the records that it names (copy_out one more over their counts), and all are blind to what is in a record: lay,
+// lay_counts, record_at, step and look_at know that.
 ghost use mathlib.Core.Path.{_≡_};
-ghost use lib.ListN.{replicate};
+ghost use lib.ListN.{replicate, take};
+ghost use Rattle.theory.specs.Lists.{pair};
 ghost use Rattle.theory.specs.Words.{put-at};
+ghost use Rattle.pairs.specs.Located.{located};
+ghost use Rattle.pairs.specs.Searching.{narrowed, Looks};
 ghost use Rattle.records.specs.Records.{copied-record, word-record, copied-out, put-back, Room-at, Fits-at, Room-counts, Room-out, Room-back, agrees};
+ghost use Rattle.records.specs.Records.{as-pair, as-pairs, Rising-records};
 ghost use Rattle.records.specs.Scan.{begin-of, tested-of, step-of};
+use pairs::Place;
+use pairs::Search;
+use pairs::begin_search;
+use pairs::found;
+use pairs::narrow;
 
 // A record: two module numbers, the smaller first.
 #[repr(C)]
@@ -165,4 +175,25 @@ pub fn agree(head: Head, list: &[Pair]) -> bool
         i += 1;
     }
     seen.ok
+}
+
+// A search for the pair a,b after the record p was looked at.
+fn look_at(search: Search, p: Pair, a: u32, b: u32) -> Search
+    requires { ⌜ Looks search ⌝ }
+    ensures { λ r. ⌜ r ≡ narrowed search (as-pair p) (pair a b) ⌝ }
+{
+    narrow(search, p.a as u32, p.b as u32, a, b)
+}
+
+// Whether the pair a,b is held among the first m records, and its place. The records are read where they lie.
+pub fn lookup(list: &[Pair], m: usize, a: u32, b: u32) -> Place
+    requires { ⌜ Rising-records m (now list) ⌝ }
+    ensures { λ r. ⌜ r ≡ located (pair a b) (as-pairs (take m (now (list .entry)))) ⌝ }
+{
+    let mut search = begin_search(m);
+    while search.low < search.high {
+        let narrowed = look_at(search, list[search.next], a, b);
+        search = narrowed;
+    }
+    found(search)
 }

@@ -1,0 +1,82 @@
+// Where the pair of a step stands: place is asked before the step is made. Its number must be the model's; the pair is held where the table has it, and its
+// place is how many records of the list are smaller, counted one by one. Beside a refusal both are 0.
+use crate::desk;
+use crate::lent;
+use crate::model;
+use crate::steps;
+use crate::steps::Ask;
+use crate::steps::Plan;
+use kandurzo::Placed;
+use records::Head;
+
+// The call, on 4,096 records or on 100.
+fn call(len: u32, ask: Ask, head: Head, desk: &mut [u32]) -> Placed {
+    if len == 4096 {
+        return lent::place_4096(desk, head, ask.a, ask.b);
+    }
+    lent::place_100(desk, head, ask.a, ask.b)
+}
+
+// 1 where record j of the list is smaller than the pair a,b, else 0.
+fn smaller(desk: &[u32], j: u32, a: u32, b: u32) -> u32 {
+    let c = desk::word_at(desk, desk::place(0, j));
+    let d = desk::word_at(desk, desk::plus(desk::place(0, j), 1));
+    if c < a {
+        return 1;
+    }
+    if a < c {
+        return 0;
+    }
+    if d < b { 1 } else { 0 }
+}
+
+// How many of the list's first m records are smaller.
+fn smaller_ones(desk: &[u32], m: u32, a: u32, b: u32) -> u32 {
+    let mut found = 0;
+    let mut j = 0;
+    while j < m {
+        found = std::num::wrapping_add_u32(found, smaller(desk, j, a, b));
+        j += 1;
+    }
+    found
+}
+
+// The answer that is due where the number is this one.
+fn due(ask: Ask, number: u32, m: u32, desk: &[u32]) -> Placed {
+    if number != 0 {
+        return Placed {
+            number,
+            held: 0,
+            at: 0,
+        };
+    }
+    let at = if ask.a < ask.b {
+        smaller_ones(desk, m, ask.a, ask.b)
+    } else {
+        smaller_ones(desk, m, ask.b, ask.a)
+    };
+    Placed {
+        number,
+        held: model::held_mark(desk, ask.a, ask.b),
+        at,
+    }
+}
+
+// Asks place, whose number must be this one, and compares.
+pub(crate) fn asked(plan: Plan, ask: Ask, number: u32, head: Head, desk: &mut [u32]) {
+    let right = due(ask, number, head.m, desk);
+    let answer = call(plan.len, ask, head, desk);
+    steps::note(steps::altered(plan, 5, answer.number) == number, desk);
+    steps::note(steps::altered(plan, 6, answer.held) == right.held, desk);
+    steps::note(steps::altered(plan, 7, answer.at) == right.at, desk);
+    steps::count_in(desk, 7);
+    if answer.held == 1 {
+        steps::count_in(desk, 8);
+    }
+}
+
+// The same before a step, where head and list agree.
+pub(crate) fn before_step(plan: Plan, ask: Ask, head: Head, desk: &mut [u32]) {
+    let number = model::pair_number(plan.n, ask.a, ask.b);
+    asked(plan, ask, number, head, desk);
+}
