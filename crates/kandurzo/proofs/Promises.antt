@@ -26,7 +26,7 @@ use Rattle.kandurzo.proofs.Keeping as keeping
 use Rattle.kandurzo.proofs.Arrivals as arrivals
 use Rattle.kandurzo.proofs.ReadKeeps as reading
 use Rattle.kandurzo.proofs.Twice as twice
-use Rattle.kandurzo.proofs.Placing as placing
+use Rattle.kandurzo.proofs.Placings as placing
 
 -- ---- every list
 

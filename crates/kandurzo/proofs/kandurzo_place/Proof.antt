@@ -48,7 +48,7 @@ use Rattle.kandurzo.specs.declared.Placed.{Placed}
 use Rattle.kandurzo.specs.Edits.{records-out}
 use Rattle.kandurzo.specs.Placing.{placed-of, Place-says}
 use Rattle.kandurzo.proofs.Types.{head-sort, pair-sort, plain-placed}
-use Rattle.kandurzo.proofs.Placing.{place-asks, place-few, place-found}
+use Rattle.kandurzo.proofs.Placings.{place-asks, place-few, place-found}
 use Rattle.kandurzo.proofs.Placed as D
 use Rattle.kandurzo.proofs.edits.records_out.Symbol as records
 use Rattle.kandurzo.proofs.edits.records_out.Met as records-thm
@@ -162,4 +162,4 @@ kandurzo-place-spec 𝓤 H 𝓜 𝓖 𝓡 =
     states 𝓤 H 𝓜 𝓖 𝓡 code.env f.ended (kinds-of forms) (f.clauses 𝓤 H (𝓖 .A) (𝓜 .mem) (𝓡 .run)) key.name code.function (code.unfolded 𝓤 H 𝓜 𝓡)
     (λ κs qs bounds a g are ends.
     walk 𝓤 H 𝓜 𝓖 𝓡 κs qs a are _ (λ v zs fit. ends _ v zs fit) (λ bs. tt)
-    (λ bs. (tt, refl, λ _. (tt, (tt, refl, λ _. (tt, (tt, refl, λ _. (tt, (tt, refl, λ _. (tt, (tt, refl, λ _. (tt, (tt, refl, λ _. (tt, refl))))))))))))))
+    (λ bs. (tt, refl, λ _. (tt, (tt, refl, λ _. (tt, (tt, refl, λ _. (tt, (tt, refl, λ _. (tt, (tt, refl, λ _. (tt, (tt, refl, λ _. (tt, (tt, refl)))))))))))))))

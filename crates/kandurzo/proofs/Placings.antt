@@ -15,7 +15,7 @@ use lib.Seq.{getD-take, take-take, length-take-le}
 use borrow.Author.Tests.{eqb-true, eqb-false, eq-eqb, ne-eqb, not-false}
 use Rattle.theory.specs.Basics.{mark}
 use Rattle.theory.specs.Lists as Lists
-use Rattle.theory.specs.Lists.{pair, stands-before, rising}
+use Rattle.theory.specs.Lists.{Pairs, pair, stands-before, rising}
 use Rattle.theory.specs.Refusals.{cause, refusal, if-taken}
 use Rattle.theory.proofs.Lists.{listed}
 use Rattle.theory.proofs.Tests.{tests, no, by-test}
@@ -217,9 +217,11 @@ module _ (h : Head) (ps : List Pair) (a b : ℕ) (r : Placed) (says : Place-says
   split-records : (xs : List Lists.Pair) (i : ℕ) (rest : List Pair) →
       as-records (take (r .at) gs ++ (xs ++ drop i gs)) ++ rest ≡ take (r .at) ps ++ (as-records xs ++ (drop i (take (h .m) ps) ++ rest))
   split-records xs i rest =
-      ap (λ (us : List Pair). us ++ rest)
-      (records-append (take (r .at) gs) (xs ++ drop i gs) ∙ rw (front-records, records-append xs (drop i gs), back-records i))
-      ∙ append-assoc (take (r .at) ps) _ rest ∙ ap (λ (us : List Pair). take (r .at) ps ++ us) (append-assoc (as-records xs) _ rest)
+      let behind : as-records (xs ++ drop i gs) ≡ as-records xs ++ drop i (take (h .m) ps) =
+      records-append xs (drop i gs) ∙ ap (λ (us : List Pair). as-records xs ++ us) (back-records i) in
+      ap (λ (us : List Pair). us ++ rest) (records-append (take (r .at) gs) (xs ++ drop i gs) ∙ (λ j. front-records j ++ behind j))
+      ∙ append-assoc (take (r .at) ps) (as-records xs ++ drop i (take (h .m) ps)) rest
+      ∙ ap (λ (us : List Pair). take (r .at) ps ++ us) (append-assoc (as-records xs) (drop i (take (h .m) ps)) rest)
 
   -- add's number
   puts-number : {s : Changed} {ps′ : List Pair} → r .held ≡ 0 → Add-says h ps a b s ps′ → s .number ≡ refusal (cause 11 (is-full h (length ps)) ∷ [])
@@ -266,7 +268,7 @@ never-14 : (d : Bool) (n a b : ℕ) → refusal (place-causes d n a b) ≡ 14 �
 unfolding refusal cause pair-causes
 never-14 d n a b e = go d (self-paired a b) (module-unknown 0 n a b) e
   where
-    go : (d s u : Bool) → cond d 13 (cond s 5 (cond u 4 0)) ≡ 14 → ⊥
+    go : (d s u : Bool) → _≡_ {A = ℕ} (cond d 13 (cond s 5 (cond u 4 0))) 14 → ⊥
     go true s u e = omega (arith, e)
     go false true u e = omega (arith, e)
     go false false true e = omega (arith, e)
@@ -304,9 +306,10 @@ refused-as-remove h ps a b r s ps′ says remove =
 
 pub every-pair-placed : Every-pair-placed
 unfolding Every-pair-placed
-every-pair-placed g h ps a b r lent l k d says =
+every-pair-placed g h ps a b r lent l n d says =
     let e : held-list h ps ≡ g = lent-list lent in
-    let open : place-number h ps a b ≡ 0 =
-    unfold place-number held-list in ends-first h ps a b (lent-agrees lent) (omega (arith, l, n-is lent)) (omega (arith, k, n-is lent)) d in
-    let z : r .number ≡ 0 = says .number ∙ open in
-    (z, held-is h ps a b r says z ∙ rw e, at-is h ps a b r says z ∙ rw e)
+    let none : place-number h ps a b ≡ 0 =
+    unfold place-number held-list in ends-first h ps a b (lent-agrees lent) (omega (arith, l, n-is lent)) (omega (arith, n, n-is lent)) d in
+    let z : r .number ≡ 0 = says .number ∙ none in
+    let p = smaller-first-pair a b in
+    (z, held-is h ps a b r says z ∙ ap (λ (u : Pairs). mark (is-held p (u .pairs))) e, at-is h ps a b r says z ∙ ap (λ (u : Pairs). place-of p (u .pairs)) e)
