@@ -11,6 +11,18 @@ use numbers::pick;
 use pairs::Place;
 use records::Head;
 
+// The answer where nothing is refused.
+fn found_at(held: u32, at: usize) -> Placed
+    requires { ⌜ at ≤ 4096 ⌝ }
+    ensures { λ r. ⌜ r ≡ record { number = 0; held = held; at = at } ⌝ }
+{
+    Placed {
+        number: 0,
+        held,
+        at: at as u32,
+    }
+}
+
 // Refuses by 13, 5, 4.
 pub(crate) fn place_answer(head: Head, agreed: bool, a: u32, b: u32, place: Place) -> Placed
     requires { ⌜ place .at ≤ 4096 ⌝ }
@@ -24,9 +36,5 @@ pub(crate) fn place_answer(head: Head, agreed: bool, a: u32, b: u32, place: Plac
             at: 0,
         };
     }
-    Placed {
-        number: 0,
-        held: pick(place.held, 1),
-        at: place.at as u32,
-    }
+    found_at(pick(place.held, 1), place.at)
 }

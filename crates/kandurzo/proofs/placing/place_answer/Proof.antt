@@ -19,7 +19,8 @@ unfolding placed-of if-taken mark
 returns-2 c =
     let e = c .before .before in
     let none = sym (e .before .first-number .ensures) ∙ e .if1 .left in
-    rw (none, c .before .pick .ensures)
+    rw none (rw (c .before .pick .ensures) at (c .found-at .ensures))
 
 pub place-answer-spec : {M : Type 1} → statement M
-place-answer-spec = tie.close (tie.spec (λ c κs. search needs) returns (λ c κs. search needs) (λ c. search needs) returns-2)
+place-answer-spec =
+    tie.close (tie.spec (λ c κs. search needs) returns (λ c κs. search needs) (λ c κs. search needs) returns-2)
