@@ -1,9 +1,9 @@
 -- The records that `neighbours` shows next to a pair are the nearest on either side.
 --   place-at, entry-held                     the record at an index is held, and that is its place
---   held-before                              a held record stands before a pair exactly where its place is below the pair's
+--   held-before, entry-before                a record stands before a pair exactly where its place is below the pair's
 --   nearest-at                               a record is the nearest on its side
 --   predecessor-nearest, successor-nearest   those that are shown are
---   pair-turned                              the text of two numbers in the other order
+--   pair-turned, list-turned                 the text of two numbers, and of two arguments, in the other order
 --   neighbours-nearest, neighbours-round     the promises of specs/Neighbours.antt
 -- Assumes nothing.
 use mathlib.Core.Path.{_≡_, refl, sym, ap, _∙_}
@@ -17,11 +17,9 @@ use lib.Dec.{ltb}
 use lib.ListN.{length, getD, getElem?}
 use Rattle.theory.specs.Basics.{mark}
 use Rattle.theory.specs.Lists.{Pair, Pairs, stands-before, rising}
-use Rattle.theory.specs.Refusals.{refusal}
 use Rattle.theory.proofs.Lists.{listed}
 use Rattle.theory.proofs.Tests.{tests, no, fails, by-test}
-use Rattle.pairs.specs.Held.{same-ends, is-held, place-of, smaller-first-pair}
-use Rattle.pairs.specs.Causes.{pair-causes}
+use Rattle.pairs.specs.Held.{is-held, place-of, smaller-first-pair}
 use Rattle.pairs.specs.Located.{located}
 use Rattle.pairs.proofs.Causes.{pair-round, causes-round}
 use Rattle.pairs.proofs.Order.{same-refl, same-before, same-not-before, before-not-after, order-cases}
@@ -43,7 +41,6 @@ use Rattle.texts.specs.Neighbours.{
   neighbours-printed,
   stands-after,
   Nearest,
-  Shown,
   Neighbours-nearest,
   Neighbours-round,
 }

@@ -11,7 +11,7 @@
 --   neighbours-read                                Neighbours-read
 -- Assumes nothing.
 use mathlib.Core.Path.{_≡_, refl, sym, ap, _∙_}
-use mathlib.Core.Bool.{Bool, true, cond}
+use mathlib.Core.Bool.{true, cond}
 use mathlib.Core.List.{List, [], _∷_, _++_}
 use mathlib.Core.Option.{Option, none, some}
 use Prim.Native.Nat.{ℕ, zero, suc, _+_, _*_, _-_, _≤_, _<_, min, max}
@@ -27,7 +27,7 @@ use Rattle.theory.specs.Words.{laid-pairs}
 use Rattle.theory.proofs.Lists.{listed}
 use Rattle.theory.proofs.Tests.{tests, by-test, mark-le}
 use Rattle.theory.proofs.Words.{length-laid, laid-at}
-use Rattle.pairs.specs.Held.{smaller-first-pair, place-of}
+use Rattle.pairs.specs.Held.{smaller-first-pair}
 use Rattle.pairs.specs.Causes.{pair-causes}
 use Rattle.pairs.specs.Located.{located}
 use Rattle.pairs.specs.declared.Place.{Place}
@@ -125,7 +125,7 @@ module _ (form : List ℕ) (m : ℕ) (words : List ℕ) where
       let e : suc j - 1 ≡ j = omega arith in
       rw (entry-some (laid-pairs m words) j (pair 0 0) (omega (arith, length-laid m words)), laid-at m words j (pair 0 0) (omega arith), e)
 
--- counted from 1 the record after a pair is the one behind those up to its place, and behind the pair itself where it is held
+-- the record after a pair, counted from 1
 pub successor-next : (l : Place) (ps : List Pair) → record-before (l .at + mark (l .held) + 1) ps ≡ successor l ps
 unfolding successor record-before
 successor-next l ps = rw (add-one (l .at + mark (l .held)))
@@ -167,7 +167,7 @@ module _ (l : Place) (ps : List Pair) (out : List ℕ) (h : length (place-text l
 
 -- ---- how long the texts are
 
--- a record's modules have at most three digits
+-- the line of a record
 record-length : (form : List ℕ) (n : ℕ) (ps : List Pair) (k : ℕ) → n ≤ 512 → all (ends-in-range n) ps ≡ true →
     length (record-line form (record-before k ps)) ≤ length form + 3 * places form
 unfolding record-line record-before all ends-in-range

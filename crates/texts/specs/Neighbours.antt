@@ -126,8 +126,8 @@ pub record Neighbours-read (buffer : List ℕ) (n : ℕ) (first second text : Li
 unfoldable pub stands-after : (p r : Pair) → Bool
 stands-after p r = stands-before r p
 
--- the held record nearest to p on one side: it is held and stands on that side, and no held record stands between it and p; none where no held record
--- stands on that side
+-- the held record nearest to p on one side (by stands-before the predecessor, by stands-after the successor): it is held and stands on that side, and no
+-- held record stands between it and p; none where no held record stands on that side
 unfoldable pub Nearest : (side : Pair → Pair → Bool) → Pair → List Pair → Option Pair → Type 0
 Nearest side p ps none = (r : Pair) → is-held r ps ≡ true → side r p ≡ false
 Nearest side p ps (some q) = (is-held q ps ≡ true) × (side q p ≡ true) × ((r : Pair) → is-held r ps ≡ true → (side q r && side r p) ≡ false)

@@ -67,8 +67,8 @@ fn write_record(form: &[u8], k: usize, m: usize, words: &[u32], out: &mut [u8], 
     write_line(form, &numbers, out, at)
 }
 
-// The text of a place among m records in words; answers how long it is. As many records stand before the pair as its place says, so that the k-th of them
-// is the one before it where k is the place.
+// The text of a place among m records in words; answers how long it is. As many records stand before a pair as its place says: the last of them has that
+// number, counted from 1.
 fn write_place(place: Place, m: usize, words: &[u32], out: &mut [u8]) -> usize
     requires { ⌜ (place .at ≤ m) × (m ≤ 4096) × (2 * m ≤ length (now words)) ⌝ }
     requires { ⌜ length (place-text place (laid-pairs m (now words))) ≤ length (now out) ⌝ }

@@ -1,5 +1,4 @@
 -- `neighbours::argument_number` meets its contract: no number, one with bytes behind it, and one alone. Assumes nothing.
-use mathlib.Core.Path.{sym}
 use borrow.Author.Needs.{needs}
 use Rattle.texts.specs.Neighbours.{module-in}
 use Rattle.texts.proofs.Places.{argument-none, argument-more, argument-alone}

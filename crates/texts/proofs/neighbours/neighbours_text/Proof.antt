@@ -27,7 +27,7 @@ returns c =
     let i = c .before .before .before .before in
     let a = i .before .before .before in
     let s = begin a in
-    prints (neighbours-read (s .pre .0 .0) (refusal-converted (list-printed (s .args .first .now) (s .args .second .now)) (a .read-words .ensures) (i .if1 .taken)))
+    prints (neighbours-read (s .pre .0 .0) (refusal-converted (list-printed _ _) (a .read-words .ensures) (i .if1 .taken)))
     (c .before .before .write-refusal .ensures)
     (omega (arith, refusal-length (a .read-words .result .number), s .pre .1))
 
@@ -43,9 +43,10 @@ returns-2 c =
     let i = w .before .before .before .before in
     let a = i .before .before .before in
     let s = begin a in
-    prints (neighbours-read (s .pre .0 .0) (list-converted (list-printed (s .args .first .now) (s .args .second .now)) (a .read-words .ensures) (file-sound 4096 _) (i .if1 .left)))
+    let z = i .if1 .left in
+    prints (neighbours-read (s .pre .0 .0) (list-converted (list-printed _ _) (a .read-words .ensures) (file-sound 4096 _) z))
     (w .write-arguments .ensures)
-    (omega (arith, list-length (s .args .first .now) (s .args .second .now) (laid-list _ _ _) (held a (i .if1 .left) .listed), s .pre .1))
+    (omega (arith, list-length (s .args .first .now) (s .args .second .now) (laid-list _ _ _) (held a z .listed), s .pre .1))
 
 pub neighbours-text-spec : {M : Type 1} → statement M
 neighbours-text-spec =
