@@ -46,7 +46,7 @@ alone (some x) = cond (eqb (length (x .rest)) 0) (some (x .value)) none
 unfoldable pub argument-number : (argument : List ℕ) → Option ℕ
 argument-number bytes = alone (number-of 4 bytes)
 
--- 110: an argument spells no number; so does an empty one, and one that is missing is empty
+-- 110: an argument spells no number. One that is missing is empty, and an empty one spells none
 unfoldable pub module-due : Option ℕ → Outcome ℕ
 module-due none = refused 110
 module-due (some a) = taken a
@@ -132,7 +132,7 @@ unfoldable pub Nearest : (side : Pair → Pair → Bool) → Pair → List Pair 
 Nearest side p ps none = (r : Pair) → is-held r ps ≡ true → side r p ≡ false
 Nearest side p ps (some q) = (is-held q ps ≡ true) × (side q p ≡ true) × ((r : Pair) → is-held r ps ≡ true → (side q r && side r p) ≡ false)
 
--- a text shows p among the records ps
+-- a text shows p among the records ps: whether it is held, its place, and the records nearest to it
 pub record Shown (p : Pair) (ps : List Pair) (text : List ℕ) : Type 0 where
   pub place : ℕ
   pub before : Option Pair
@@ -141,7 +141,7 @@ pub record Shown (p : Pair) (ps : List Pair) (text : List ℕ) : Type 0 where
   -- all records before the place are smaller than p, and none from there on is
   pub within : place ≤ length ps
   pub parts : (i : ℕ) → i < length ps → stands-before (getD ps i p) p ≡ ltb i place
-  -- the records shown are the nearest on either side
+  -- the records shown are the nearest
   pub before-nearest : Nearest stands-before p ps before
   pub after-nearest : Nearest stands-after p ps after
 
