@@ -1,4 +1,4 @@
-/* Kandurzo from C: fault groups of a pair list (document 01; document 02, items 1 and 2).
+/* Kandurzo from C: fault groups of a pair list (document 01; document 02, items 1 to 3).
  *
  * A list has N modules (1 to 512), numbered 0 to N-1, and M pairs (at most 4,096) of two different modules. The caller lends every buffer: a head with
  * N and M, and records, smaller module first, in strictly rising order by first and then second number. Of a list, `length` is how many records
@@ -50,6 +50,7 @@ enum {
     KANDURZO_STACK_START = 16384,
     KANDURZO_STACK_ADD = 65536,    /* add and add_to */
     KANDURZO_STACK_REMOVE = 65536, /* remove and remove_from */
+    KANDURZO_STACK_PLACE = 16384,
     KANDURZO_STACK_READ = 16384,
     KANDURZO_STACK_READ_DIMACS = 16384,
     KANDURZO_STACK_WRITE_DIMACS = 65536,
@@ -74,6 +75,11 @@ typedef struct {
     uint32_t number;
     kandurzo_head_t head;
 } kandurzo_changed_t;
+
+/* The number; 1 if the pair is held, else 0; its place, or the place where it would go. Beside a refusal all else is 0. */
+typedef struct {
+    uint32_t number, held, at;
+} kandurzo_placed_t;
 
 /* The number; how many bytes were written, 0 beside a refusal. */
 typedef struct {
@@ -114,6 +120,11 @@ uint32_t kandurzo_add_to(kandurzo_head_t *head, kandurzo_pair_t *list, size_t le
 
 /* Remove, on the caller's own head; answers the number. Refuses by 13, 5, 4, 14. */
 uint32_t kandurzo_remove_from(kandurzo_head_t *head, kandurzo_pair_t *list, size_t length, uint32_t a, uint32_t b);
+
+/* Place: whether the pair of modules a and b, in either order, is held, and its place, or the place where it would go. Counted from 0 among the M held
+ * records: all before it are smaller, and none from there on is; it is M where all M are smaller. Where the pair is not held, add puts it there; where it
+ * is, remove takes the record there. Changes nothing. Refuses by 13, 5, 4. */
+kandurzo_placed_t kandurzo_place(kandurzo_head_t head, const kandurzo_pair_t *list, size_t length, uint32_t a, uint32_t b);
 
 /* Read: a pair file, which is `modules=N`, `pairs=M` and M lines `pair=A,B`, each ended by LF. Makes a new head and writes the first M records. Wants
  * 16,384 words of work. Refuses by 12 (work); on the first line 1, 2; on the second 1, 3, 11; on a pair line 1, 5, 4, 10; last 6. The head is then 0,0.

@@ -43,6 +43,13 @@ static uint32_t remove_pair(void) {
 
 static uint32_t remove_from(void) { return kandurzo_remove_from(&head, list, room, a, b); }
 
+static kandurzo_placed_t placed;
+
+static uint32_t place(void) {
+    placed = kandurzo_place(head, list, room, a, b);
+    return placed.number;
+}
+
 static uint32_t read_file(void) { return kandurzo_read(file, count, list, room, work, words).number; }
 
 static uint32_t read_dimacs(void) { return kandurzo_read_dimacs(file, count, list, room, work, words).number; }
@@ -66,7 +73,7 @@ static uint32_t check(void) { return kandurzo_check(head, list, room, members, e
 static uint32_t surplus(void) { return kandurzo_surplus(head, list, room, members, entries, others, entries).number; }
 
 /* Each call, the bytes stated for it, and the most that it used. */
-enum call { START, ADD, ADD_TO, REMOVE, REMOVE_FROM, READ, READ_DIMACS, WRITE_DIMACS, PEEL, SOLVE, CHECK, SURPLUS, CALLS };
+enum call { START, ADD, ADD_TO, REMOVE, REMOVE_FROM, PLACE, READ, READ_DIMACS, WRITE_DIMACS, PEEL, SOLVE, CHECK, SURPLUS, CALLS };
 
 static struct {
     const char *name;
@@ -78,6 +85,7 @@ static struct {
     {"add_to", add_to, KANDURZO_STACK_ADD, 0},
     {"remove", remove_pair, KANDURZO_STACK_REMOVE, 0},
     {"remove_from", remove_from, KANDURZO_STACK_REMOVE, 0},
+    {"place", place, KANDURZO_STACK_PLACE, 0},
     {"read", read_file, KANDURZO_STACK_READ, 0},
     {"read_dimacs", read_dimacs, KANDURZO_STACK_READ_DIMACS, 0},
     {"write_dimacs", write_dimacs, KANDURZO_STACK_WRITE_DIMACS, 0},
@@ -185,31 +193,48 @@ static void ring(void) {
         for (uint32_t v = 0; v < KANDURZO_MODULES; v++) put(v, (v + lengths[i]) % KANDURZO_MODULES);
 }
 
-/* The calls that change a list: a held pair out and in again, and their refusals. The list is then as before. */
+/* Place of the pair a,b: 1 if it is held, else 0, and at which record. */
+static void stands(uint32_t held, uint32_t at) {
+    static kandurzo_pair_t before[KANDURZO_PAIRS];
+    memcpy(before, list, sizeof before);
+    run(PLACE, 0);
+    if (placed.held != held || placed.at != at) fail("another place");
+    if (memcmp(before, list, sizeof before) != 0) fail("the list changed");
+}
+
+/* Place, and the calls that change a list, all refuse by the number wanted. */
+static void refused(enum call adds, enum call removes, uint32_t wanted) {
+    run(adds, wanted);
+    run(removes, wanted);
+    run(PLACE, wanted);
+    if (placed.held != 0 || placed.at != 0) fail("a place beside a refusal");
+}
+
+/* Place, and the calls that change a list: a held pair out and in again, and their refusals. The list is then as before. */
 static void edits(enum call adds, enum call removes) {
     kandurzo_head_t before = head;
-    a = list[head.m / 2].b;
-    b = list[head.m / 2].a;
+    uint32_t at = head.m / 2;
+    a = list[at].b;
+    b = list[at].a;
+    stands(1, at);
     run(adds, 10);
     run(removes, 0);
+    stands(0, at);
     run(removes, 14);
     room = head.m;
     run(adds, 11);
+    stands(0, at);
     room = KANDURZO_PAIRS;
     run(adds, 0);
     if (head.n != before.n || head.m != before.m) fail("another head than before");
     a = b;
-    run(adds, 5);
-    run(removes, 5);
+    refused(adds, removes, 5);
     a = head.n;
-    run(adds, 4);
-    run(removes, 4);
+    refused(adds, removes, 4);
     b = a;
-    run(adds, 5);
-    run(removes, 5);
+    refused(adds, removes, 5);
     head.n = 0;
-    run(adds, 13);
-    run(removes, 13);
+    refused(adds, removes, 13);
     head = before;
 }
 

@@ -12,6 +12,8 @@ pub mod stack {
     pub const ADD: usize = 65536;
     /// Of [`remove`](super::remove) and [`remove_from`](super::remove_from).
     pub const REMOVE: usize = 65536;
+    /// Of [`place`](super::place).
+    pub const PLACE: usize = 16384;
     /// Of [`read`](super::read).
     pub const READ: usize = 16384;
     /// Of [`read_dimacs`](super::read_dimacs).
@@ -56,6 +58,18 @@ pub struct Changed {
     pub number: u32,
     /// The head after the call.
     pub head: Head,
+}
+
+/// What place answers; beside a refusal all else is 0.
+#[repr(C)]
+#[derive(Clone, Copy, Debug, PartialEq, Eq)]
+pub struct Placed {
+    /// The refusal number or 0.
+    pub number: u32,
+    /// 1 if the pair is held, else 0.
+    pub held: u32,
+    /// The pair's place, or the place where it would go.
+    pub at: u32,
 }
 
 /// What write_dimacs answers; beside a refusal the length is 0.
@@ -117,6 +131,7 @@ mod library {
         pub fn kandurzo_remove(head: Head, list: *mut Pair, length: usize, a: u32, b: u32) -> Changed;
         pub fn kandurzo_add_to(head: *mut Head, list: *mut Pair, length: usize, a: u32, b: u32) -> u32;
         pub fn kandurzo_remove_from(head: *mut Head, list: *mut Pair, length: usize, a: u32, b: u32) -> u32;
+        pub fn kandurzo_place(head: Head, list: *const Pair, length: usize, a: u32, b: u32) -> Placed;
         pub fn kandurzo_read(
             bytes: *const u8,
             count: usize,
@@ -210,6 +225,11 @@ pub fn add_to(head: &mut Head, list: &mut [Pair], a: u32, b: u32) -> u32 {
 /// `remove` on the caller's own head; answers the number.
 pub fn remove_from(head: &mut Head, list: &mut [Pair], a: u32, b: u32) -> u32 {
     unsafe { library::kandurzo_remove_from(head, list.as_mut_ptr(), list.len(), a, b) }
+}
+
+/// Whether the pair of a and b, in either order, is held, and its place, or the place where it would go: from 0 to M. Refuses by 13, 5, 4.
+pub fn place(head: Head, list: &[Pair], a: u32, b: u32) -> Placed {
+    unsafe { library::kandurzo_place(head, list.as_ptr(), list.len(), a, b) }
 }
 
 /// Reads a pair file into the list. Refuses by 12, then line by line 1, 2; 1, 3, 11; 1, 5, 4, 10; 6.

@@ -1,5 +1,5 @@
 //! Kandurzo from Rust: the largest group of greatest ratio in a list of fault pairs, with core numbers and a load sheet that shows
-//! that no group is denser (document 01; document 02, items 1 and 2).
+//! that no group is denser (document 01; document 02, items 1 to 3).
 //!
 //! ```
 //! let tail = b"modules=5\npairs=7\npair=0,1\npair=0,2\npair=0,3\npair=1,2\npair=1,3\npair=2,3\npair=3,4\n";
@@ -91,6 +91,15 @@ impl fmt::Debug for List {
     fn fmt(&self, out: &mut fmt::Formatter) -> fmt::Result {
         out.debug_struct("List").field("modules", &self.modules()).field("pairs", &self.pairs()).finish()
     }
+}
+
+/// Where a pair stands in a list, or would stand.
+#[derive(Clone, Copy, Debug, PartialEq, Eq)]
+pub struct Place {
+    /// Whether the pair is held.
+    pub held: bool,
+    /// How many held pairs are smaller: the pair's index in [`List::pairs`] if it is held, else the one that it gets when it is added.
+    pub at: usize,
 }
 
 /// Leaving order and core numbers, N entries each.
@@ -188,6 +197,26 @@ impl List {
     /// Removes the pair of a and b, in either order. Refuses by 5, 4, 14: a module with itself gives 5, as in `add`.
     pub fn remove(&mut self, a: u32, b: u32) -> Result<(), Refusal> {
         Refusal::of(ffi::remove_from(&mut self.head, &mut self.records, a, b))
+    }
+
+    /// Whether the pair of a and b, in either order, is held, and its place among the held pairs, or the place where it would go. Refuses by 5, 4: a
+    /// module with itself gives 5, as in `add`.
+    ///
+    /// ```
+    /// use kandurzo::{List, Pair, Place};
+    /// let mut list = List::read(b"modules=4\npairs=2\npair=0,1\npair=2,3\n")?;
+    /// let place = list.place(2, 1)?;
+    /// assert_eq!(place, Place { held: false, at: 1 });
+    /// let (before, after) = list.pairs().split_at(place.at);
+    /// assert_eq!((before.last(), after.first()), (Some(&Pair { a: 0, b: 1 }), Some(&Pair { a: 2, b: 3 })));
+    /// list.add(2, 1)?;
+    /// assert_eq!(list.pairs()[place.at], Pair { a: 1, b: 2 });
+    /// # Ok::<(), kandurzo::Refusal>(())
+    /// ```
+    pub fn place(&self, a: u32, b: u32) -> Result<Place, Refusal> {
+        let answer = ffi::place(self.head, &self.records, a, b);
+        Refusal::of(answer.number)?;
+        Ok(Place { held: answer.held == 1, at: answer.at as usize })
     }
 
     /// Leaving order and core numbers. Never refuses.

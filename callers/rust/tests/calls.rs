@@ -2,10 +2,10 @@
 //! of every buffer, those past the ones named too. Each test also asserts that it met every number of its call; 15 is proved never to come.
 mod plain;
 
-use kandurzo::ffi::{self, Changed, Difference, Solved, Verdict, Written};
+use kandurzo::ffi::{self, Changed, Difference, Placed, Solved, Verdict, Written};
 use kandurzo::{Head, Pair};
 use plain::buffers::{bytes, from_4_to_5, halves, in_front, pairs, work, work_after, Met, WORK};
-use plain::{Plain, Random};
+use plain::{ends, Plain, Random};
 use std::collections::BTreeSet;
 use std::mem::{align_of, offset_of, size_of};
 
@@ -15,15 +15,17 @@ fn layout() {
         (size_of::<Pair>(), align_of::<Pair>()),
         (size_of::<Head>(), align_of::<Head>()),
         (size_of::<Changed>(), align_of::<Changed>()),
+        (size_of::<Placed>(), align_of::<Placed>()),
         (size_of::<Written>(), align_of::<Written>()),
         (size_of::<Solved>(), align_of::<Solved>()),
         (size_of::<Verdict>(), align_of::<Verdict>()),
         (size_of::<Difference>(), align_of::<Difference>()),
     ];
-    assert_eq!(sizes, [(4, 2), (8, 4), (12, 4), (8, 4), (32, 8), (12, 4), (16, 8)]);
+    assert_eq!(sizes, [(4, 2), (8, 4), (12, 4), (12, 4), (8, 4), (32, 8), (12, 4), (16, 8)]);
     assert_eq!((offset_of!(Pair, a), offset_of!(Pair, b)), (0, 2));
     assert_eq!((offset_of!(Head, n), offset_of!(Head, m)), (0, 4));
     assert_eq!((offset_of!(Changed, number), offset_of!(Changed, head)), (0, 4));
+    assert_eq!((offset_of!(Placed, number), offset_of!(Placed, held), offset_of!(Placed, at)), (0, 4, 8));
     assert_eq!((offset_of!(Written, number), offset_of!(Written, length)), (0, 4));
     assert_eq!((offset_of!(Solved, p), offset_of!(Solved, q), offset_of!(Solved, k)), (4, 8, 12));
     assert_eq!((offset_of!(Solved, coresize), offset_of!(Solved, ratio)), (16, 24));
@@ -42,30 +44,16 @@ fn start() {
     met.are(&[0, 2]);
 }
 
-/// A module for add and remove: mostly of the list, else just past it or far out.
-fn module(random: &mut Random, n: usize) -> u32 {
-    match random.below(12) {
-        0 => n as u32 + random.below(2) as u32,
-        1 => 0x1_0000 + random.below(n) as u32,
-        _ => random.below(n) as u32,
-    }
-}
-
 /// What add (or remove) answers and leaves, by a set of pairs.
 fn edited(adds: bool, head: Head, list: &[Pair], a: u32, b: u32) -> (u32, Head, Vec<Pair>) {
     let refused = |number| (number, head, list.to_vec());
-    if !plain::agree(head, list) {
-        return refused(13);
-    }
-    if a == b {
-        return refused(5);
-    }
-    if a >= head.n || b >= head.n {
-        return refused(4);
+    let first = ends::number(head, list, a, b);
+    if first != 0 {
+        return refused(first);
     }
     let m = head.m as usize;
     let mut held: BTreeSet<Pair> = list[..m].iter().copied().collect();
-    let pair = Pair { a: a.min(b) as u16, b: a.max(b) as u16 };
+    let pair = ends::pair(a, b);
     if adds {
         if held.contains(&pair) {
             return refused(10);
@@ -91,11 +79,7 @@ fn edits(adds: bool, seed: u64) -> Met {
         let full = random.once_in(200);
         let list = if full { plain::uniform(&mut random, 200, 4096) } else { plain::any(&mut random) };
         let (head, mut records) = plain::lent(&mut random, &list);
-        let (mut a, mut b) = (module(&mut random, list.n), module(&mut random, list.n));
-        if !list.pairs.is_empty() && random.once_in(3) {
-            let (x, y) = list.pairs[random.below(list.pairs.len())];
-            (a, b) = if random.once_in(2) { (x as u32, y as u32) } else { (y as u32, x as u32) };
-        }
+        let (a, b) = ends::two(&mut random, &list);
         let (number, new, after) = edited(adds, head, &records, a, b);
         let (mut own, mut lent) = (head, records.clone());
         let (by_value, on_own) = if adds {

@@ -58,6 +58,7 @@ fn refusals_have_numbers_and_texts() {
     assert_eq!((number(tail.add(0, 5)), number(tail.add(2, 2)), number(tail.add(1, 0))), (4, 5, 10));
     assert_eq!((number(tail.remove(0, 5)), number(tail.remove(2, 2)), number(tail.remove(4, 0))), (4, 5, 14));
     assert_eq!((number(tail.add(5, 5)), number(tail.remove(9, 9)), number(tail.add(5, 9))), (5, 5, 4));
+    assert_eq!((number(tail.place(0, 5)), number(tail.place(2, 2)), number(tail.place(5, 5))), (4, 5, 5));
     assert_eq!((number(tail.check(&[1; 4], &[0; 7])), number(tail.check(&[1; 5], &[0; 6]))), (12, 12));
     assert_eq!((number(tail.check(&[0; 5], &[0; 7])), number(tail.surplus(&[1; 5], &[2; 5]))), (7, 7));
     assert_eq!((number(tail.surplus(&[1; 4], &[1; 5])), number(tail.surplus(&[1; 5], &[1; 4]))), (12, 12));

@@ -2,7 +2,7 @@
 mod plain;
 
 use kandurzo::ffi::stack;
-use kandurzo::List;
+use kandurzo::{List, Place};
 use plain::Random;
 use std::thread;
 
@@ -24,7 +24,9 @@ fn each_method_in_a_small_thread() {
         let (a, b) = (a as u32, b as u32);
         assert!(within(stack::START, || List::new(n as u32)).is_ok());
         let mut list = within(stack::READ, || List::read(&file)).unwrap();
+        assert_eq!(within(stack::PLACE, || list.place(b, a)), Ok(Place { held: true, at: m / 2 }));
         assert_eq!(within(stack::REMOVE, || list.remove(a, b)), Ok(()));
+        assert_eq!(within(stack::PLACE, || list.place(a, b)), Ok(Place { held: false, at: m / 2 }));
         assert_eq!(within(stack::ADD, || list.add(b, a)), Ok(()));
         assert_eq!(list.pairs(), drawn.records());
         let scattered = plain::dimacs::lines(&drawn, &mut random).concat();
@@ -43,6 +45,7 @@ fn figures_of_the_header() {
         ("START", stack::START),
         ("ADD", stack::ADD),
         ("REMOVE", stack::REMOVE),
+        ("PLACE", stack::PLACE),
         ("READ", stack::READ),
         ("READ_DIMACS", stack::READ_DIMACS),
         ("WRITE_DIMACS", stack::WRITE_DIMACS),

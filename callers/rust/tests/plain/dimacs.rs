@@ -61,7 +61,7 @@ pub fn read_by(order: [u32; 8], file: &[u8], records: usize) -> Result<Plain, u3
     holds.extend(edges.iter().filter(|&&(at, ..)| at < first).map(|&(at, ..)| (at, 16)));
     let true_at =
         |at, causes: [(u32, bool); 3]| causes.into_iter().filter(|cause| cause.1).map(move |cause| (at, cause.0));
-    holds.extend(true_at(first, [(2, n < 1 || n > 512), (3, m > 4096), (11, m > records)]));
+    holds.extend(true_at(first, [(2, !(1..=512).contains(&n)), (3, m > 4096), (11, m > records)]));
     holds.extend(edges.get(m).map(|&(at, ..)| (at, 17)));
     holds.extend((edges.len() < m).then_some((end, 17)));
     let known = |v| 1 <= v && v <= n;

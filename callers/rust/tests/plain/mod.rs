@@ -3,6 +3,7 @@
 #![allow(dead_code)]
 pub mod buffers;
 pub mod dimacs;
+pub mod ends;
 
 use kandurzo::{Head, Pair};
 use std::collections::BTreeSet;
