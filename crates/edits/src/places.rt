@@ -17,17 +17,16 @@ fn call(len: u32, ask: Ask, head: Head, desk: &mut [u32]) -> Placed {
     lent::place_100(desk, head, ask.a, ask.b)
 }
 
-// 1 where record j of the list is smaller than the pair a,b, else 0.
-fn smaller(desk: &[u32], j: u32, a: u32, b: u32) -> u32 {
+// Whether record j of the list is smaller than the pair a,b.
+fn smaller(desk: &[u32], j: u32, a: u32, b: u32) -> bool {
     let c = desk::word_at(desk, desk::place(0, j));
     let d = desk::word_at(desk, desk::plus(desk::place(0, j), 1));
-    if c < a {
-        return 1;
-    }
-    if a < c {
-        return 0;
-    }
-    if d < b { 1 } else { 0 }
+    if c == a { d < b } else { c < a }
+}
+
+// One more where it is.
+fn counted(desk: &[u32], j: u32, a: u32, b: u32, found: u32) -> u32 {
+    desk::one_more(!smaller(desk, j, a, b), found)
 }
 
 // How many of the list's first m records are smaller.
@@ -35,7 +34,7 @@ fn smaller_ones(desk: &[u32], m: u32, a: u32, b: u32) -> u32 {
     let mut found = 0;
     let mut j = 0;
     while j < m {
-        found = std::num::wrapping_add_u32(found, smaller(desk, j, a, b));
+        found = counted(desk, j, a, b, found);
         j += 1;
     }
     found

@@ -2,16 +2,18 @@
 --   looked-in, looked-held    the records that are looked at: the held ones, where head and list agree
 --   place-asks, place-few     what lookup asks, and that a place is a small number
 --   place-call, place-found   from what the lookup has found to what place answers
---   add-puts-there, remove-takes-there, refused-as-remove, every-pair-placed    the promises
+--   lent-placed               what place answers of a list that is lent
+--   add-puts-there, remove-takes-there, refused-as-remove, every-place-answered    the promises
 -- Assumes nothing.
 use mathlib.Core.Path.{_≡_, refl, sym, ap, _∙_}
 use mathlib.Core.Bool.{Bool, true, false, not, cond}
-use mathlib.Core.List.{List, [], _∷_, _++_}
+use mathlib.Core.List.{List, [], _∷_, _++_, append-assoc, map-append}
+use mathlib.Core.Logic.{_↔_}
 use Prim.Native.Nat.{ℕ, zero, suc, _+_, _≤_, _<_, min, max}
 use native.Mathlib.Omega.{arith}
 use lib.Dec.{eqb}
 use lib.ListN.{length, getD, take, drop, List·getD-map}
-use lib.Seq.{getD-take, take-take, length-take-le}
+use lib.Seq.{getD-take, take-take, length-take-le, getD-append-seam}
 use borrow.Author.Tests.{eqb-true, eqb-false, eq-eqb, ne-eqb, not-false}
 use Rattle.theory.specs.Basics.{mark}
 use Rattle.theory.specs.Lists as Lists
@@ -19,7 +21,7 @@ use Rattle.theory.specs.Lists.{Pairs, pair, stands-before, rising}
 use Rattle.theory.specs.Refusals.{cause, refusal, if-taken}
 use Rattle.theory.proofs.Lists.{listed}
 use Rattle.theory.proofs.Tests.{tests, no, by-test}
-use Rattle.theory.proofs.Refusals.{if-taken-new}
+use Rattle.theory.proofs.Refusals.{refusal-passed, if-taken-new}
 use Rattle.pairs.specs.Held.{same-ends, is-held, place-of, insert-pair, remove-pair, smaller-first-pair}
 use Rattle.pairs.specs.Located.{located}
 use Rattle.pairs.specs.Causes.{self-paired, module-unknown, pair-causes, place-causes}
@@ -30,10 +32,11 @@ use Rattle.records.specs.declared.Head.{Head}
 use Rattle.records.specs.Records.{as-pair, as-pairs, held-list, agrees, blank, Rising-records}
 use Rattle.kandurzo.specs.declared.Changed.{Changed}
 use Rattle.kandurzo.specs.declared.Placed.{Placed}
-use Rattle.kandurzo.specs.Edits.{records-out}
+use Rattle.kandurzo.specs.Edits.{records-out, placed-of}
 use Rattle.kandurzo.specs.Listing.{as-record, as-records, is-full, add-number, added, Add-says, remove-number, removed, Remove-says}
-use Rattle.kandurzo.specs.Placing.{place-number, placed-of, Stands-at, Place-says, Add-puts-there, Remove-takes-there, Refused-as-remove}
-use Rattle.kandurzo.specs.Placing.{Every-pair-placed}
+use Rattle.kandurzo.specs.Placing.{place-number, Stands-at, Place-says, Put-there, Add-puts-there, Taken-there, Remove-takes-there}
+use Rattle.kandurzo.specs.Placing.{Refused-as-remove, Every-place-answered}
+use Rattle.kandurzo.specs.Promise.{Lent}
 use Rattle.kandurzo.proofs.Orders.{first-none, none-first, add-11, add-taken, remove-first, remove-14, remove-taken}
 use Rattle.kandurzo.proofs.Taken.{length-as-pairs, held-few, held-is-list, length-held, held-records, ends-first}
 use Rattle.kandurzo.proofs.Keeping.{add-passed, remove-passed}
@@ -95,7 +98,7 @@ module _ (h : Head) (ps : List Pair) (agreed : agrees h ps ≡ true) where
         λ e. by-test (is-held p (held-list h ps .pairs)) its-record (λ t. absurd (omega (arith, rw t at e))),
         λ x. rw (record-held x),
       );
-      one-or-none = by-test (is-held p (held-list h ps .pairs)) (λ t. rw t (omega arith)) (λ t. rw t (omega arith));
+      one-or-zero = by-test (is-held p (held-list h ps .pairs)) (λ t. rw t (omega arith)) (λ t. rw t (omega arith));
     }
 
 -- ---- the call
@@ -158,8 +161,7 @@ module _ (h : Head) (ps : List Pair) (a b : ℕ) where
 
 records-append : (xs ys : List Lists.Pair) → as-records (xs ++ ys) ≡ as-records xs ++ as-records ys
 unfolding as-records
-records-append [] ys = refl
-records-append (x ∷ xs) ys = ap (λ (zs : List Pair). as-record x ∷ zs) (records-append xs ys)
+records-append xs ys = map-append as-record xs ys
 
 records-take : (i : ℕ) (xs : List Lists.Pair) → as-records (take i xs) ≡ take i (as-records xs)
 unfolding as-records
@@ -172,10 +174,6 @@ unfolding as-records
 records-drop zero xs = refl
 records-drop (suc i) [] = refl
 records-drop (suc i) (x ∷ xs) = records-drop i xs
-
-append-assoc : (xs ys zs : List Pair) → (xs ++ ys) ++ zs ≡ xs ++ (ys ++ zs)
-append-assoc [] ys zs = refl
-append-assoc (x ∷ xs) ys zs = ap (λ (us : List Pair). x ∷ us) (append-assoc xs ys zs)
 
 module _ (h : Head) (ps : List Pair) (a b : ℕ) (r : Placed) (says : Place-says h ps a b r) (z : r .number ≡ 0) where
   abbrev q : Lists.Pair
@@ -231,26 +229,34 @@ module _ (h : Head) (ps : List Pair) (a b : ℕ) (r : Placed) (says : Place-says
       (λ t. add .number ∙ add-11 _ (held-list h ps) _ a b first-open (not-held e) t ∙ rw t)
       (λ t. add .number ∙ add-taken _ (held-list h ps) _ a b first-open (not-held e) t ∙ rw t)
 
-  puts-list : {s : Changed} {ps′ : List Pair} → Add-says h ps a b s ps′ → s .number ≡ 0 →
-      ps′ ≡ take (r .at) ps ++ (as-record q ∷ (drop (r .at) (take (h .m) ps) ++ drop (h .m + 1) ps))
+  puts-list : {s : Changed} {ps′ : List Pair} → Add-says h ps a b s ps′ → s .number ≡ 0 → Put-there h ps q (r .at) ps′
   unfolding added as-records
-  puts-list add e =
+  puts-list {ps′ = ps′} add e =
+      let behind = drop (r .at) (take (h .m) ps) ++ drop (h .m + 1) ps in
+      let list : ps′ ≡ take (r .at) ps ++ (as-record q ∷ behind) =
       add-passed add e .list ∙ ap (λ (us : List Lists.Pair). as-records us ++ drop (h .m + 1) ps) (insert-split q gs)
-      ∙ rw (← at-is) (split-records (q ∷ []) (r .at) (drop (h .m + 1) ps))
+      ∙ rw (← at-is) (split-records (q ∷ []) (r .at) (drop (h .m + 1) ps)) in
+      let short : length (take (r .at) ps) ≡ r .at = length-take-le (r .at) ps (omega (arith, says .stands z .among, held-few h ps agreed)) in
+      let there : getD (take (r .at) ps ++ (as-record q ∷ behind)) (r .at) blank ≡ as-record q =
+      rw short at (getD-append-seam (take (r .at) ps) (as-record q) behind blank) in
+      record { there = ap (λ (us : List Pair). getD us (r .at) blank) list ∙ there; list = list }
 
   -- remove's
   takes-number : {s : Changed} {ps′ : List Pair} → r .held ≡ 1 → Remove-says h ps a b s ps′ → s .number ≡ 0
   unfolding remove-number held-list place-number
   takes-number e remove = remove .number ∙ remove-taken _ (held-list h ps) a b first-open (is-there e)
 
-  takes-list : {s : Changed} {ps′ : List Pair} → r .held ≡ 1 → Remove-says h ps a b s ps′ →
-      ps′ ≡ take (r .at) ps ++ (drop (r .at + 1) (take (h .m) ps) ++ (blank ∷ drop (h .m) ps))
+  takes-list : {s : Changed} {ps′ : List Pair} → r .held ≡ 1 → Remove-says h ps a b s ps′ → Taken-there h ps q (r .at) ps′
   unfolding removed as-records
   takes-list e remove =
       let next : suc (r .at) ≡ r .at + 1 = omega arith in
-      remove-passed remove (takes-number e remove) .list
-      ∙ ap (λ (us : List Lists.Pair). as-records us ++ (blank ∷ drop (h .m) ps)) (remove-split q gs (held-rises h ps agreed) (is-there e))
-      ∙ rw (← at-is, ← next) (split-records [] (suc (r .at)) (blank ∷ drop (h .m) ps))
+      record {
+        there = says .stands z .exactly .0 e .1;
+        list =
+            remove-passed remove (takes-number e remove) .list
+            ∙ ap (λ (us : List Lists.Pair). as-records us ++ (blank ∷ drop (h .m) ps)) (remove-split q gs (held-rises h ps agreed) (is-there e))
+            ∙ rw (← at-is, ← next) (split-records [] (suc (r .at)) (blank ∷ drop (h .m) ps));
+      }
 
 pub add-puts-there : Add-puts-there
 unfolding Add-puts-there
@@ -259,7 +265,7 @@ add-puts-there h ps a b r s ps′ says z e add = (puts-number h ps a b r says z 
 pub remove-takes-there : Remove-takes-there
 unfolding Remove-takes-there
 remove-takes-there h ps a b r s ps′ says z e remove =
-    (takes-number h ps a b r says z e remove, says .stands z .exactly .0 e .1, takes-list h ps a b r says z e remove)
+    (takes-number h ps a b r says z e remove, takes-list h ps a b r says z e remove)
 
 -- ---- refusals, and every list
 
@@ -277,17 +283,18 @@ never-14 d n a b e = go d (self-paired a b) (module-unknown 0 n a b) e
 module _ (h : Head) (ps : List Pair) (a b : ℕ) (r : Placed) (s : Changed) (ps′ : List Pair)
     (says : Place-says h ps a b r) (remove : Remove-says h ps a b s ps′) where
   abbrev As-remove : Type 0
-  As-remove = (r .number ≡ cond (eqb (s .number) 14) 0 (s .number)) × (s .number ≡ 14 → r .held ≡ 0)
+  As-remove = (r .number ≡ cond (eqb (s .number) 14) 0 (s .number)) × ((s .number ≡ 14) ↔ ((r .number ≡ 0) × (r .held ≡ 0)))
 
   -- where place refuses nothing: 14 or 0, as the pair is held
   as-held : r .number ≡ 0 → (t : Bool) → is-held (smaller-first-pair a b) (held-list h ps .pairs) ≡ t → As-remove
   unfolding remove-number held-list place-number mark
   as-held z true e =
       let n : s .number ≡ 0 = remove .number ∙ remove-taken _ (held-list h ps) a b (first-open h ps a b r says z) e in
-      (z ∙ rw n, λ f. absurd (omega (arith, n, f)))
+      let one : r .held ≡ 1 = held-is h ps a b r says z ∙ rw e in
+      (z ∙ rw n, (λ f. absurd (omega (arith, n, f)), λ x. absurd (omega (arith, one, x .1))))
   as-held z false e =
       let n : s .number ≡ 14 = remove .number ∙ remove-14 _ (held-list h ps) a b (first-open h ps a b r says z) e in
-      (z ∙ rw n, λ f. held-is h ps a b r says z ∙ rw e)
+      (z ∙ rw n, (λ f. (z, held-is h ps a b r says z ∙ rw e), λ x. n))
 
   -- and where it refuses: the same number
   as-refused : (r .number ≡ 0 → ⊥) → As-remove
@@ -296,7 +303,7 @@ module _ (h : Head) (ps : List Pair) (a b : ℕ) (r : Placed) (s : Changed) (ps�
       let n : s .number ≡ r .number =
       remove .number ∙ remove-first _ (held-list h ps) a b (λ z. some (says .number ∙ z)) ∙ sym (says .number) in
       let other : s .number ≡ 14 → ⊥ = λ e. never-14 _ (h .n) a b (sym (says .number) ∙ sym n ∙ e) in
-      (sym n ∙ rw (ne-eqb (s .number) 14 other), λ e. absurd (other e))
+      (sym n ∙ rw (ne-eqb (s .number) 14 other), (λ e. absurd (other e), λ x. absurd (some (x .0))))
 
 pub refused-as-remove : Refused-as-remove
 unfolding Refused-as-remove
@@ -304,9 +311,24 @@ refused-as-remove h ps a b r s ps′ says remove =
     by-test (eqb (r .number) 0) (λ t. as-held h ps a b r s ps′ says remove (eqb-true _ 0 t) _ refl)
     (λ t. as-refused h ps a b r s ps′ says remove (eqb-false _ 0 t))
 
-pub every-pair-placed : Every-pair-placed
-unfolding Every-pair-placed
-every-pair-placed g h ps a b r lent l n d says =
+-- what place answers of a list that is lent
+pub lent-placed : {g : Pairs} {h : Head} {ps : List Pair} (a b : ℕ) {r : Placed} → Lent g h ps → Place-says h ps a b r →
+    let p = smaller-first-pair a b in r ≡ placed-of (refusal (pair-causes 0 (g .n) a b)) (is-held p (g .pairs)) (place-of p (g .pairs))
+unfolding place-number placed-of
+lent-placed {g} {h} {ps} a b {r} lent says =
+    let p = smaller-first-pair a b in
+    let g-is : held-list h ps ≡ g = lent-list lent in
+    let k : r .number ≡ refusal (pair-causes 0 (g .n) a b) =
+    says .number ∙ refusal-passed 13 (not (agrees h ps)) (pair-causes 0 (h .n) a b) (rw (lent-agrees lent)) ∙ rw (n-is lent) in
+    λ i. record {
+      number = k i;
+      held = (says .held ∙ λ j. if-taken (k j) (mark (is-held p (g-is j .pairs))) 0) i;
+      at = (says .at ∙ λ j. if-taken (k j) (place-of p (g-is j .pairs)) 0) i;
+    }
+
+pub every-place-answered : Every-place-answered
+unfolding Every-place-answered
+every-place-answered g h ps a b r lent l n d says =
     let e : held-list h ps ≡ g = lent-list lent in
     let none : place-number h ps a b ≡ 0 =
     unfold place-number held-list in ends-first h ps a b (lent-agrees lent) (omega (arith, l, n-is lent)) (omega (arith, n, n-is lent)) d in

@@ -6,7 +6,7 @@
 --   arrival-traceless, any-order-taken, every-list-added, same-pairs-same-records, add-undone    the order of arrival
 --   every-file-read, read-exact    read
 --   five-before-four, otherwise-as-before    5 before 4
---   add-puts-there, remove-takes-there, refused-as-remove, every-pair-placed    where a pair stands
+--   add-puts-there, remove-takes-there, refused-as-remove, every-place-answered    where a pair stands
 --   every-list-written, written-read, read-rewritten, comments-unread, read-dimacs-exact, every-dimacs-read    read_dimacs and write_dimacs
 -- Assumes nothing.
 use Rattle.kandurzo.specs.Promise.{Lent-held, Every-list-peeled, Every-list-solved, Every-list-judged, Every-list-compared, Refusals-keep, Unsplit-never}
@@ -15,7 +15,7 @@ use Rattle.kandurzo.specs.Keeping.{Held-once, Either-way-round, Add-exac
 use Rattle.kandurzo.specs.Keeping.{Arrival-traceless, Any-order-taken, Every-list-added, Same-pairs-same-records, Add-undone}
 use Rattle.kandurzo.specs.Keeping.{Every-file-read, Read-exact}
 use Rattle.kandurzo.specs.Twice.{Five-before-four, Otherwise-as-before}
-use Rattle.kandurzo.specs.Placing.{Add-puts-there, Remove-takes-there, Refused-as-remove, Every-pair-placed}
+use Rattle.kandurzo.specs.Placing.{Add-puts-there, Remove-takes-there, Refused-as-remove, Every-place-answered}
 use Rattle.kandurzo.specs.Exchange.{Every-list-written, Written-read, Read-rewritten, Comments-unread, Read-dimacs-exact, Every-dimacs-read}
 use Rattle.kandurzo.proofs.Readings.{reads-file, reads-dimacs}
 use Rattle.kandurzo.proofs.Exchanges as exchange
@@ -147,8 +147,8 @@ remove-takes-there = placing.remove-takes-there
 pub refused-as-remove : Refused-as-remove
 refused-as-remove = placing.refused-as-remove
 
-pub every-pair-placed : Every-pair-placed
-every-pair-placed = placing.every-pair-placed
+pub every-place-answered : Every-place-answered
+every-place-answered = placing.every-place-answered
 
 -- ---- read_dimacs and write_dimacs
 

@@ -1,15 +1,17 @@
--- What add and remove do on words, between the records' way out and their way back.
+-- What add and remove do on words, between the records' way out and their way back; and how place answers.
 --   records-out                   how many records go out to words: none where 13 is the answer
 --   Ready                         what is known of the words where head and list agree
 --   edit-of                       an answer: the number, the head after it, and how many records come back
 --   pair-place                    where a pair stands or would go
 --   add-on-number, add-edit, add-words           add
 --   remove-on-number, remove-edit, remove-words  remove
+--   placed-of                     place
 -- Assumes nothing: these are definitions.
 use mathlib.Core.Path.{_≡_}
 use mathlib.Core.Bool.{Bool, true, not, cond}
 use mathlib.Core.List.{List}
 use Prim.Native.Nat.{ℕ, _+_, _-_, _≤_}
+use Rattle.theory.specs.Basics.{mark}
 use Rattle.theory.specs.Words.{laid-pairs, laid-list, Holds-list}
 use Rattle.theory.specs.Refusals.{refusal, if-taken}
 use Rattle.pairs.specs.Held.{place-of, smaller-first-pair}
@@ -17,6 +19,7 @@ use Rattle.pairs.specs.Causes.{add-causes, remove-causes}
 use Rattle.pairs.specs.Shifts.{insert-at, delete-at}
 use Rattle.records.specs.declared.Head.{Head}
 use Rattle.kandurzo.specs.declared.Edit.{Edit}
+use Rattle.kandurzo.specs.declared.Placed.{Placed}
 use Rattle.kandurzo.specs.Listing.{head-of, is-full}
 
 -- how many records go out to words
@@ -64,3 +67,9 @@ remove-edit h t ws a b = edit-of h (remove-on-number h t ws a b) (head-of (h .n)
 -- the pair taken out; the words freed at the end become 0
 unfoldable pub remove-words : Head → (agreed : Bool) → (words : List ℕ) → (a b : ℕ) → List ℕ
 remove-words h t ws a b = if-taken (remove-on-number h t ws a b) (delete-at (h .m) (pair-place h ws a b) ws) ws
+
+-- ---- place
+
+-- the number, 1 or 0 for held, and the place; 0 and 0 beside a refusal
+unfoldable pub placed-of : (number : ℕ) → (held : Bool) → (at : ℕ) → Placed
+placed-of k t i = record { number = k; held = if-taken k (mark t) 0; at = if-taken k i 0 }

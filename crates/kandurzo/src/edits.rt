@@ -38,7 +38,7 @@ fn refused(number: u32, head: Head) -> Edit
     }
 }
 
-// The refusals that come first in both, and are all that place has: 13, 5, 4.
+// The refusals that come first in add and remove, and are all that place has: 13, 5, 4.
 pub(crate) fn first_number(head: Head, agreed: bool, a: u32, b: u32) -> u32
     ensures { λ r. ⌜ r ≡ refusal (place-causes (not agreed) (head .n) a b) ⌝ }
 {

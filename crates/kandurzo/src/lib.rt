@@ -53,7 +53,7 @@ pub struct Changed {
     pub head: Head,
 }
 
-// What place answers: the refusal number or 0; 1 where the pair is held, else 0; and its place, or where it would go.
+// What place answers: the refusal number or 0; 1 where the pair is held, else 0; and its place, or where it would go. Both are 0 beside a refusal.
 #[repr(C)]
 pub struct Placed {
     pub number: u32,

@@ -4,7 +4,7 @@ ghost use mathlib.Core.Bool.{not};
 ghost use Prim.Native.Nat.{_≤_};
 ghost use Rattle.theory.specs.Refusals.{refusal};
 ghost use Rattle.pairs.specs.Causes.{place-causes};
-ghost use Rattle.kandurzo.specs.Placing.{placed-of};
+ghost use Rattle.kandurzo.specs.Edits.{placed-of};
 use crate::Placed;
 use crate::edits::first_number;
 use numbers::pick;

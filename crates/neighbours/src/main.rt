@@ -15,16 +15,16 @@ fn read_file(path: &[u8], file: &mut [u8]) -> usize
         return 0;
     }
     let n = io::read_full(fd, file);
-    let whole = n == file.len() || at_end(fd);
-    if !whole {
+    let taken = n == file.len() || readable(fd);
+    if !taken {
         os::fail(path);
     }
     libc::close(fd);
-    if whole { n } else { 0 }
+    if taken { n } else { 0 }
 }
 
 // Whether one read more does not fail: io::read_full stops at a failed read as at the file's end, and does not say which it was.
-fn at_end(fd: i32) -> bool {
+fn readable(fd: i32) -> bool {
     let mut next = [0u8; 1];
     libc::read(fd, &mut next) >= 0
 }

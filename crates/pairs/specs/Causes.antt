@@ -1,9 +1,9 @@
--- Document 01, "Numbers from the input" and "from the state": when add and remove refuse, in their orders; document 02, item 2: 5 before 4.
+-- Document 01, "Numbers from the input" and "from the state": when add and remove refuse, in their orders; document 02, item 2: 5 before 4; item 3: place.
 --   is-module, module-unknown, self-paired    whether a number is a module's, as a list or a file numbers them; the conditions of 4 and 5
---   pair-causes     what add, remove and both readers refuse of two module numbers: 5, 4
+--   pair-causes     what add, remove, place and both readers refuse of two module numbers: 5, 4
+--   place-causes    13, 5, 4
 --   add-causes      13, 5, 4, 10, 11
 --   remove-causes   13, 5, 4, 14
---   place-causes    13, 5, 4
 -- Assumes nothing: these are definitions.
 use mathlib.Core.Bool.{Bool, _&&_, not}
 use mathlib.Core.List.{List, [], _∷_, _++_}
@@ -25,20 +25,19 @@ module-unknown lowest n a b = not (is-module lowest n a && is-module lowest n b)
 unfoldable pub self-paired : (a b : ℕ) → Bool
 self-paired a b = eqb a b
 
--- of two module numbers 5, then 4 (document 02, item 2): the order that add, remove and both readers share
+-- of two module numbers 5, then 4 (document 02, item 2): the order that add, remove, place and both readers share
 unfoldable pub pair-causes : (lowest n a b : ℕ) → List Cause
 pair-causes lowest n a b = cause 5 (self-paired a b) ∷ cause 4 (module-unknown lowest n a b) ∷ []
 
--- ADD of modules a and b to a list; 13 where head and list disagree, 11 where no record is free
+-- PLACE of modules a and b in a list of n modules (document 02, item 3): as remove, except by 14. 13 where head and list disagree
+abbrev pub place-causes : (disagree : Bool) → (n a b : ℕ) → List Cause
+place-causes disagree n a b = cause 13 disagree ∷ pair-causes 0 n a b
+
+-- ADD of modules a and b to a list; 11 where no record is free
 unfoldable pub add-causes : (disagree : Bool) → Pairs → (full : Bool) → (a b : ℕ) → List Cause
 add-causes disagree g full a b =
-    cause 13 disagree ∷ (pair-causes 0 (g .n) a b ++ (cause 10 (is-held (smaller-first-pair a b) (g .pairs)) ∷ cause 11 full ∷ []))
+    place-causes disagree (g .n) a b ++ (cause 10 (is-held (smaller-first-pair a b) (g .pairs)) ∷ cause 11 full ∷ [])
 
 -- REMOVE of modules a and b from a list
 unfoldable pub remove-causes : (disagree : Bool) → Pairs → (a b : ℕ) → List Cause
-remove-causes disagree g a b =
-    cause 13 disagree ∷ (pair-causes 0 (g .n) a b ++ (cause 14 (not (is-held (smaller-first-pair a b) (g .pairs))) ∷ []))
-
--- PLACE of modules a and b in a list of n modules: as remove, except by 14 (document 02, item 3)
-abbrev pub place-causes : (disagree : Bool) → (n a b : ℕ) → List Cause
-place-causes disagree n a b = cause 13 disagree ∷ pair-causes 0 n a b
+remove-causes disagree g a b = place-causes disagree (g .n) a b ++ (cause 14 (not (is-held (smaller-first-pair a b) (g .pairs))) ∷ [])

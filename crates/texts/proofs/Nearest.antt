@@ -4,11 +4,11 @@
 --   nearest-at                               a record is the nearest on its side
 --   predecessor-nearest, successor-nearest   those that are shown are
 --   pair-turned, list-turned                 the text of two numbers, and of two arguments, in the other order
---   neighbours-nearest, neighbours-round     the promises of specs/Neighbours.antt
+--   neighbours-nearest, neighbours-placed, neighbours-round    the promises of specs/Neighbours.antt
 -- Assumes nothing.
 use mathlib.Core.Path.{_≡_, refl, sym, ap, _∙_}
 use mathlib.Core.Bool.{Bool, true, false, _&&_}
-use mathlib.Core.List.{List}
+use mathlib.Core.List.{List, _++_}
 use mathlib.Core.Option.{Option, none, some}
 use Prim.Native.Nat.{ℕ, zero, suc, _+_, _<_}
 use native.Mathlib.Omega.{arith}
@@ -17,6 +17,7 @@ use lib.Dec.{ltb}
 use lib.ListN.{length, getD, getElem?}
 use Rattle.theory.specs.Basics.{mark}
 use Rattle.theory.specs.Lists.{Pair, Pairs, stands-before, rising}
+use Rattle.theory.specs.Refusals.{refusal, if-taken}
 use Rattle.theory.proofs.Lists.{listed}
 use Rattle.theory.proofs.Tests.{tests, no, fails, by-test}
 use Rattle.pairs.specs.Held.{is-held, place-of, smaller-first-pair}
@@ -24,7 +25,11 @@ use Rattle.pairs.specs.Located.{located}
 use Rattle.pairs.proofs.Causes.{pair-round, causes-round}
 use Rattle.pairs.proofs.Order.{same-refl, same-before, same-not-before, before-not-after, order-cases}
 use Rattle.pairs.proofs.Rising.{rising-at, place-le, place-before, place-is, place-from, held-at, held-place}
+use Rattle.pairs.specs.Causes.{pair-causes}
 use Rattle.lines.specs.Outcomes.{Outcome, refused, taken}
+use Rattle.kandurzo.specs.declared.Placed.{Placed}
+use Rattle.kandurzo.specs.Edits.{placed-of}
+use Rattle.kandurzo.proofs.Placings.{lent-placed}
 use Rattle.pairfile.specs.File.{read-file}
 use Rattle.pairfile.specs.Promise.{Reads-lists}
 use Rattle.pairfile.proofs.Promises.{reads-lists}
@@ -34,6 +39,9 @@ use Rattle.texts.specs.Neighbours.{
   record-before,
   predecessor,
   successor,
+  before-form,
+  after-form,
+  record-line,
   place-text,
   pair-placed,
   printed,
@@ -42,9 +50,10 @@ use Rattle.texts.specs.Neighbours.{
   stands-after,
   Nearest,
   Neighbours-nearest,
+  Neighbours-placed,
   Neighbours-round,
 }
-use Rattle.texts.proofs.Places.{entry-some, entry-none, pair-shown, first-none, second-none, both-named}
+use Rattle.texts.proofs.Places.{entry-some, entry-none, pair-refused, pair-shown, first-none, second-none, both-named}
 
 -- ---- places in a rising list
 
@@ -153,11 +162,28 @@ neighbours-nearest file first second g a b e f s z =
       before = predecessor (located p (g .pairs)) (g .pairs);
       after = successor (located p (g .pairs)) (g .pairs);
       is = rw e (both-named first second g f s ∙ pair-shown g a b z);
-      within = place-le p (g .pairs);
-      parts = entry-before (g .pairs) up p;
+      among = place-le p (g .pairs);
+      smaller = λ i l. place-before p (g .pairs) i p l;
+      none-smaller = λ i l h. place-from p (g .pairs) i p up l h;
       before-nearest = predecessor-nearest (g .pairs) up p;
       after-nearest = successor-nearest (g .pairs) up p;
     }
+
+pub neighbours-placed : Neighbours-placed
+unfolding Neighbours-placed neighbours-printed converted place-text located placed-of if-taken
+neighbours-placed file first second g a b h ps r e f s lent says =
+    let is = lent-placed a b lent says in
+    let l = located (smaller-first-pair a b) (g .pairs) in
+    let k : r .number ≡ refusal (pair-causes 0 (g .n) a b) = ap (λ (x : Placed). x .number) is in (
+      λ some. rw e (both-named first second g f s ∙ pair-refused g a b k some),
+      λ z.
+          let taken : refusal (pair-causes 0 (g .n) a b) ≡ 0 = sym k ∙ z in
+          let held : r .held ≡ mark (l .held) = rw taken at (ap (λ (x : Placed). x .held) is) in
+          let at : r .at ≡ l .at = rw taken at (ap (λ (x : Placed). x .at) is) in (
+            record-line before-form (predecessor l (g .pairs)) ++ record-line after-form (successor l (g .pairs)),
+            rw (e, held, at) (both-named first second g f s ∙ pair-shown g a b taken),
+          ),
+    )
 
 -- the two numbers in the other order
 pair-turned : (g : Pairs) (a b : ℕ) → pair-placed g a b ≡ pair-placed g b a

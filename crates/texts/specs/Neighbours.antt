@@ -8,6 +8,7 @@
 --   Neighbours-read                             what is right of whatever pair file was read
 --   stands-after, Nearest, Shown                the records nearest to a pair, and a text that shows them and the pair's place
 --   Neighbours-nearest, Neighbours-round        the text shows the nearest records; the modules may be named in either order
+--   Neighbours-placed                           number, held and place are what the call place answers
 --   module-in                                   what argument_number answers
 -- proofs/Nearest.antt has a theorem for each promise, of the same name in small letters. Assumes nothing: these are definitions.
 use mathlib.Core.Path.{_≡_}
@@ -15,7 +16,7 @@ use mathlib.Core.Bool.{Bool, true, false, _&&_, cond}
 use mathlib.Core.List.{List, [], _∷_, _++_}
 use mathlib.Core.Option.{Option, none, some}
 use Prim.Native.Nat.{ℕ, zero, suc, _+_, _≤_, _<_}
-use lib.Dec.{ltb, eqb}
+use lib.Dec.{eqb}
 use lib.ListN.{length, getD, getElem?}
 use Rattle.theory.specs.Basics.{mark}
 use Rattle.theory.specs.Lists.{Pair, Pairs, stands-before}
@@ -29,6 +30,11 @@ use Rattle.lines.specs.Numbers.{Number, number-of}
 use Rattle.lines.specs.Lines.{filled}
 use Rattle.lines.specs.Outcomes.{Outcome, refused, taken, _>>=_, _>>_, judge}
 use Rattle.pairfile.specs.File.{read-file}
+use Rattle.records.specs.declared.Pair.{Pair as Record}
+use Rattle.records.specs.declared.Head.{Head}
+use Rattle.kandurzo.specs.declared.Placed.{Placed}
+use Rattle.kandurzo.specs.Placing.{Place-says}
+use Rattle.kandurzo.specs.Promise.{Lent}
 use Rattle.texts.specs.Texts.{refusal-text}
 use Rattle.texts.specs.Contracts.{Read-of}
 use Rattle.texts.specs.Converted.{converted}
@@ -138,9 +144,11 @@ pub record Shown (p : Pair) (ps : List Pair) (text : List ℕ) : Type 0 where
   pub before : Option Pair
   pub after : Option Pair
   pub is : text ≡ filled place-form (mark (is-held p ps) ∷ place ∷ []) ++ (record-line before-form before ++ record-line after-form after)
-  -- all records before the place are smaller than p, and none from there on is
-  pub within : place ≤ length ps
-  pub parts : (i : ℕ) → i < length ps → stands-before (getD ps i p) p ≡ ltb i place
+  -- counted from 0 among the records: all before it are smaller than p,
+  pub among : place ≤ length ps
+  pub smaller : (i : ℕ) → i < place → stands-before (getD ps i p) p ≡ true
+  -- and none from there on is
+  pub none-smaller : (i : ℕ) → place ≤ i → i < length ps → stands-before (getD ps i p) p ≡ false
   -- the records shown are the nearest
   pub before-nearest : Nearest stands-before p ps before
   pub after-nearest : Nearest stands-after p ps after
@@ -151,6 +159,14 @@ Neighbours-nearest =
     (file first second : List ℕ) (g : Pairs) (a b : ℕ) → read-file 4096 file ≡ taken g →
     argument-number first ≡ some a → argument-number second ≡ some b → refusal (pair-causes 0 (g .n) a b) ≡ 0 →
     Shown (smaller-first-pair a b) (g .pairs) (neighbours-printed file first second)
+
+-- WHAT `neighbours` PRINTS IS WHAT PLACE ANSWERS of that list where it is lent: the number alone, or else held and the place
+unfoldable pub Neighbours-placed : Type 0
+Neighbours-placed =
+    (file first second : List ℕ) (g : Pairs) (a b : ℕ) (h : Head) (ps : List Record) (r : Placed) → read-file 4096 file ≡ taken g →
+    argument-number first ≡ some a → argument-number second ≡ some b → Lent g h ps → Place-says h ps a b r →
+    ((r .number ≡ 0 → ⊥) → neighbours-printed file first second ≡ refusal-text (r .number))
+    × (r .number ≡ 0 → (rest : List ℕ) × (neighbours-printed file first second ≡ filled place-form (r .held ∷ r .at ∷ []) ++ rest))
 
 -- THE MODULES MAY BE NAMED IN EITHER ORDER
 unfoldable pub Neighbours-round : Type 0

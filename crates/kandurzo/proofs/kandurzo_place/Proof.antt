@@ -45,8 +45,8 @@ use Rattle.numbers.proofs.greater.Symbol as greater
 use Rattle.numbers.proofs.greater.Met as greater-thm
 use Rattle.pairs.proofs.Place as L
 use Rattle.kandurzo.specs.declared.Placed.{Placed}
-use Rattle.kandurzo.specs.Edits.{records-out}
-use Rattle.kandurzo.specs.Placing.{placed-of, Place-says}
+use Rattle.kandurzo.specs.Edits.{records-out, placed-of}
+use Rattle.kandurzo.specs.Placing.{Place-says}
 use Rattle.kandurzo.proofs.Types.{head-sort, pair-sort, plain-placed}
 use Rattle.kandurzo.proofs.Placings.{place-asks, place-few, place-found}
 use Rattle.kandurzo.proofs.Placed as D

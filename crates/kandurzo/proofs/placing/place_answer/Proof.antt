@@ -4,7 +4,7 @@ use borrow.Author.Needs.{needs}
 use borrow.Author.Tests.{ne-eqb, eq-eqb}
 use Rattle.theory.specs.Basics.{mark}
 use Rattle.theory.specs.Refusals.{if-taken}
-use Rattle.kandurzo.specs.Placing.{placed-of}
+use Rattle.kandurzo.specs.Edits.{placed-of}
 use Rattle.kandurzo.proofs.placing.place_answer.Statement.{statement}
 use Rattle.kandurzo.proofs.placing.place_answer.Tie as tie
 
