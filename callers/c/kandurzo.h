@@ -122,8 +122,8 @@ uint32_t kandurzo_add_to(kandurzo_head_t *head, kandurzo_pair_t *list, size_t le
 uint32_t kandurzo_remove_from(kandurzo_head_t *head, kandurzo_pair_t *list, size_t length, uint32_t a, uint32_t b);
 
 /* Place: whether the pair of modules a and b, in either order, is held, and its place, or the place where it would go. Counted from 0 among the M held
- * records: all before it are smaller, and none from there on is; it is M where all M are smaller. Where the pair is not held, add puts it there; where it
- * is, remove takes the record there. Changes nothing. Refuses by 13, 5, 4. */
+ * records: all before it are smaller, and none from there on is; it is M where all M are smaller. Where the pair is not held, add puts it there (or refuses
+ * by 11, where no record is free); where it is, remove takes the record there. Changes nothing. Refuses by 13, 5, 4. */
 kandurzo_placed_t kandurzo_place(kandurzo_head_t head, const kandurzo_pair_t *list, size_t length, uint32_t a, uint32_t b);
 
 /* Read: a pair file, which is `modules=N`, `pairs=M` and M lines `pair=A,B`, each ended by LF. Makes a new head and writes the first M records. Wants

@@ -1,5 +1,6 @@
 -- Document 02, item 2: a line with a module twice is a typing fault. 5 now comes before 4 in add, remove and both readers, and so in place (item 3), which
--- refuses as remove does, except by 14. Only the answers for a module of number N or more paired with itself change, from 4 to 5. A DIMACS `e 0 0` becomes 5 too.
+-- refuses as remove does, except by 14. Only the answers for a module of number N or more paired with itself change, from 4 to 5. A DIMACS `e 0 0` becomes
+-- 5 too.
 --   Unrefused              what is lent to a reader, and the lines of a file up to one, give no number
 --   Five-before-four       a module paired with itself gives 5, be it one of the list's or not; two different modules give 4 where the list lacks one
 --   Otherwise-as-before    the numbers of add and remove, and of a line of either file, beside those of the old orders, 4 before 5

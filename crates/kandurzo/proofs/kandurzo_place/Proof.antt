@@ -162,4 +162,9 @@ kandurzo-place-spec 𝓤 H 𝓜 𝓖 𝓡 =
     states 𝓤 H 𝓜 𝓖 𝓡 code.env f.ended (kinds-of forms) (f.clauses 𝓤 H (𝓖 .A) (𝓜 .mem) (𝓡 .run)) key.name code.function (code.unfolded 𝓤 H 𝓜 𝓡)
     (λ κs qs bounds a g are ends.
     walk 𝓤 H 𝓜 𝓖 𝓡 κs qs a are _ (λ v zs fit. ends _ v zs fit) (λ bs. tt)
-    (λ bs. (tt, refl, λ _. (tt, (tt, refl, λ _. (tt, (tt, refl, λ _. (tt, (tt, refl, λ _. (tt, (tt, refl, λ _. (tt, (tt, refl, λ _. (tt, (tt, refl)))))))))))))))
+    (λ bs. (
+      tt,
+      refl,
+      λ _.
+          (tt, (tt, refl, λ _. (tt, (tt, refl, λ _. (tt, (tt, refl, λ _. (tt, (tt, refl, λ _. (tt, (tt, refl, λ _. (tt, (tt, refl)))))))))))),
+    )))

@@ -178,7 +178,9 @@ module _ {M : Type 1} (𝓤 : URA M) (H : Heap 𝓤) (A : Atoms 𝓤) (W : Given
           ∷ by-value u32 (plain-word W) a (refl, a-fits) ∷ by-value u32 (plain-word W) b (refl, b-fits) ∷ []
 
       abbrev more : Fits S.the-row (plain-search W) next → State
-      more fits = (next, (fits, known-more p held (i .1 .1) (asked .rises) l (as-pair r) (ap (λ (x : Lists.Pair). x .a) r-is) (ap (λ (x : Lists.Pair). x .b) r-is)))
+      more fits =
+          let same = (ap (λ (x : Lists.Pair). x .a) r-is, ap (λ (x : Lists.Pair). x .b) r-is) in
+          (next, (fits, known-more p held (i .1 .1) (asked .rises) l (as-pair r) (same .0) (same .1)))
 
     ended : (i : State) → i .0 .high ≤ i .0 .low → Sq W (At i) (runs C Λ E body.t-3 (atRet E Post))
     ended i over =
@@ -199,7 +201,8 @@ module _ {M : Type 1} (𝓤 : URA M) (H : Heap 𝓤) (A : Atoms 𝓤) (W : Given
         (typed-as (plain-pair W) (r i l) (r-fits i l)) $
         calls-outright ! fm (look-args i l) S.the-row (plain-search W) (fact 𝓤 (Looks (i .0))) (λ r′ us. r′ ≡ next i l) refl
         (factI 𝓤 _ (emp 𝓤) (looks i l)) (λ ks. known .looks (bound (look-args i l) ks, tt)) (next i l) (tt, (tt, (tt, (tt, tt)))) (λ r′ us e. (e, refl))
-        (and-then ! (var ! (2 + 5) refl) (and-then ! (var ! (2 + 10) refl) (and-then ! (var ! (2 + 3) refl) (and-then ! (var ! (2 + 4) refl) (no-more !))))) (λ fits _.
+        (and-then ! (var ! (2 + 5) refl) (and-then ! (var ! (2 + 10) refl) (and-then ! (var ! (2 + 3) refl) (and-then ! (var ! (2 + 4) refl) (no-more !)))))
+        (λ fits _.
         lands-in ! (2 + 6) empty (typed-as (plain-search W) (next i l) fits) $
         sets-last ! (2 + 5) full (of-opd ! (var ! (2 + 6) refl)) (typed-as (plain-search W) (next i l) fits) $ clears ! E (λ j. ltb 0 j) 2 6 _ refl $
         on (more i l fits) (known-nearer p held (i .1 .1) l (as-pair (r i l))))) ended
@@ -207,7 +210,8 @@ module _ {M : Type 1} (𝓤 : URA M) (H : Heap 𝓤) (A : Atoms 𝓤) (W : Given
   walk : ent 𝓤 (onEntry 𝓤 H A f.signature κs qs (entry pars .3) (entry pars .4)) (WpFn 𝓤 H C Λ code.function (passed pars) Post)
   walk = begins C Λ code.function Post pars (λ bs. (fit-slice (room .0), (num m-fits, (num a-fits, (num b-fits, tt))))) (λ bs os.
       knows-row ! 0 (pair-row W (os .0) (list .ptr .0) (list .ptr .1)) ps refl (λ good.
-      calls-outright ! fm begin-args S.the-row (plain-search W) (emp 𝓤) (λ r us. r ≡ search-of m) refl (id⊢ 𝓤 _) (λ ks. known .begins (bound begin-args ks, tt))
+      calls-outright ! fm begin-args S.the-row (plain-search W) (emp 𝓤) (λ r us. r ≡ search-of m) refl (id⊢ 𝓤 _)
+      (λ ks. known .begins (bound begin-args ks, tt))
       (search-of m) (tt, tt) (λ r us e. (e, refl)) (and-then ! (var ! (2 + 2) refl) (no-more !)) (λ fits _.
       lands-in ! (2 + 5) empty (typed-as (plain-search W) (search-of m) fits) $
       loop-on (os .0) bs good (search-of m, (fits, rw length-held at (known-start p held))))))
