@@ -177,10 +177,12 @@ module _ {M : Type 1} (𝓤 : URA M) (H : Heap 𝓤) (A : Atoms 𝓤) (W : Given
       look-args = by-value S.the-row (plain-search W) (i .0) (i .1 .0) ∷ by-value P.the-row (plain-pair W) r r-fits
           ∷ by-value u32 (plain-word W) a (refl, a-fits) ∷ by-value u32 (plain-word W) b (refl, b-fits) ∷ []
 
+      known-next : Known p held next
+      known-next =
+          known-more p held (i .1 .1) (asked .rises) l (as-pair r) (ap (λ (x : Lists.Pair). x .a) r-is) (ap (λ (x : Lists.Pair). x .b) r-is)
+
       abbrev more : Fits S.the-row (plain-search W) next → State
-      more fits =
-          let same = (ap (λ (x : Lists.Pair). x .a) r-is, ap (λ (x : Lists.Pair). x .b) r-is) in
-          (next, (fits, known-more p held (i .1 .1) (asked .rises) l (as-pair r) (same .0) (same .1)))
+      more fits = (next, (fits, known-next))
 
     ended : (i : State) → i .0 .high ≤ i .0 .low → Sq W (At i) (runs C Λ E body.t-3 (atRet E Post))
     ended i over =
