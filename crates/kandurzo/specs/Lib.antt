@@ -9,7 +9,7 @@ pub mod Peeling
 pub mod Judging
 pub mod Solving
 pub mod Promise
-pub mod Placing
 pub mod Keeping
 pub mod Twice
+pub mod Placing
 pub mod Exchange

@@ -53,7 +53,7 @@ use Rattle.texts.specs.Neighbours.{
   Neighbours-placed,
   Neighbours-round,
 }
-use Rattle.texts.proofs.Places.{entry-some, entry-none, pair-refused, pair-shown, first-none, second-none, both-named}
+use Rattle.texts.proofs.Places.{entry-some, entry-none, pair-refused, pair-shown, neighbours-as, first-none, second-none, both-named}
 
 -- ---- places in a rising list
 
@@ -153,7 +153,7 @@ module _ (ps : List Pair) (up : rising ps ≡ true) where
 -- ---- the promises
 
 pub neighbours-nearest : Neighbours-nearest
-unfolding Neighbours-nearest neighbours-printed converted place-text located Reads-lists
+unfolding Neighbours-nearest converted place-text located Reads-lists
 neighbours-nearest file first second g a b e f s z =
     let p = smaller-first-pair a b in
     let up : rising (g .pairs) ≡ true = listed g (reads-lists 4096 file g e .list) .rises in
@@ -161,7 +161,7 @@ neighbours-nearest file first second g a b e f s z =
       place = place-of p (g .pairs);
       before = predecessor (located p (g .pairs)) (g .pairs);
       after = successor (located p (g .pairs)) (g .pairs);
-      is = rw e (both-named first second g f s ∙ pair-shown g a b z);
+      is = neighbours-as file first second ∙ rw e (both-named first second g f s ∙ pair-shown g a b z);
       among = place-le p (g .pairs);
       smaller = λ i l. place-before p (g .pairs) i p l;
       none-smaller = λ i l h. place-from p (g .pairs) i p up l h;
@@ -170,18 +170,18 @@ neighbours-nearest file first second g a b e f s z =
     }
 
 pub neighbours-placed : Neighbours-placed
-unfolding Neighbours-placed neighbours-printed converted place-text located placed-of if-taken
+unfolding Neighbours-placed converted place-text located placed-of if-taken
 neighbours-placed file first second g a b h ps r e f s lent says =
     let is = lent-placed a b lent says in
     let l = located (smaller-first-pair a b) (g .pairs) in
     let k : r .number ≡ refusal (pair-causes 0 (g .n) a b) = ap (λ (x : Placed). x .number) is in (
-      λ some. rw e (both-named first second g f s ∙ pair-refused g a b k some),
+      λ some. neighbours-as file first second ∙ rw e (both-named first second g f s ∙ pair-refused g a b k some),
       λ z.
           let taken : refusal (pair-causes 0 (g .n) a b) ≡ 0 = sym k ∙ z in
           let held : r .held ≡ mark (l .held) = rw taken at (ap (λ (x : Placed). x .held) is) in
           let at : r .at ≡ l .at = rw taken at (ap (λ (x : Placed). x .at) is) in (
             record-line before-form (predecessor l (g .pairs)) ++ record-line after-form (successor l (g .pairs)),
-            rw (e, held, at) (both-named first second g f s ∙ pair-shown g a b taken),
+            neighbours-as file first second ∙ rw (e, held, at) (both-named first second g f s ∙ pair-shown g a b taken),
           ),
     )
 
@@ -201,8 +201,8 @@ list-turned first second g = go (argument-number first) refl (argument-number se
     go (some a) e (some b) d = both-named first second g e d ∙ ap printed (pair-turned g a b) ∙ sym (both-named second first g d e)
 
 pub neighbours-round : Neighbours-round
-unfolding Neighbours-round neighbours-printed converted
-neighbours-round file first second = go (read-file 4096 file)
+unfolding Neighbours-round converted
+neighbours-round file first second = neighbours-as file first second ∙ go (read-file 4096 file) ∙ sym (neighbours-as file second first)
   where
     go : (o : Outcome Pairs) → converted (list-printed first second) o ≡ converted (list-printed second first) o
     go (refused k) = refl

@@ -8,7 +8,7 @@
 --   place-length, pair-length, list-length         how long the texts are
 --   pair-refused, pair-shown                       the text of two module numbers
 --   first-none, second-none, both-named            and of two arguments
---   neighbours-read                                Neighbours-read
+--   neighbours-as, neighbours-read                 a file's text by what is read, and Neighbours-read
 -- Assumes nothing.
 use mathlib.Core.Path.{_≡_, refl, sym, ap, _∙_}
 use mathlib.Core.Bool.{true, cond}
@@ -36,7 +36,7 @@ use Rattle.pairs.proofs.Words.{place-within}
 use Rattle.lines.specs.Text.{text, between}
 use Rattle.lines.specs.Numbers.{number-of}
 use Rattle.lines.specs.Lines.{is-place, places, filled}
-use Rattle.lines.specs.Outcomes.{_>>=_, _>>_}
+use Rattle.lines.specs.Outcomes.{Outcome, refused, taken, _>>=_, _>>_}
 use Rattle.lines.specs.Putting.{Puts}
 use Rattle.lines.specs.Answers.{number-in, number-end, NumberFound}
 use Rattle.lines.specs.declared.FoundNumber.{FoundNumber}
@@ -61,6 +61,7 @@ use Rattle.texts.specs.Neighbours.{
   place-text,
   pair-placed,
   arguments-placed,
+  file-placed,
   printed,
   list-printed,
   neighbours-printed,
@@ -249,7 +250,16 @@ module _ (first second : List ℕ) (g : Pairs) where
 
 -- ---- the file that was read
 
+-- a file's text, by what is read
+pub neighbours-as : (file first second : List ℕ) → neighbours-printed file first second ≡ converted (list-printed first second) (read-file 4096 file)
+unfolding neighbours-printed file-placed list-printed printed converted _>>=_
+neighbours-as file first second = go (read-file 4096 file)
+  where
+    go : (o : Outcome Pairs) → printed (_>>=_ o (λ g. arguments-placed g first second)) ≡ converted (list-printed first second) o
+    go (refused k) = refl
+    go (taken g) = refl
+
 pub neighbours-read : {buffer : List ℕ} {n : ℕ} {first second text : List ℕ} → 65536 ≤ length buffer →
     text ≡ converted (list-printed first second) (read-file 4096 (take n buffer)) → Neighbours-read buffer n first second text
-unfolding neighbours-printed
-neighbours-read {first = first} {second = second} room is = record { due = λ file e. is ∙ ap (converted (list-printed first second)) (read-as room e) }
+neighbours-read {first = first} {second = second} room is =
+    record { due = λ file e. is ∙ ap (converted (list-printed first second)) (read-as room e) ∙ sym (neighbours-as file first second) }

@@ -3,7 +3,7 @@
 --   record-before, predecessor, successor       the records next to a place
 --   place-form, before-form, after-form         the forms of the lines
 --   record-line, place-text                     a record's line, if there is a record; all lines of a place
---   pair-placed, arguments-placed               the text of two module numbers, and of two arguments, or the refusal number
+--   pair-placed, arguments-placed, file-placed  the text of two module numbers, of two arguments, and of these and a file, or the refusal number
 --   printed, list-printed, neighbours-printed   what `neighbours` prints
 --   Neighbours-read                             what is right of whatever pair file was read
 --   stands-after, Nearest, Shown                the records nearest to a pair, and a text that shows them and the pair's place
@@ -37,7 +37,6 @@ use Rattle.kandurzo.specs.Placing.{Place-says}
 use Rattle.kandurzo.specs.Promise.{Lent}
 use Rattle.texts.specs.Texts.{refusal-text}
 use Rattle.texts.specs.Contracts.{Read-of}
-use Rattle.texts.specs.Converted.{converted}
 use Rattle.texts.specs.declared.neighbours.Argument.{Argument}
 use Rattle.texts.specs.declared.neighbours.Argument.the-variants.{Module, Malformed}
 
@@ -118,9 +117,15 @@ printed (taken t) = t
 unfoldable pub list-printed : (first second : List ℕ) → Pairs → List ℕ
 list-printed first second g = printed (arguments-placed g first second)
 
--- WHAT `neighbours` PRINTS of a pair file and two arguments: the file is judged first, then the arguments
+-- of a pair file and two arguments: the file is judged first, then the arguments
+unfoldable pub file-placed : (file first second : List ℕ) → Outcome (List ℕ)
+file-placed file first second = do
+  g ← read-file 4096 file
+  arguments-placed g first second
+
+-- WHAT `neighbours` PRINTS of a pair file and two arguments
 unfoldable pub neighbours-printed : (file first second : List ℕ) → List ℕ
-neighbours-printed file first second = converted (list-printed first second) (read-file 4096 file)
+neighbours-printed file first second = printed (file-placed file first second)
 
 -- WHATEVER PAIR FILE WAS READ, the text of `neighbours` is that of the whole file
 pub record Neighbours-read (buffer : List ℕ) (n : ℕ) (first second text : List ℕ) : Type 0 where
