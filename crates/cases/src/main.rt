@@ -7,6 +7,7 @@
 //   audited  FILE SHEET             the sheet is audited beside the pair file
 //   bytes    FILE SHEET             so is the sheet with each byte one more, and one less, in turn
 //   limits   FILE SHEET B C         so is what is read of the two into buffers of B and C bytes
+//   neighbours FILE A B             the pair of the arguments A and B, which may be empty, is looked up in the pair file's list
 //
 // and for DIMACS files, in the folder `dimacs`:
 //
@@ -21,9 +22,9 @@
 // `order` several conditions hold; those in `taken` are accepted, the starred lists of document 01 among them. In `audits` are sheets that `sheet`
 // printed, NAME.sheet of the pair file NAME, and such sheets altered by hand. In `full` are the longest pair file that there is, 53,271 bytes, and its
 // sheet of 77,151, with line ends behind them up to 65,536 and 100,000 bytes: whether the last byte of a line is read, or one behind the last line,
-// turns the answer. In `dimacs`, files of the folders `before`, `problem`, `edge` and `end` break a rule before the `p` line, on it, on an `e` line, behind
-// the last; `comments` has comments of every kind in each place, and lines that are none; `order` and `taken` are as above. In `lists` are files due of lists
-// that are written.
+// turns the answer; and as long a file, `block`, of the 4,096 pairs of the modules 384 to 447 with 448 to 511, in list order. In `dimacs`, files of the
+// folders `before`, `problem`, `edge` and `end` break a rule before the `p` line, on it, on an `e` line, behind the last; `comments` has comments of every
+// kind in each place, and lines that are none; `order` and `taken` are as above. In `lists` are files due of lists that are written.
 //
 // An answer is the refusal number, or 0 and the values:
 //   files, large   P/Q; K and the size of the core of order K; the member bytes as runs, where 1x4 0x1 is 1, 1, 1, 1, 0. All 512 member bytes are 2
@@ -31,12 +32,14 @@
 //   audited        P/Q
 //   bytes          how many of the altered sheets are refused, how many are best sheets themselves (accepted with the same P/Q), and how many neither
 //   limits         P/Q; before the number stands how many bytes were read of each file
+//   neighbours     in the place of the number: what is printed, with `;` for each LF
 //   dimacs/files, rooms      N,M and the pairs of the list, modules numbered from 0, with its count behind a pair where that is not 1
 //   dimacs/made    N,M and how many of the pairs are named by a line, smaller module first, behind the one before; before the number the file's length
 //   dimacs/written, full     in the place of the number: the length written, how many bytes are not those due (7 past the length, as before),
 //                            and how much of what is read back is not the list
 //
 // A line is printed for each list of cases, and one for each case that did not come out as due.
+mod asked;
 mod audited;
 mod edges;
 mod files;
@@ -45,6 +48,7 @@ mod solved;
 mod text;
 mod written;
 
+use asked::try_asked;
 use audited::try_audit;
 use audited::try_limits;
 use edges::try_edges;
@@ -68,6 +72,7 @@ enum Kind {
     Audited,
     Bytes,
     Limits,
+    Asked,
     Edges,
     Rooms,
     Made,
@@ -89,6 +94,7 @@ fn try_case(kind: Kind, line: &[u8], text: &mut [u8]) -> Given {
         Kind::Audited => try_audit(line, text, false),
         Kind::Bytes => try_audit(line, text, true),
         Kind::Limits => try_limits(line, text),
+        Kind::Asked => try_asked(line, text),
         Kind::Edges => try_edges(line, text),
         Kind::Rooms => try_room(line, text),
         Kind::Made => try_made(line, text),
@@ -162,6 +168,7 @@ fn main() {
     try_list(Kind::Audited, b"audited");
     try_list(Kind::Bytes, b"bytes");
     try_list(Kind::Limits, b"limits");
+    try_list(Kind::Asked, b"neighbours");
     try_list(Kind::Edges, b"dimacs/files");
     try_list(Kind::Rooms, b"dimacs/rooms");
     try_list(Kind::Made, b"dimacs/made");

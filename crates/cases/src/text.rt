@@ -108,12 +108,17 @@ pub(crate) fn number_at(line: &[u8], from: usize) -> Number {
     Number { value, next: i }
 }
 
+// A byte of a text as a line has it: `;` for an LF.
+fn in_line(byte: u8) -> u8 {
+    if byte == b'\n' { b';' } else { byte }
+}
+
 // Whether the line, from `from` on, is the text's first `end` bytes without the space that it begins with.
 pub(crate) fn same(line: &[u8], from: usize, text: &[u8], end: usize) -> bool {
     let mut i = 1;
     let mut j = from;
     while i < end {
-        if byte_at(line, j) != byte_at(text, i) {
+        if byte_at(line, j) != in_line(byte_at(text, i)) {
             return false;
         }
         i += 1;
