@@ -5,8 +5,8 @@
 --   Taken-there, Remove-takes-there        where `number` is 0 and `held` is 1, remove takes the record at `at`
 --   Refused-as-remove                      place's number is remove's, but for 14
 --   Every-place-answered                   of every two modules of every list the place of their pair is answered
--- Those that are Type 0 alone are promises: proofs/Promises.antt has a theorem for each, of the same name in small letters; Put-there and Taken-there are what
--- they say of a list. Assumes nothing: these are definitions.
+-- Add-puts-there, Remove-takes-there, Refused-as-remove and Every-place-answered are promises: proofs/Promises.antt has a theorem for each, of the same name
+-- in small letters. Assumes nothing: these are definitions.
 use mathlib.Core.Path.{_≡_}
 use mathlib.Core.Bool.{true, false, not, cond}
 use mathlib.Core.List.{List, [], _∷_, _++_}
