@@ -14,15 +14,15 @@ use native.Mathlib.Omega.{arith}
 use lib.Dec.{eqb}
 use lib.ListN.{length, getD, take, drop, List·getD-map}
 use lib.Seq.{getD-take, take-take, length-take-le, getD-append-seam}
-use borrow.Author.Tests.{eqb-true, eqb-false, eq-eqb, ne-eqb, not-false}
+use borrow.Author.Tests.{eqb-true, eqb-false, ne-eqb, not-false}
 use Rattle.theory.specs.Basics.{mark}
 use Rattle.theory.specs.Lists as Lists
 use Rattle.theory.specs.Lists.{Pairs, pair, stands-before, rising}
 use Rattle.theory.specs.Refusals.{cause, refusal, if-taken}
 use Rattle.theory.proofs.Lists.{listed}
-use Rattle.theory.proofs.Tests.{tests, no, by-test}
+use Rattle.theory.proofs.Tests.{tests, by-test}
 use Rattle.theory.proofs.Refusals.{refusal-passed, if-taken-new}
-use Rattle.pairs.specs.Held.{same-ends, is-held, place-of, insert-pair, remove-pair, smaller-first-pair}
+use Rattle.pairs.specs.Held.{same-ends, is-held, place-of, smaller-first-pair}
 use Rattle.pairs.specs.Located.{located}
 use Rattle.pairs.specs.Causes.{self-paired, module-unknown, pair-causes, place-causes}
 use Rattle.pairs.proofs.Changes.{insert-split, remove-split}
@@ -37,7 +37,7 @@ use Rattle.kandurzo.specs.Listing.{as-record, as-records, is-full, add-n
 use Rattle.kandurzo.specs.Placing.{place-number, Stands-at, Place-says, Put-there, Add-puts-there, Taken-there, Remove-takes-there}
 use Rattle.kandurzo.specs.Placing.{Refused-as-remove, Every-place-answered}
 use Rattle.kandurzo.specs.Promise.{Lent}
-use Rattle.kandurzo.proofs.Orders.{first-none, none-first, add-11, add-taken, remove-first, remove-14, remove-taken}
+use Rattle.kandurzo.proofs.Orders.{first-none, add-11, add-taken, remove-first, remove-14, remove-taken}
 use Rattle.kandurzo.proofs.Taken.{length-as-pairs, held-few, held-is-list, length-held, held-records, ends-first}
 use Rattle.kandurzo.proofs.Keeping.{add-passed, remove-passed}
 use Rattle.kandurzo.proofs.Demands.{n-is, lent-list, lent-agrees}

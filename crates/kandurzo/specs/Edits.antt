@@ -1,5 +1,5 @@
 -- What add and remove do on words, between the records' way out and their way back; and how place answers.
---   records-out                   how many records go out to words: none where 13 is the answer
+--   records-out                   how many records go out to words, or are looked at (place): none where 13 is the answer
 --   Ready                         what is known of the words where head and list agree
 --   edit-of                       an answer: the number, the head after it, and how many records come back
 --   pair-place                    where a pair stands or would go
@@ -22,7 +22,7 @@ use Rattle.kandurzo.specs.declared.Edit.{Edit}
 use Rattle.kandurzo.specs.declared.Placed.{Placed}
 use Rattle.kandurzo.specs.Listing.{head-of, is-full}
 
--- how many records go out to words
+-- how many records go out to words, or are looked at
 unfoldable pub records-out : Head → (agreed : Bool) → ℕ
 records-out h t = cond t (h .m) 0
 

@@ -18,7 +18,7 @@ use pairs::lookup;
 use pairs::pair_number;
 use records::Head;
 
-// How many records go out to words.
+// How many records go out to words, or are looked at (place).
 pub(crate) fn records_out(head: Head, agreed: bool) -> usize
     ensures { λ r. ⌜ r ≡ records-out head agreed ⌝ }
 {

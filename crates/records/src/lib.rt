@@ -1,4 +1,5 @@
-// The lent records: the only functions that read or write &[Pair]. Everything above works on words, but place, which needs lookup alone.
+// The lent records: the only functions that read or write &[Pair]. Everything above works on words, but place, which looks a pair
+// up where the records lie.
 //   copy_out   records to words: the numbers of record j to words 2j and 2j + 1, and its count, which is 1, to word 8,192 + j
 //   copy_in    words to records
 //   agree      whether head and list agree (document 01, number 13)

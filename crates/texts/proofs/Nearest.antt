@@ -1,6 +1,4 @@
 -- The records that `neighbours` shows next to a pair are the nearest on either side.
---   place-at, entry-held                     the record at an index is held, and that is its place
---   held-before, entry-before                a record stands before a pair exactly where its place is below the pair's
 --   nearest-at                               a record is the nearest on its side
 --   predecessor-nearest, successor-nearest   those that are shown are
 --   pair-turned, list-turned                 the text of two numbers, and of two arguments, in the other order
@@ -23,8 +21,8 @@ use Rattle.theory.proofs.Tests.{tests, no, fails, by-test}
 use Rattle.pairs.specs.Held.{is-held, place-of, smaller-first-pair}
 use Rattle.pairs.specs.Located.{located}
 use Rattle.pairs.proofs.Causes.{pair-round, causes-round}
-use Rattle.pairs.proofs.Order.{same-refl, same-before, same-not-before, before-not-after, order-cases}
-use Rattle.pairs.proofs.Rising.{rising-at, place-le, place-before, place-is, place-from, held-at, held-place}
+use Rattle.pairs.proofs.Order.{before-not-after, order-cases}
+use Rattle.pairs.proofs.Rising.{place-le, place-before, place-from, held-at, held-place, place-at, entry-held, held-before, entry-before}
 use Rattle.pairs.specs.Causes.{pair-causes}
 use Rattle.lines.specs.Outcomes.{Outcome, refused, taken}
 use Rattle.kandurzo.specs.declared.Placed.{Placed}
@@ -46,7 +44,6 @@ use Rattle.texts.specs.Neighbours.{
   pair-placed,
   printed,
   list-printed,
-  neighbours-printed,
   stands-after,
   Nearest,
   Neighbours-nearest,
@@ -55,100 +52,71 @@ use Rattle.texts.specs.Neighbours.{
 }
 use Rattle.texts.proofs.Places.{entry-some, entry-none, pair-refused, pair-shown, neighbours-as, first-none, second-none, both-named}
 
--- ---- places in a rising list
+-- ---- the records next to a pair
 
-module _ (ps : List Pair) (up : rising ps ≡ true) where
-  -- the place of the record at an index
-  place-at : (j : ℕ) (d : Pair) → j < length ps → place-of (getD ps j d) ps ≡ j
-  place-at j d h =
-      let q = getD ps j d in
-      place-is q ps j d (omega arith) (λ i l. rising-at ps i j d up l h) (λ _. same-not-before q q (same-refl q))
+module _ (ps : List Pair) (up : rising ps ≡ true) (p : Pair) where
+  -- a record is the nearest on its side where no held record stands between
+  nearest-at : (side : Pair → Pair → Bool) (j : ℕ) → j < length ps → side (getD ps j p) p ≡ true →
+      ((r : Pair) → is-held r ps ≡ true → side (getD ps j p) r ≡ true → side r p ≡ true → ⊥) → Nearest side p ps (getElem? ps j)
+  unfolding Nearest
+  nearest-at side j h s n =
+      rw (entry-some ps j p h)
+      (entry-held ps up j p h, s, λ r k. fails (side (getD ps j p) r && side r p) (λ t. let t′ = simp tests at t in n r k (t′ .0) (t′ .1)))
 
-  -- it is held
-  entry-held : (j : ℕ) (d : Pair) → j < length ps → is-held (getD ps j d) ps ≡ true
-  entry-held j d h =
-      let q = getD ps j d in
-      let e : place-of q ps ≡ j = place-at j d h in
-      held-at q ps d up (omega (arith, e)) ∙ rw e (same-refl q)
+  pub predecessor-nearest : Nearest stands-before p ps (predecessor (located p ps) ps)
+  unfolding Nearest predecessor record-before located
+  predecessor-nearest = go (place-of p ps) refl
+    where
+      go : (k : ℕ) → place-of p ps ≡ k → Nearest stands-before p ps (record-before k ps)
+      go zero e = λ r h. held-before ps up r p h ∙ le-ltb (place-of r ps) (place-of p ps) (omega (arith, e))
+      go (suc j) e =
+          let h : j < length ps = omega (arith, e, place-le p ps) in
+          let q = getD ps j p in
+          nearest-at stands-before j h (entry-before ps up p j h ∙ lt-ltb j (place-of p ps) (omega (arith, e)))
+          (λ r k s t. omega (
+            arith,
+            e,
+            place-at ps up j p h,
+            ltb-true (place-of q ps) (place-of r ps) (sym (held-before ps up q r (entry-held ps up j p h)) ∙ s),
+            ltb-true (place-of r ps) (place-of p ps) (sym (held-before ps up r p k) ∙ t),
+          ))
 
-  -- a held record stands before a pair exactly where its place is below the pair's
-  held-before : (r p : Pair) → is-held r ps ≡ true → stands-before r p ≡ ltb (place-of r ps) (place-of p ps)
-  held-before r p h =
-      let i = place-of r ps in
-      let k = place-of p ps in
-      let there : i < length ps = held-place r ps h in
-      same-before r (getD ps i r) p (sym (held-at r ps r up there) ∙ h)
-      ∙ by-test (ltb i k)
-      (λ t. place-before p ps i r (ltb-true i k t) ∙ sym t)
-      (λ t. place-from p ps i r up (ltb-false i k t) there ∙ sym t)
+  -- how many records stand before p or are p
+  abbrev upto : ℕ
+  upto = place-of p ps + mark (is-held p ps)
 
-  module _ (p : Pair) where
-    -- the record at an index stands before p exactly where the index is below p's place
-    entry-before : (i : ℕ) → i < length ps → stands-before (getD ps i p) p ≡ ltb i (place-of p ps)
-    entry-before i h = held-before (getD ps i p) p (entry-held i p h) ∙ ap (λ (k : ℕ). ltb k (place-of p ps)) (place-at i p h)
+  -- p stands before none of these
+  not-upto : (r : Pair) → is-held r ps ≡ true → place-of r ps < upto → stands-before p r ≡ false
+  unfolding mark
+  not-upto r h l =
+      by-test (is-held p ps)
+      (λ t. let l′ = rw t at l in held-before ps up p r t ∙ le-ltb (place-of p ps) (place-of r ps) (omega arith))
+      (λ t. let l′ = rw t at l in before-not-after r p (held-before ps up r p h ∙ lt-ltb (place-of r ps) (place-of p ps) (omega arith)))
 
-    -- a record is the nearest on its side where no held record stands between
-    nearest-at : (side : Pair → Pair → Bool) (j : ℕ) → j < length ps → side (getD ps j p) p ≡ true →
-        ((r : Pair) → is-held r ps ≡ true → side (getD ps j p) r ≡ true → side r p ≡ true → ⊥) → Nearest side p ps (getElem? ps j)
-    unfolding Nearest
-    nearest-at side j h s n =
-        rw (entry-some ps j p h)
-        (entry-held j p h, s, λ r k. fails (side (getD ps j p) r && side r p) (λ t. let t′ = simp tests at t in n r k (t′ .0) (t′ .1)))
+  -- and before the next
+  before-next : upto < length ps → stands-before p (getD ps upto p) ≡ true
+  unfolding mark
+  before-next h =
+      let q = getD ps upto p in
+      by-test (is-held p ps)
+      (λ t. held-before ps up p q t ∙ lt-ltb (place-of p ps) (place-of q ps) (rw (place-at ps up upto p h, t) (omega arith)))
+      (λ t.
+      let own : upto ≡ place-of p ps = rw t (omega arith) in
+      order-cases p q (λ l g s. l)
+      (λ l g s. no (sym t ∙ held-at p ps p up (omega (arith, own)) ∙ rw own at s))
+      (λ l g s. no (sym (entry-before ps up p upto h ∙ le-ltb upto (place-of p ps) (omega (arith, own))) ∙ g)))
 
-    pub predecessor-nearest : Nearest stands-before p ps (predecessor (located p ps) ps)
-    unfolding Nearest predecessor record-before located
-    predecessor-nearest = go (place-of p ps) refl
-      where
-        go : (k : ℕ) → place-of p ps ≡ k → Nearest stands-before p ps (record-before k ps)
-        go zero e = λ r h. held-before r p h ∙ le-ltb (place-of r ps) (place-of p ps) (omega (arith, e))
-        go (suc j) e =
-            let h : j < length ps = omega (arith, e, place-le p ps) in
-            let q = getD ps j p in
-            nearest-at stands-before j h (entry-before j h ∙ lt-ltb j (place-of p ps) (omega (arith, e)))
-            (λ r k s t. omega (
-              arith,
-              e,
-              place-at j p h,
-              ltb-true (place-of q ps) (place-of r ps) (sym (held-before q r (entry-held j p h)) ∙ s),
-              ltb-true (place-of r ps) (place-of p ps) (sym (held-before r p k) ∙ t),
-            ))
-
-    -- how many records stand before p or are p
-    abbrev upto : ℕ
-    upto = place-of p ps + mark (is-held p ps)
-
-    -- p stands before none of these
-    not-upto : (r : Pair) → is-held r ps ≡ true → place-of r ps < upto → stands-before p r ≡ false
-    unfolding mark
-    not-upto r h l =
-        by-test (is-held p ps)
-        (λ t. let l′ = rw t at l in held-before p r t ∙ le-ltb (place-of p ps) (place-of r ps) (omega arith))
-        (λ t. let l′ = rw t at l in before-not-after r p (held-before r p h ∙ lt-ltb (place-of r ps) (place-of p ps) (omega arith)))
-
-    -- and before the next
-    before-next : upto < length ps → stands-before p (getD ps upto p) ≡ true
-    unfolding mark
-    before-next h =
-        let q = getD ps upto p in
-        by-test (is-held p ps)
-        (λ t. held-before p q t ∙ lt-ltb (place-of p ps) (place-of q ps) (rw (place-at upto p h, t) (omega arith)))
-        (λ t.
-        let own : upto ≡ place-of p ps = rw t (omega arith) in
-        order-cases p q (λ l g s. l)
-        (λ l g s. no (sym t ∙ held-at p ps p up (omega (arith, own)) ∙ rw own at s))
-        (λ l g s. no (sym (entry-before upto h ∙ le-ltb upto (place-of p ps) (omega (arith, own))) ∙ g)))
-
-    pub successor-nearest : Nearest stands-after p ps (successor (located p ps) ps)
-    unfolding Nearest successor located stands-after
-    successor-nearest =
-        by-test (ltb upto (length ps))
-        (λ t.
-        let h = ltb-true upto (length ps) t in
-        let q = getD ps upto p in
-        nearest-at stands-after upto h (before-next h)
-        (λ r k s u. no (sym (not-upto r k (omega (arith, place-at upto p h, ltb-true (place-of r ps) (place-of q ps) (sym (held-before r q k) ∙ s)))) ∙ u)))
-        (λ t. rw (entry-none ps upto (ltb-false upto (length ps) t))
-        (λ r h. not-upto r h (omega (arith, held-place r ps h, ltb-false upto (length ps) t))))
+  pub successor-nearest : Nearest stands-after p ps (successor (located p ps) ps)
+  unfolding Nearest successor located stands-after
+  successor-nearest =
+      by-test (ltb upto (length ps))
+      (λ t.
+      let h = ltb-true upto (length ps) t in
+      let q = getD ps upto p in
+      nearest-at stands-after upto h (before-next h)
+      (λ r k s u. no (sym (not-upto r k (omega (arith, place-at ps up upto p h, ltb-true (place-of r ps) (place-of q ps) (sym (held-before ps up r q k) ∙ s)))) ∙ u)))
+      (λ t. rw (entry-none ps upto (ltb-false upto (length ps) t))
+      (λ r h. not-upto r h (omega (arith, held-place r ps h, ltb-false upto (length ps) t))))
 
 -- ---- the promises
 

@@ -1,7 +1,7 @@
 -- `records::lookup` meets its contract: a walk of its MIR with a loop that calls `look_at`. As a turn begins, the place lies between the bounds (`Known`).
 -- Positions: the list's row at 0, what closes it at 1, local j at 2 + j. Assumes nothing.
 use mathlib.Core.Path.{_≡_, refl, sym, ap, _∙_}
-use Prim.Native.Nat.{ℕ, _+_, _-_, _*_, _≤_, _<_, _^_}
+use Prim.Native.Nat.{ℕ, _+_, _-_, _≤_, _<_, _^_}
 use native.Mathlib.Omega.{arith}
 use mathlib.Core.List.{List, [], _∷_}
 use mathlib.Core.Option.{none as nothing-in, some}
@@ -28,7 +28,6 @@ use sound.WpLaws.{FmC, fmOf}
 use denote.Builtin.{u32, usize}
 use denote.Ref.{RefT, now}
 use denote.Slice.{sliceVal, Room}
-use denote.Struct.Laws as Struct
 use denote.Triple.Entry.{onEntry}
 use denote.Triple.Spec.{tripleOf}
 use denote.Triple.Statement.{Triple}
@@ -54,7 +53,6 @@ use Rattle.records.proofs.Loop.{Turn, turn, whiles}
 use Rattle.records.proofs.Records.{plain-pair, plain-search, plain-place, pair-row, record-of}
 use Rattle.records.proofs.Pair as P
 use Rattle.pairs.proofs.Search as S
-use Rattle.pairs.proofs.Search.Laws as S′
 use Rattle.pairs.proofs.Place as L
 use Rattle.pairs.proofs.begin_search as begin
 use Rattle.pairs.proofs.begin_search.Symbol as begin-def

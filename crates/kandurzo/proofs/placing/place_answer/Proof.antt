@@ -1,7 +1,7 @@
 -- `place_answer` meets its contract: a refusal, or what was found. Assumes nothing.
 use mathlib.Core.Path.{sym, _∙_}
 use borrow.Author.Needs.{needs}
-use borrow.Author.Tests.{ne-eqb, eq-eqb}
+use borrow.Author.Tests.{ne-eqb}
 use Rattle.theory.specs.Basics.{mark}
 use Rattle.theory.specs.Refusals.{if-taken}
 use Rattle.kandurzo.specs.Edits.{placed-of}
