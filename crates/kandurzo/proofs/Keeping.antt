@@ -16,8 +16,8 @@ use mathlib.Core.List.{List, [], _∷_}
 use Prim.Native.Nat.{ℕ, _+_, _-_, _<_, min, max}
 use native.Mathlib.Omega.{arith}
 use lib.Dec.{ltb}
-use lib.ListN.{length, getD, take, drop, length-append, length-drop, List·getD-map}
-use lib.Seq.{take-at, drop-at, getD-take}
+use lib.ListN.{length, getD, take, drop, length-append, length-drop}
+use lib.Seq.{take-at, drop-at}
 use borrow.Author.Tests.{ltb-true, ltb-false}
 use Rattle.theory.specs.Basics.{all}
 use Rattle.theory.specs.Lists as Lists
@@ -38,14 +38,14 @@ use Rattle.pairfile.specs.File.{modules-causes}
 use Rattle.pairfile.proofs.Taken.{modules-unmet}
 use Rattle.records.specs.declared.Pair.{Pair}
 use Rattle.records.specs.declared.Head.{Head}
-use Rattle.records.specs.Records.{as-pair, as-pairs, held-list, agrees, blank}
+use Rattle.records.specs.Records.{as-pair, held-list, agrees, blank}
 use Rattle.kandurzo.specs.declared.Changed.{Changed}
 use Rattle.kandurzo.specs.declared.Placed.{Placed}
 use Rattle.kandurzo.specs.Listing.{head-of, changed-to, started, as-records, add-number, added, Add-says, remove-number, removed, Remove-says}
 use Rattle.kandurzo.specs.Keeping.{pair-at, Held-once, Either-way-round, Add-exactly, Remove-exactly, Pair-added, Add-holds, Pair-removed, Remove-drops}
 use Rattle.kandurzo.specs.Keeping.{Same-pairs-same-records, Add-undone}
 use Rattle.kandurzo.specs.Placing.{place-number, Place-says}
-use Rattle.kandurzo.proofs.Taken.{length-as-records, held-few, held-is-list, length-held, held-ones, held-records, agrees-front}
+use Rattle.kandurzo.proofs.Taken.{length-as-records, held-few, held-is-list, length-held, record-there, held-ones, held-records, agrees-front}
 use Rattle.kandurzo.proofs.Taken.{taken-addable, addable-taken, held-removable, taken-removable, removable-taken}
 use Rattle.kandurzo.proofs.Taken.{added-length, held-added, added-agrees, removed-one, held-removed, removed-agrees}
 
@@ -62,11 +62,10 @@ ordered a b l =
 module _ (h : Head) (ps : List Pair) (agreed : agrees h ps ≡ true) where
   -- the record at a place stands for the held pair there
   held-at-place : (i : ℕ) → i < h .m → pair-at ps i ≡ getD (held-list h ps .pairs) i (as-pair blank)
-  unfolding pair-at held-list as-pairs as-pair pair smaller-first
+  unfolding pair-at as-pair pair smaller-first
   held-at-place i l =
       let p : Pair = getD ps i blank in
-      let there : getD (held-list h ps .pairs) i (as-pair blank) ≡ as-pair p =
-      List·getD-map as-pair (take (h .m) ps) i blank ∙ ap as-pair (getD-take (h .m) ps i blank l) in
+      let there : getD (held-list h ps .pairs) i (as-pair blank) ≡ as-pair p = record-there h ps i l in
       let first : smaller-first (as-pair p) ≡ true =
       ap smaller-first (sym there)
       ∙ all-at smaller-first (held-list h ps .pairs) i (as-pair blank) (listed (held-list h ps) (held-is-list h ps agreed) .first)

@@ -12,8 +12,8 @@ use mathlib.Core.Logic.{_↔_}
 use Prim.Native.Nat.{ℕ, zero, suc, _+_, _≤_, _<_, min, max}
 use native.Mathlib.Omega.{arith}
 use lib.Dec.{eqb}
-use lib.ListN.{length, getD, take, drop, List·getD-map}
-use lib.Seq.{getD-take, take-take, length-take-le, getD-append-seam}
+use lib.ListN.{length, getD, take, drop}
+use lib.Seq.{take-take, length-take-le, getD-append-seam}
 use borrow.Author.Tests.{eqb-true, eqb-false, ne-eqb, not-false}
 use Rattle.theory.specs.Basics.{mark}
 use Rattle.theory.specs.Lists as Lists
@@ -38,7 +38,7 @@ use Rattle.kandurzo.specs.Placing.{place-number, Stands-at, Place-says, 
 use Rattle.kandurzo.specs.Placing.{Refused-as-remove, Every-place-answered}
 use Rattle.kandurzo.specs.Promise.{Lent}
 use Rattle.kandurzo.proofs.Orders.{first-none, add-11, add-taken, remove-first, remove-14, remove-taken}
-use Rattle.kandurzo.proofs.Taken.{length-as-pairs, held-few, held-is-list, length-held, held-records, ends-first}
+use Rattle.kandurzo.proofs.Taken.{length-as-pairs, held-few, held-is-list, length-held, record-there, held-records, ends-first}
 use Rattle.kandurzo.proofs.Keeping.{add-passed, remove-passed}
 use Rattle.kandurzo.proofs.Demands.{n-is, lent-list, lent-agrees}
 
@@ -56,11 +56,6 @@ module _ (h : Head) (ps : List Pair) (agreed : agrees h ps ≡ true) where
   held-rises : rising (held-list h ps .pairs) ≡ true
   held-rises = listed (held-list h ps) (held-is-list h ps agreed) .rises
 
-  -- the pair of the record at a place
-  record-there : (i : ℕ) → i < h .m → getD (held-list h ps .pairs) i (as-pair blank) ≡ as-pair (getD ps i blank)
-  unfolding held-list as-pairs
-  record-there i l = List·getD-map as-pair (take (h .m) ps) i blank ∙ ap as-pair (getD-take (h .m) ps i blank l)
-
   -- the record at the place is p's exactly where p is held
   module _ (p : Lists.Pair) where
     abbrev at : ℕ
@@ -71,7 +66,7 @@ module _ (h : Head) (ps : List Pair) (agreed : agrees h ps ≡ true) where
 
     held-there : at < h .m → is-held p (held-list h ps .pairs) ≡ same-ends p (as-pair (getD ps at blank))
     held-there l =
-        held-at p (held-list h ps .pairs) (as-pair blank) held-rises (omega (arith, length-held h ps agreed)) ∙ ap (same-ends p) (record-there at l)
+        held-at p (held-list h ps .pairs) (as-pair blank) held-rises (omega (arith, length-held h ps agreed)) ∙ ap (same-ends p) (record-there h ps at l)
 
     its-record : is-held p (held-list h ps .pairs) ≡ true → (at < h .m) × (getD ps at blank ≡ as-record p)
     unfolding same-ends as-pair as-record pair
@@ -89,10 +84,10 @@ module _ (h : Head) (ps : List Pair) (agreed : agrees h ps ≡ true) where
     stands-at = record {
       among = at-most;
       smaller = λ i l.
-          ap (λ (r : Lists.Pair). stands-before r p) (sym (record-there i (omega (arith, at-most, l))))
+          ap (λ (r : Lists.Pair). stands-before r p) (sym (record-there h ps i (omega (arith, at-most, l))))
           ∙ place-before p (held-list h ps .pairs) i (as-pair blank) l;
       none-smaller = λ i l k.
-          ap (λ (r : Lists.Pair). stands-before r p) (sym (record-there i k))
+          ap (λ (r : Lists.Pair). stands-before r p) (sym (record-there h ps i k))
           ∙ place-from p (held-list h ps .pairs) i (as-pair blank) held-rises l (omega (arith, k, length-held h ps agreed));
       exactly = (
         λ e. by-test (is-held p (held-list h ps .pairs)) its-record (λ t. absurd (omega (arith, rw t at e))),

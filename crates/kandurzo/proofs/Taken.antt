@@ -2,6 +2,7 @@
 --   as-pairs-back, as-records-back      records and pairs of weight 1 are the same
 --   held-few, held-is-list, length-held what head and list hold where they agree
 --   held-ones, held-records             each held pair counts once, and the held records are those of the held pairs
+--   record-there                        the held pair at a place is that of the record there
 --   held-kept                           they are as the laws of pair files ask it
 --   held-front, agrees-front            records of pairs in front of others
 --   ends-first                          two different modules pass the causes that come first
@@ -16,8 +17,8 @@ use mathlib.Core.Bool.{true, false, not}
 use mathlib.Core.List.{List, [], _∷_, _++_}
 use Prim.Native.Nat.{ℕ, _+_, _-_, _≤_, _<_}
 use native.Mathlib.Omega.{arith}
-use lib.ListN.{length, take, length-map, length-append}
-use lib.Seq.{length-take-le, take-at}
+use lib.ListN.{length, getD, take, length-map, length-append, List·getD-map}
+use lib.Seq.{length-take-le, take-at, getD-take}
 use borrow.Author.Tests.{not-false, ne-eqb}
 use Rattle.theory.specs.Basics.{all}
 use Rattle.theory.specs.Lists as Lists
@@ -32,7 +33,7 @@ use Rattle.pairfile.proofs.Names.{Kept}
 use Rattle.pairfile.proofs.Naming.{ends-held, ends-fit}
 use Rattle.records.specs.declared.Pair.{Pair}
 use Rattle.records.specs.declared.Head.{Head}
-use Rattle.records.specs.Records.{as-pair, as-pairs, held-list, agrees}
+use Rattle.records.specs.Records.{as-pair, as-pairs, held-list, agrees, blank}
 use Rattle.kandurzo.specs.Listing.{head-of, as-record, as-records, is-full, add-number, added, remove-number, removed}
 use Rattle.kandurzo.specs.Keeping.{Addable, Removable}
 use Rattle.kandurzo.proofs.Orders.{First, none-first, add-taken, add-none, remove-taken, remove-none}
@@ -98,6 +99,11 @@ module _ (h : Head) (ps : List Pair) (agreed : agrees h ps ≡ true) where
   held-kept =
       let l = listed (held-list h ps) held-is-list in
       record { rises = l .rises; ends = l .ends; first = l .first; once = held-ones }
+
+-- the held pair at a place is that of the record there
+pub record-there : (h : Head) (ps : List Pair) (i : ℕ) → i < h .m → getD (held-list h ps .pairs) i (as-pair blank) ≡ as-pair (getD ps i blank)
+unfolding held-list as-pairs
+record-there h ps i l = List·getD-map as-pair (take (h .m) ps) i blank ∙ ap as-pair (getD-take (h .m) ps i blank l)
 
 -- the records of m pairs in front of others: the held pairs are these
 pub held-front : (n m : ℕ) (qs : List Lists.Pair) (rest : List Pair) → length qs ≡ m → all counts-once qs ≡ true →
