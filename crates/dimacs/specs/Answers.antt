@@ -53,15 +53,15 @@ pub record ProblemRead (bytes : List ℕ) (at room : ℕ) (r : ProblemLine) : Ty
   pub found : problem-line room (first-line (drop at bytes)) ≡ sizes-in r
   pub end : SizesEnd bytes at r
 
--- Refused: its number, 16, 17, 5, 4 or 10 by edge-line (specs/Edges.antt). Named: the pair a,b; PairEnd has the bytes after its line, PlaceKnown its place
+-- Refused: its number, 16, 17, 5, 4 or 10 by edge-line (specs/Edges.antt). Named: the pair a,b with its count w, which is 1; PairEnd has the bytes after its line, PlaceKnown its place
 unfoldable pub pair-in : PairLine → Outcome Pair
 pair-in (line-refused k) = refused k
-pair-in (named a b place i) = taken (pair a b)
+pair-in (named a b w place i) = taken (record { a = a; b = b; w = w })
 
 -- the bytes after the `e` line
 unfoldable pub PairEnd : (bytes : List ℕ) → (at : ℕ) → PairLine → Type 0
 PairEnd bs at (line-refused k) = Unit
-PairEnd bs at (named a b place i) = (after-line (drop at bs) ≡ drop i bs) × (i ≤ length bs)
+PairEnd bs at (named a b w place i) = (after-line (drop at bs) ≡ drop i bs) × (i ≤ length bs)
 
 -- EDGE_LINE: the `e` line at a position, some pairs being held and some lines being left
 pub record EdgeRead (bytes : List ℕ) (at n left : ℕ) (held : List Pair) (r : PairLine) : Type 0 where

@@ -40,20 +40,21 @@ pub record HeadRead (bytes : List ℕ) (due : Outcome Line) (r : HeadLine) : Typ
   pub found : due ≡ head-in bytes r
   pub within : head-end r ≤ length bytes
 
--- Refused: its number, 1, 5, 4 or 10 by pair-line (specs/File.antt). Named: the pair a,b, and the bytes after its line; PlaceKnown has its place
+-- Refused: its number, 1, 5, 4, 18 or 10 by pair-line (specs/File.antt). Named: the pair a,b with its stop count w, and the bytes after its line;
+-- PlaceKnown has its place
 unfoldable pub named-in : (bytes : List ℕ) → PairLine → Outcome Named
 named-in bs (line-refused k) = refused k
-named-in bs (named a b place i) = taken (record { pair = pair a b; rest = drop i bs })
+named-in bs (named a b w place i) = taken (record { pair = record { a = a; b = b; w = w }; rest = drop i bs })
 
 -- where the line ends
 unfoldable pub named-end : PairLine → ℕ
 named-end (line-refused k) = 0
-named-end (named a b place i) = i
+named-end (named a b w place i) = i
 
 -- the place of the pair named among the pairs held
 unfoldable pub PlaceKnown : (held : List Pair) → PairLine → Type 0
 PlaceKnown held (line-refused k) = Unit
-PlaceKnown held (named a b place i) = place ≡ place-of (pair a b) held
+PlaceKnown held (named a b w place i) = place ≡ place-of (pair a b) held
 
 -- PAIR_LINE: the pair line at a position, some pairs being held
 pub record PairLineRead (bytes : List ℕ) (at n : ℕ) (held : List Pair) (r : PairLine) : Type 0 where

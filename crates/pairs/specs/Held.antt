@@ -7,7 +7,8 @@
 --   heavier, lighter          a pair with some stops more, and less
 --   raise-pair, lower-pair    the list with some stops of a pair more, and less
 --   smaller-first-pair        the pair 2,5 for the modules 5 and 2
--- Nothing here asks for the smaller module first, except the last. Assumes nothing: these are definitions.
+--   stops-of                  some stops of that pair
+-- Nothing here asks for the smaller module first, except the last two. Assumes nothing: these are definitions.
 use mathlib.Core.Bool.{Bool, false, _&&_, _||_, cond}
 use mathlib.Core.List.{List, [], _∷_}
 use Prim.Native.Nat.{ℕ, suc, _+_, _-_, min, max}
@@ -72,3 +73,7 @@ lower-pair p (r ∷ rs) = cond (same-ends p r) (cond (leb (r .w) (p .w)) rs (lig
 -- 2,5 is the same pair as 5,2: the smaller module first
 unfoldable pub smaller-first-pair : (a b : ℕ) → Pair
 smaller-first-pair a b = pair (min a b) (max a b)
+
+-- w stops of that pair (document 02, item 4)
+unfoldable pub stops-of : (a b w : ℕ) → Pair
+stops-of a b w = record { a = min a b; b = max a b; w = w }

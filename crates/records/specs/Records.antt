@@ -1,15 +1,14 @@
--- Document 01, "The list and its calls": the pair list is lent as records of two module numbers; a head holds N and M.
+-- Document 01, "The list and its calls": the pair list is lent as records of two module numbers; a head holds N and M. Document 02, item 4: each pair
+-- carries a stop count W in its record.
 --   as-pair, as-pairs       the pairs that records stand for
 --   held-list               the list that a head and the lent records hold
 --   agrees                  head and list agree: number 13 is given where they do not
---   blank                   the record 0,0
---   ends-of, weights-of     the numbers of records as words, and how often they count
---   copied-record, copied-ends    a buffer of words after the numbers of one record, and of the first records, were copied to it
---   copied-out              and after their counts were, too
+--   blank                   the record 0,0,0
+--   ends-of, weights-of     the module numbers of records as words, and their counts
+--   copied-record, copied-out     a buffer of words after one record, and after the first records, were copied to it
 --   word-record, records-in records read from words
 --   put-back                a list after the first records were copied back to it
 --   Room-at, Fits-at        words have a place for a record, and what lies there fits one; Fits-records: so at the first places
---   Room-counts             words have places for the counts of some records
 --   Room-out, Room-back     what the copies ask
 --   Rising-records          what lookup asks
 -- Assumes nothing: these are definitions.
@@ -21,14 +20,14 @@ use lib.Dec.{leb}
 use lib.ListN.{length, getD, set, take, drop}
 use Rattle.theory.specs.Basics.{table}
 use Rattle.theory.specs.Lists as Lists
-use Rattle.theory.specs.Lists.{Pairs, pair, rising, is-list}
+use Rattle.theory.specs.Lists.{Pairs, rising, is-list}
 use Rattle.theory.specs.Words.{put-at}
 use Rattle.records.specs.declared.Pair.{Pair}
 use Rattle.records.specs.declared.Head.{Head}
 
--- the pair that a record stands for: it counts once
+-- the pair that a record stands for: it counts as often as its stop count says
 unfoldable pub as-pair : Pair → Lists.Pair
-as-pair p = pair (p .a) (p .b)
+as-pair p = record { a = p .a; b = p .b; w = p .w }
 
 -- the pairs that some records stand for
 unfoldable pub as-pairs : List Pair → List Lists.Pair
@@ -42,34 +41,30 @@ held-list h ps = record { n = h .n; pairs = as-pairs (take (h .m) ps) }
 unfoldable pub agrees : Head → List Pair → Bool
 agrees h ps = leb (h .m) (length ps) && is-list (held-list h ps)
 
--- the record 0,0: what a freed record becomes
+-- the record 0,0,0: what a freed record becomes
 abbrev pub blank : Pair
-blank = record { a = 0; b = 0 }
+blank = record { a = 0; b = 0; w = 0 }
 
--- the numbers of records as words: those of record j lie at 2j and 2j + 1
+-- the module numbers of records as words: those of record j lie at 2j and 2j + 1
 unfoldable pub ends-of : List Pair → List ℕ
 ends-of [] = []
 ends-of (p ∷ ps) = p .a ∷ p .b ∷ ends-of ps
 
--- how often each record counts
+-- their stop counts
 unfoldable pub weights-of : List Pair → List ℕ
-weights-of ps = map (λ p. as-pair p .w) ps
+weights-of ps = map (λ p. p .w) ps
 
--- the words after the numbers of record p were copied to place i
+-- the words after record p was copied to place i
 unfoldable pub copied-record : List ℕ → ℕ → Pair → List ℕ
-copied-record ws i p = set (set ws (2 * i) (p .a)) (2 * i + 1) (p .b)
+copied-record ws i p = set (set (set ws (2 * i) (p .a)) (2 * i + 1) (p .b)) (8192 + i) (p .w)
 
--- the words after the numbers of the first m records were copied to them
-unfoldable pub copied-ends : List Pair → List ℕ → ℕ → List ℕ
-copied-ends ps ws m = put-at 0 (ends-of (take m ps)) ws
-
--- the words after the first m records were copied to them, and their counts
+-- the words after the first m records were copied to them: the module numbers from word 0 on, the counts from word 8,192 on
 unfoldable pub copied-out : List Pair → List ℕ → ℕ → List ℕ
-copied-out ps ws m = put-at 8192 (weights-of (take m ps)) (copied-ends ps ws m)
+copied-out ps ws m = put-at 8192 (weights-of (take m ps)) (put-at 0 (ends-of (take m ps)) ws)
 
 -- the record that lies in words at place j
 abbrev pub word-record : List ℕ → ℕ → Pair
-word-record ws j = record { a = getD ws (2 * j) 0; b = getD ws (2 * j + 1) 0 }
+word-record ws j = record { a = getD ws (2 * j) 0; b = getD ws (2 * j + 1) 0; w = getD ws (8192 + j) 0 }
 
 -- the first m of them
 unfoldable pub records-in : ℕ → List ℕ → List Pair
@@ -84,14 +79,9 @@ pub record Room-at (i : ℕ) (words : List ℕ) : Type 0 where
   pub few : i < 4096
   pub long : 12288 ≤ length words
 
--- the words have places for the counts of m records
-pub record Room-counts (m : ℕ) (words : List ℕ) : Type 0 where
-  pub few : m ≤ 4096
-  pub long : 0 < m → 12288 ≤ length words
-
 -- what lies at place i fits the 16 bits of a record's numbers
 abbrev pub Fits-at : ℕ → List ℕ → Type 0
-Fits-at i ws = (getD ws (2 * i) 0 < 65536) × (getD ws (2 * i + 1) 0 < 65536)
+Fits-at i ws = (getD ws (2 * i) 0 < 65536) × (getD ws (2 * i + 1) 0 < 65536) × (getD ws (8192 + i) 0 < 65536)
 
 -- m records are there, and the words have places for them; where m is 0 any words do
 pub record Room-out (list : List Pair) (words : List ℕ) (m : ℕ) : Type 0 where

@@ -9,7 +9,7 @@ use mathlib.Core.Bool.{Bool, _&&_, cond}
 use mathlib.Core.List.{List, [], _∷_}
 use Prim.Native.Nat.{ℕ}
 use lib.Dec.{leb, ltb}
-use Rattle.theory.specs.Lists.{stands-before}
+use Rattle.theory.specs.Lists.{weight-in-range, stands-before}
 use Rattle.records.specs.Records.{as-pair, blank}
 use Rattle.records.specs.declared.Pair.{Pair}
 use Rattle.records.specs.declared.Head.{Head}
@@ -27,10 +27,10 @@ begin-of h len = record { ok = fits h len; last = blank }
 abbrev pub tested-of : Head → (ok : Bool) → ℕ
 tested-of h ok = cond ok (h .m) 0
 
--- one record more: below N, the smaller number first, after the record before it
+-- one record more: below N, the smaller number first, its count 1 to 1,000, after the record before it
 unfoldable pub step-of : (n : ℕ) → Seen → Pair → Seen
 step-of n s p = record {
-  ok = s .ok && (ltb (p .b) n && (ltb (p .a) (p .b) && stands-before (as-pair (s .last)) (as-pair p)));
+  ok = s .ok && (ltb (p .b) n && (ltb (p .a) (p .b) && (weight-in-range (as-pair p) && stands-before (as-pair (s .last)) (as-pair p))));
   last = p;
 }
 

@@ -1,18 +1,16 @@
 // The lent records: the only functions that read or write &[Pair]. Everything above works on words, but place, which looks a pair
 // up where the records lie.
-//   copy_out   records to words: the numbers of record j to words 2j and 2j + 1, and its count, which is 1, to word 8,192 + j
+//   copy_out   records to words: the numbers of record j to words 2j and 2j + 1, and its count to word 8,192 + j
 //   copy_in    words to records
 //   agree      whether head and list agree (document 01, number 13)
 //   lookup     whether a pair is held, and its place (document 02, item 3): the search of crate pairs, on the records where they lie
-// Each but the last is one pass over the records that it names (copy_out one more over their counts), and all are blind to what is in a record: lay,
-// lay_counts, record_at, step and look_at know that.
+// Each but the last is one pass over the records that it names, and all are blind to what is in a record: lay, record_at, step and look_at know that.
 ghost use mathlib.Core.Path.{_≡_};
-ghost use lib.ListN.{replicate, take};
+ghost use lib.ListN.{take};
 ghost use Rattle.theory.specs.Lists.{pair};
-ghost use Rattle.theory.specs.Words.{put-at};
 ghost use Rattle.pairs.specs.Located.{located};
 ghost use Rattle.pairs.specs.Searching.{narrowed, Looks};
-ghost use Rattle.records.specs.Records.{copied-record, word-record, copied-out, put-back, Room-at, Fits-at, Room-counts, Room-out, Room-back, agrees};
+ghost use Rattle.records.specs.Records.{copied-record, word-record, copied-out, put-back, Room-at, Fits-at, Room-out, Room-back, agrees};
 ghost use Rattle.records.specs.Records.{as-pair, as-pairs, Rising-records};
 ghost use Rattle.records.specs.Scan.{begin-of, tested-of, step-of};
 use pairs::Place;
@@ -21,11 +19,12 @@ use pairs::begin_search;
 use pairs::found;
 use pairs::narrow;
 
-// A record: two module numbers, the smaller first.
+// A record: two module numbers, the smaller first, and the pair's stop count.
 #[repr(C)]
 pub struct Pair {
     pub a: u16,
     pub b: u16,
+    pub w: u16,
 }
 
 // A head: the number of modules, and of pairs held.
@@ -35,25 +34,14 @@ pub struct Head {
     pub m: u32,
 }
 
-// One record's numbers to words 2i and 2i + 1.
+// One record's numbers to words 2i and 2i + 1, and its count to word 8,192 + i.
 fn lay(words: &mut [u32], i: usize, p: Pair)
     requires { ⌜ Room-at i (now words) ⌝ }
     ensures { λ _. ⌜ now (words .exit) ≡ copied-record (now (words .entry)) i p ⌝ }
 {
     words[2 * i] = p.a as u32;
     words[2 * i + 1] = p.b as u32;
-}
-
-// The counts of the first m records, each 1, to the words from 8,192 on: a pass of its own, so that both are quick (stores side by side).
-fn lay_counts(words: &mut [u32], m: usize)
-    requires { ⌜ Room-counts m (now words) ⌝ }
-    ensures { λ _. ⌜ now (words .exit) ≡ put-at 8192 (replicate m 1) (now (words .entry)) ⌝ }
-{
-    let mut i = 0;
-    while i < m {
-        words[8192 + i] = 1;
-        i += 1;
-    }
+    words[8192 + i] = p.w as u32;
 }
 
 // One record from words.
@@ -64,6 +52,7 @@ fn record_at(words: &[u32], i: usize) -> Pair
     Pair {
         a: words[2 * i] as u16,
         b: words[2 * i + 1] as u16,
+        w: words[8192 + i] as u16,
     }
 }
 
@@ -77,7 +66,6 @@ pub fn copy_out(list: &[Pair], words: &mut [u32], m: usize)
         lay(words, i, list[i]);
         i += 1;
     }
-    lay_counts(words, m);
 }
 
 // The first m records from words. The records after them stay.
@@ -103,7 +91,7 @@ fn begin(head: Head, len: usize) -> Seen
     ensures { λ r. ⌜ r ≡ begin-of head len ⌝ }
 {
     let m = head.m as usize;
-    let none = Pair { a: 0, b: 0 };
+    let none = Pair { a: 0, b: 0, w: 0 };
     if head.n < 1 {
         return Seen {
             ok: false,
@@ -149,6 +137,12 @@ fn step(n: u32, seen: Seen, p: Pair) -> Seen
         return Seen { ok: false, last: p };
     }
     if p.b <= p.a {
+        return Seen { ok: false, last: p };
+    }
+    if p.w < 1 {
+        return Seen { ok: false, last: p };
+    }
+    if 1000 < p.w {
         return Seen { ok: false, last: p };
     }
     if seen.last.a == p.a {
