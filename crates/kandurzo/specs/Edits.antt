@@ -2,7 +2,7 @@
 --   records-out                   how many records go out to words, or are looked at (place): none where 13 is the answer
 --   Ready                         what is known of the words where head and list agree
 --   edit-of                       an answer: the number, the head after it, and how many records come back
---   pair-place                    where a pair stands or would go
+--   pair-located                  whether a pair is held, and where it stands or would go
 --   add-on-number, add-edit, add-words           add
 --   remove-on-number, remove-edit, remove-words  remove
 --   placed-of                     place
@@ -14,9 +14,12 @@ use Prim.Native.Nat.{ℕ, _+_, _-_, _≤_}
 use Rattle.theory.specs.Basics.{mark}
 use Rattle.theory.specs.Words.{laid-pairs, laid-list, Holds-list}
 use Rattle.theory.specs.Refusals.{refusal, if-taken}
-use Rattle.pairs.specs.Held.{place-of, smaller-first-pair}
+use Rattle.pairs.specs.Held.{smaller-first-pair, stops-of}
 use Rattle.pairs.specs.Causes.{add-causes, remove-causes}
-use Rattle.pairs.specs.Shifts.{insert-at, delete-at}
+use Rattle.pairs.specs.Shifts.{delete-at}
+use Rattle.pairs.specs.Located.{located}
+use Rattle.pairs.specs.Counts.{raised, pairs-raised}
+use Rattle.pairs.specs.declared.Place.{Place}
 use Rattle.records.specs.declared.Head.{Head}
 use Rattle.kandurzo.specs.declared.Edit.{Edit}
 use Rattle.kandurzo.specs.declared.Placed.{Placed}
@@ -35,24 +38,24 @@ pub record Ready (h : Head) (agreed : Bool) (len : ℕ) (words : List ℕ) : Typ
 unfoldable pub edit-of : Head → (k : ℕ) → (new : Head) → (back : ℕ) → Edit
 edit-of h k new back = record { number = k; head = if-taken k new h; count = if-taken k back 0 }
 
--- where the pair of a and b stands or would go
-unfoldable pub pair-place : Head → (words : List ℕ) → (a b : ℕ) → ℕ
-pair-place h ws a b = place-of (smaller-first-pair a b) (laid-pairs (h .m) ws)
+-- whether the pair of a and b is held, and where it stands or would go
+unfoldable pub pair-located : Head → (words : List ℕ) → (a b : ℕ) → Place
+pair-located h ws a b = located (smaller-first-pair a b) (laid-pairs (h .m) ws)
 
 -- ---- add
 
 -- the number that add gives
-unfoldable pub add-on-number : Head → (agreed : Bool) → (len : ℕ) → (words : List ℕ) → (a b : ℕ) → ℕ
-add-on-number h t len ws a b = refusal (add-causes (not t) (laid-list (h .n) (h .m) ws) (is-full h len) a b)
+unfoldable pub add-on-number : Head → (agreed : Bool) → (len : ℕ) → (words : List ℕ) → (a b w : ℕ) → ℕ
+add-on-number h t len ws a b w = refusal (add-causes (not t) (laid-list (h .n) (h .m) ws) (is-full h len) a b w)
 
--- one pair more; all records come back
-unfoldable pub add-edit : Head → (agreed : Bool) → (len : ℕ) → (words : List ℕ) → (a b : ℕ) → Edit
-add-edit h t len ws a b = edit-of h (add-on-number h t len ws a b) (head-of (h .n) (h .m + 1)) (h .m + 1)
+-- one pair more, or as many as before; all records come back
+unfoldable pub add-edit : Head → (agreed : Bool) → (len : ℕ) → (words : List ℕ) → (a b w : ℕ) → Edit
+add-edit h t len ws a b w =
+    let m = pairs-raised (h .m) (pair-located h ws a b) in edit-of h (add-on-number h t len ws a b w) (head-of (h .n) m) m
 
--- the pair put in at its place, with the count 1
-unfoldable pub add-words : Head → (agreed : Bool) → (len : ℕ) → (words : List ℕ) → (a b : ℕ) → List ℕ
-add-words h t len ws a b =
-    if-taken (add-on-number h t len ws a b) (insert-at (h .m) (pair-place h ws a b) (smaller-first-pair a b) ws) ws
+-- w stops more of the pair: its count is raised, or it is put in at its place
+unfoldable pub add-words : Head → (agreed : Bool) → (len : ℕ) → (words : List ℕ) → (a b w : ℕ) → List ℕ
+add-words h t len ws a b w = if-taken (add-on-number h t len ws a b w) (raised (h .m) (pair-located h ws a b) (stops-of a b w) ws) ws
 
 -- ---- remove
 
@@ -66,7 +69,7 @@ remove-edit h t ws a b = edit-of h (remove-on-number h t ws a b) (head-of (h .n)
 
 -- the pair taken out; the words freed at the end become 0
 unfoldable pub remove-words : Head → (agreed : Bool) → (words : List ℕ) → (a b : ℕ) → List ℕ
-remove-words h t ws a b = if-taken (remove-on-number h t ws a b) (delete-at (h .m) (pair-place h ws a b) ws) ws
+remove-words h t ws a b = if-taken (remove-on-number h t ws a b) (delete-at (h .m) (pair-located h ws a b .at) ws) ws
 
 -- ---- place
 

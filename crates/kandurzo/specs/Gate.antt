@@ -1,18 +1,13 @@
 -- The refusals that come first in peel, solve, check, surplus and write_dimacs: 13, then 12; and what is known in the words once neither holds.
 --   gate-number, gate-of    13: head and list disagree; 12: a lent buffer is shorter than stated; and how many records go out to words
---   Fits-16-bits            a list whose numbers fit the buffers
 --   Behind                  what a function on words knows behind the gate
 -- Assumes nothing: these are definitions.
 use mathlib.Core.Path.{_≡_}
 use mathlib.Core.Bool.{Bool, true, false, _||_, not}
 use mathlib.Core.List.{List, [], _∷_}
-use Prim.Native.Nat.{ℕ, _≤_, _<_}
+use Prim.Native.Nat.{ℕ}
 use lib.Dec.{eqb}
-use lib.ListN.{getD}
-use Rattle.theory.specs.Lists.{Pairs}
-use Rattle.theory.specs.Cores.{core-number}
-use Rattle.theory.specs.Splits.{shares-good}
-use Rattle.theory.specs.Words.{laid-list, Holds-list}
+use Rattle.theory.specs.Words.{Holds-list}
 use Rattle.theory.specs.Refusals.{cause, refusal, if-taken}
 use Rattle.records.specs.declared.Head.{Head}
 use Rattle.kandurzo.specs.declared.Gate.{Gate}
@@ -26,14 +21,8 @@ gate-number t s = refusal (cause 13 (not t) ∷ cause 12 s ∷ [])
 unfoldable pub gate-of : Head → (agreed short : Bool) → Gate
 gate-of h t s = record { number = gate-number t s; out = if-taken (gate-number t s) (h .m) 0 }
 
--- a list whose core numbers, and shares at up to 512 modules, fit the buffers' 16 bits
-pub record Fits-16-bits (g : Pairs) : Type 0 where
-  pub cores : (v : ℕ) → core-number g v < 65536
-  pub shares : (q : ℕ) (xs : List ℕ) (j : ℕ) → q ≤ 512 → shares-good q (g .pairs) xs ≡ true → getD xs j 0 < 65536
-
--- behind an open gate the words hold the list, whose numbers fit, and none of the lent buffers is short; a shut one says 12 or 13
+-- behind an open gate the words hold the list, and none of the lent buffers is short; a shut one says 12 or 13
 pub record Behind (h : Head) (gate : ℕ) (words : List ℕ) (lent : List Buffer) : Type 0 where
   pub holds : gate ≡ 0 → Holds-list (h .n) (h .m) words
-  pub fits : gate ≡ 0 → Fits-16-bits (laid-list (h .n) (h .m) words)
   pub long : gate ≡ 0 → any-short lent ≡ false
   pub shut : (gate ≡ 0 → ⊥) → (eqb gate 12 || eqb gate 13) ≡ true

@@ -1,19 +1,20 @@
--- Document 01, "The list and its calls": what start, add and remove answer, and what they leave of the lent records.
+-- Document 01, "The list and its calls": what start, add and remove answer, and what they leave of the lent records. Document 02, item 4: a pair carries a
+-- stop count, and add to a held pair raises it.
 --   head-of, changed-to                      a head, and a number with a head
 --   started                                  start
 --   as-record, as-records                    pairs as records
---   is-full, add-number, added, Add-says     add
+--   is-full, add-number, pairs-then, added, Add-says    add
 --   remove-number, removed, Remove-says      remove
 -- Assumes nothing: these are definitions.
 use mathlib.Core.Path.{_≡_}
-use mathlib.Core.Bool.{Bool, _||_, not}
+use mathlib.Core.Bool.{Bool, _||_, not, cond}
 use mathlib.Core.List.{List, _∷_, _++_, map}
 use Prim.Native.Nat.{ℕ, _+_, _-_}
 use lib.Dec.{eqb}
 use lib.ListN.{length, drop}
 use Rattle.theory.specs.Lists as Lists
 use Rattle.theory.specs.Refusals.{refusal, if-taken}
-use Rattle.pairs.specs.Held.{insert-pair, remove-pair, smaller-first-pair}
+use Rattle.pairs.specs.Held.{is-held, raise-pair, remove-pair, smaller-first-pair, stops-of}
 use Rattle.pairs.specs.Causes.{add-causes, remove-causes}
 use Rattle.pairfile.specs.File.{modules-causes}
 use Rattle.records.specs.declared.Pair.{Pair}
@@ -37,33 +38,38 @@ started n = record { number = refusal (modules-causes n); head = if-taken (refus
 
 -- ---- records
 
--- the record of a pair
+-- the record of a pair, with its stop count
 unfoldable pub as-record : Lists.Pair → Pair
-as-record p = record { a = p .a; b = p .b }
+as-record p = record { a = p .a; b = p .b; w = p .w }
 
 -- the records of some pairs
 unfoldable pub as-records : List Lists.Pair → List Pair
 as-records ps = map as-record ps
 
--- ---- add: 13, 5, 4, 10, 11
+-- ---- add: 13, 5, 4, 18, 19, 11
 
 -- 11: no free record: M is 4,096 or the length of the lent list
 unfoldable pub is-full : Head → (len : ℕ) → Bool
 is-full h len = eqb (h .m) 4096 || eqb (h .m) len
 
 -- the number that add gives
-unfoldable pub add-number : Head → List Pair → (a b : ℕ) → ℕ
-add-number h ps a b = refusal (add-causes (not (agrees h ps)) (held-list h ps) (is-full h (length ps)) a b)
+unfoldable pub add-number : Head → List Pair → (a b w : ℕ) → ℕ
+add-number h ps a b w = refusal (add-causes (not (agrees h ps)) (held-list h ps) (is-full h (length ps)) a b w)
 
--- the held records with the new one at its place, later ones shifted up; records past them stay
-unfoldable pub added : Head → List Pair → (a b : ℕ) → List Pair
-added h ps a b = as-records (insert-pair (smaller-first-pair a b) (held-list h ps .pairs)) ++ drop (h .m + 1) ps
+-- how many pairs are held after an add that is taken: a new pair is one more
+unfoldable pub pairs-then : Head → List Pair → (a b : ℕ) → ℕ
+pairs-then h ps a b = cond (is-held (smaller-first-pair a b) (held-list h ps .pairs)) (h .m) (h .m + 1)
+
+-- the held records with w stops more of the pair of a and b: a held pair's count is raised, a new pair goes to its place and later ones are shifted up;
+-- records past them stay
+unfoldable pub added : Head → List Pair → (a b w : ℕ) → List Pair
+added h ps a b w = as-records (raise-pair (stops-of a b w) (held-list h ps .pairs)) ++ drop (pairs-then h ps a b) ps
 
 -- what add answers, and the lent records after it
-pub record Add-says (h : Head) (ps : List Pair) (a b : ℕ) (r : Changed) (after : List Pair) : Type 0 where
-  pub number : r .number ≡ add-number h ps a b
-  pub head : r .head ≡ if-taken (add-number h ps a b) (head-of (h .n) (h .m + 1)) h
-  pub list : after ≡ if-taken (add-number h ps a b) (added h ps a b) ps
+pub record Add-says (h : Head) (ps : List Pair) (a b w : ℕ) (r : Changed) (after : List Pair) : Type 0 where
+  pub number : r .number ≡ add-number h ps a b w
+  pub head : r .head ≡ if-taken (add-number h ps a b w) (head-of (h .n) (pairs-then h ps a b)) h
+  pub list : after ≡ if-taken (add-number h ps a b w) (added h ps a b w) ps
 
 -- ---- remove: 13, 5, 4, 14
 
@@ -71,7 +77,7 @@ pub record Add-says (h : Head) (ps : List Pair) (a b : ℕ) (r : Changed) (after
 unfoldable pub remove-number : Head → List Pair → (a b : ℕ) → ℕ
 remove-number h ps a b = refusal (remove-causes (not (agrees h ps)) (held-list h ps) a b)
 
--- the held records without the pair, later ones shifted down; the one freed becomes 0,0; records past them stay
+-- the held records without the pair and its whole count, later ones shifted down; the one freed becomes 0,0,0; records past them stay
 unfoldable pub removed : Head → List Pair → (a b : ℕ) → List Pair
 removed h ps a b =
     as-records (remove-pair (smaller-first-pair a b) (held-list h ps .pairs)) ++ (blank ∷ drop (h .m) ps)

@@ -32,7 +32,6 @@ use Rattle.theory.specs.Promise.{Both-best, Largest-order}
 use Rattle.verify.specs.declared.Verdict.{Verdict}
 use Rattle.verify.specs.declared.Difference.{Difference}
 use Rattle.verify.specs.Answers.{Check-says, Surplus-says}
-use Rattle.pairfile.specs.Promise.{all-once}
 use Rattle.records.specs.declared.Pair.{Pair}
 use Rattle.records.specs.declared.Head.{Head}
 use Rattle.records.specs.Records.{held-list, agrees}
@@ -52,8 +51,6 @@ use Rattle.kandurzo.specs.Judging.{Check-call, Surplus-call}
 -- a list g is lent: the head has its N and M, and the records of its pairs stand in front of the lent list
 pub record Lent (g : Pairs) (h : Head) (ps : List Pair) : Type 0 where
   pub list : is-list g ≡ true
-  -- each pair counts once, as in all of document 01
-  pub once : all-once (g .pairs) ≡ true
   pub head : h ≡ head-of (g .n) (length (g .pairs))
   pub records : take (length (g .pairs)) ps ≡ as-records (g .pairs)
 
@@ -107,8 +104,8 @@ Every-list-compared =
 -- A REFUSED CALL CHANGES NO HEAD, LIST OR ANSWER BUFFER (start has none of them; place, peel, solve, check, surplus and write_dimacs
 -- only read head and list)
 pub record Refusals-keep : Type 0 where
-  pub add : (h : Head) (ps : List Pair) (a b : ℕ) (r : Changed) (ps′ : List Pair) →
-      Add-says h ps a b r ps′ → (r .number ≡ 0 → ⊥) → (r .head ≡ h) × (ps′ ≡ ps)
+  pub add : (h : Head) (ps : List Pair) (a b w : ℕ) (r : Changed) (ps′ : List Pair) →
+      Add-says h ps a b w r ps′ → (r .number ≡ 0 → ⊥) → (r .head ≡ h) × (ps′ ≡ ps)
   pub remove : (h : Head) (ps : List Pair) (a b : ℕ) (r : Changed) (ps′ : List Pair) →
       Remove-says h ps a b r ps′ → (r .number ≡ 0 → ⊥) → (r .head ≡ h) × (ps′ ≡ ps)
   -- read and read_dimacs

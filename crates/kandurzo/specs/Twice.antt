@@ -16,8 +16,9 @@ use Rattle.theory.specs.Basics.{all}
 use Rattle.theory.specs.Lists as Lists
 use Rattle.theory.specs.Refusals.{cause, refusal}
 use Rattle.pairs.specs.Held.{is-held, smaller-first-pair}
+use Rattle.pairs.specs.Causes.{count-causes, count-passes}
 use Rattle.pairs.specs.Twice.{Five-else-four, four-first, unknown-twice, From-4-to-5}
-use Rattle.lines.specs.Lines.{Line, first, second, line-of, filled}
+use Rattle.lines.specs.Lines.{Line, first, second, third, line-of, filled}
 use Rattle.pairfile.specs.File.{modules-form, pairs-form, pair-form, pair-line, read-file, pair-lines}
 use Rattle.pairfile.specs.Promise.{names-two, Different}
 use Rattle.pairfile.specs.Tried.{number-given}
@@ -46,16 +47,16 @@ pub record Unrefused (n m : ℕ) (lines : List Lists.Pair) (ps : List Pair) (wor
 -- A MODULE PAIRED WITH ITSELF GIVES 5, BE IT ONE OF THE LIST'S OR NOT; TWO DIFFERENT MODULES GIVE 4 WHERE THE LIST LACKS ONE: once no earlier cause is met
 pub record Five-before-four : Type 0 where
   -- where head and list agree (else 13)
-  pub add : (h : Head) (ps : List Pair) (a b : ℕ) (r : Changed) (ps′ : List Pair) →
-      Add-says h ps a b r ps′ → agrees h ps ≡ true → Five-else-four 0 (h .n) a b (r .number)
+  pub add : (h : Head) (ps : List Pair) (a b w : ℕ) (r : Changed) (ps′ : List Pair) →
+      Add-says h ps a b w r ps′ → agrees h ps ≡ true → Five-else-four 0 (h .n) a b (r .number)
   pub remove : (h : Head) (ps : List Pair) (a b : ℕ) (r : Changed) (ps′ : List Pair) →
       Remove-says h ps a b r ps′ → agrees h ps ≡ true → Five-else-four 0 (h .n) a b (r .number)
   pub place : (h : Head) (ps : List Pair) (a b : ℕ) (r : Placed) → Place-says h ps a b r → agrees h ps ≡ true → Five-else-four 0 (h .n) a b (r .number)
   -- on a pair line, whatever follows it
-  pub read : (n m a b : ℕ) (lines : List Lists.Pair) (rest : List ℕ) (ps : List Pair) (work : List ℕ) (r : Changed) (ps′ : List Pair) (work′ : List ℕ) →
-      Unrefused n m lines ps work → a ≤ 9999 → b ≤ 9999 →
+  pub read : (n m a b w : ℕ) (lines : List Lists.Pair) (rest : List ℕ) (ps : List Pair) (work : List ℕ) (r : Changed) (ps′ : List Pair) (work′ : List ℕ) →
+      Unrefused n m lines ps work → all Lists.weight-in-range lines ≡ true → a ≤ 9999 → b ≤ 9999 → w ≤ 9999 →
       Read-call read-file
-      (filled modules-form (n ∷ []) ++ (filled pairs-form (m ∷ []) ++ (pair-lines pair-form lines ++ (filled pair-form (a ∷ b ∷ []) ++ rest))))
+      (filled modules-form (n ∷ []) ++ (filled pairs-form (m ∷ []) ++ (pair-lines pair-form lines ++ (filled pair-form (a ∷ b ∷ w ∷ []) ++ rest))))
       ps work r ps′ work′ →
       Five-else-four 0 n a b (r .number)
   -- on an `e` line, whatever follows it (comments change nothing: Comments-unread in Exchange)
@@ -68,9 +69,11 @@ pub record Five-before-four : Type 0 where
 -- THE NUMBERS OF ADD AND REMOVE, AND OF A LINE OF EITHER FILE, ARE THOSE OF THE OLD ORDERS, but for a module of number N or more (in a DIMACS file, of number
 -- 0 or above N) paired with itself: there, unless 13 or 17 comes first, the old order gives 4 and the new one 5
 pub record Otherwise-as-before : Type 0 where
-  -- add, whose old order is 13, 4, 5, 10, 11
-  pub add : (h : Head) (ps : List Pair) (a b : ℕ) (r : Changed) (ps′ : List Pair) → Add-says h ps a b r ps′ →
-      let later = cause 10 (is-held (smaller-first-pair a b) (held-list h ps .pairs)) ∷ cause 11 (is-full h (length ps)) ∷ [] in
+  -- add, with 4 before 5: 13, 4, 5, 18, 19, 11
+  pub add : (h : Head) (ps : List Pair) (a b w : ℕ) (r : Changed) (ps′ : List Pair) → Add-says h ps a b w r ps′ →
+      let p = smaller-first-pair a b in
+      let held = held-list h ps .pairs in
+      let later = count-causes w ++ (cause 19 (count-passes p w held) ∷ cause 11 (not (is-held p held) && is-full h (length ps)) ∷ []) in
       let old = refusal (cause 13 (not (agrees h ps)) ∷ (four-first 0 (h .n) a b ++ later)) in
       From-4-to-5 (agrees h ps && unknown-twice 0 (h .n) a b) old (r .number)
   -- remove, whose old order is 13, 4, 5, 14
@@ -78,9 +81,9 @@ pub record Otherwise-as-before : Type 0 where
       let later = cause 14 (not (is-held (smaller-first-pair a b) (held-list h ps .pairs))) ∷ [] in
       let old = refusal (cause 13 (not (agrees h ps)) ∷ (four-first 0 (h .n) a b ++ later)) in
       From-4-to-5 (agrees h ps && unknown-twice 0 (h .n) a b) old (r .number)
-  -- a pair line of the form due (any other gives 1), whose old order is 4, 5, 10
+  -- a pair line of the form due (any other gives 1), with 4 before 5: 4, 5, 18, 10
   pub pair-line : (n : ℕ) (held : List Lists.Pair) (bytes : List ℕ) (l : Line) → line-of 4 pair-form bytes ≡ some l →
-      let later = cause 10 (is-held (smaller-first-pair (first l) (second l)) held) ∷ [] in
+      let later = count-causes (third l) ++ (cause 10 (is-held (smaller-first-pair (first l) (second l)) held) ∷ []) in
       let old = refusal (four-first 0 n (first l) (second l) ++ later) in
       From-4-to-5 (unknown-twice 0 n (first l) (second l)) old (number-given (pair-line n held bytes))
   -- an `e` line (any other gives 16), whose old order is 17, 4, 5, 10

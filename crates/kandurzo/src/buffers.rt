@@ -1,4 +1,4 @@
-// Lent buffers: the gate that refuses short ones, the work buffer cleared, and words of 32 bits narrowed to 16.
+// Lent buffers: the gate that refuses short ones, the work buffer cleared, and the leaving order narrowed to 16 bits.
 ghost use mathlib.Core.Path.{_≡_};
 ghost use Prim.Native.Nat.{ℕ, _≤_, _<_};
 ghost use lib.ListN.{length, getD, take};

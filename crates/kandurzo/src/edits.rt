@@ -1,21 +1,25 @@
 // Add and remove on words: the refusals in their order, then the change. The crate `pairs` does the looking up and the shifting.
 ghost use mathlib.Core.Path.{_≡_};
-ghost use mathlib.Core.Bool.{not};
+ghost use mathlib.Core.Bool.{not, _&&_};
+ghost use mathlib.Core.List.{[], _∷_};
+ghost use Prim.Native.Nat.{_+_, _≤_};
+ghost use lib.Dec.{ltb};
 ghost use Rattle.theory.specs.Words.{laid-pairs};
-ghost use Rattle.theory.specs.Refusals.{refusal};
-ghost use Rattle.pairs.specs.Held.{is-held, place-of, smaller-first-pair};
+ghost use Rattle.theory.specs.Refusals.{cause, refusal};
+ghost use Rattle.pairs.specs.Held.{weight-of, smaller-first-pair};
 ghost use Rattle.pairs.specs.Causes.{place-causes};
-ghost use Rattle.pairs.specs.Located.{Rising-words};
+ghost use Rattle.pairs.specs.Located.{Rising-words, located};
 ghost use Rattle.kandurzo.specs.Listing.{is-full};
 ghost use Rattle.kandurzo.specs.Edits.{records-out, Ready, add-edit, add-words, remove-edit, remove-words};
 use crate::Edit;
 use numbers::greater;
 use numbers::lesser;
 use pairs::Place;
+use pairs::count_number;
 use pairs::delete;
-use pairs::insert;
 use pairs::lookup;
 use pairs::pair_number;
+use pairs::raise;
 use records::Head;
 
 // How many records go out to words, or are looked at (place).
@@ -51,8 +55,7 @@ pub(crate) fn first_number(head: Head, agreed: bool, a: u32, b: u32) -> u32
 // Whether the pair of a and b is held among the first m, and its place.
 fn find(words: &[u32], m: usize, a: u32, b: u32) -> Place
     requires { ⌜ Rising-words m (now words) ⌝ }
-    ensures { λ r. ⌜ (r .held ≡ is-held (smaller-first-pair a b) (laid-pairs m (now (words .entry))))
-        × (r .at ≡ place-of (smaller-first-pair a b) (laid-pairs m (now (words .entry)))) ⌝ }
+    ensures { λ r. ⌜ r ≡ located (smaller-first-pair a b) (laid-pairs m (now (words .entry))) ⌝ }
 {
     lookup(words, m, lesser(a, b), greater(a, b))
 }
@@ -68,7 +71,37 @@ fn full(head: Head, len: usize) -> bool
     m == 4096
 }
 
-// Refuses by 13, 5, 4, 10, 11.
+// The count of the pair of a and b, which lookup has found at `place`; 0 where it is not held.
+fn count_there(words: &[u32], m: usize, place: Place, a: u32, b: u32) -> u32
+    requires { ⌜ Rising-words m (now words) ⌝ }
+    requires { ⌜ place ≡ located (smaller-first-pair a b) (laid-pairs m (now words)) ⌝ }
+    ensures { λ r. ⌜ r ≡ weight-of (smaller-first-pair a b) (laid-pairs m (now (words .entry))) ⌝ }
+{
+    if place.held {
+        let at = place.at;
+        return words[8192 + at];
+    }
+    0
+}
+
+// 19: the count of a held pair with w more passes 1,000; 11: no record is free for a new pair.
+fn room_number(head: Head, len: usize, held: bool, count: u32, w: u32) -> u32
+    requires { ⌜ (count ≤ 1000) × (w ≤ 1000) ⌝ }
+    ensures { λ r. ⌜ r ≡ refusal (cause 19 (ltb 1000 (count + w)) ∷ cause 11 (not held && is-full head len) ∷ []) ⌝ }
+{
+    if 1000 < count + w {
+        return 19;
+    }
+    if held {
+        return 0;
+    }
+    if full(head, len) {
+        return 11;
+    }
+    0
+}
+
+// Refuses by 13, 5, 4, 18, 19, 11.
 pub(crate) fn add_on_words(
     head: Head,
     agreed: bool,
@@ -76,34 +109,39 @@ pub(crate) fn add_on_words(
     words: &mut [u32],
     a: u32,
     b: u32,
+    w: u32,
 ) -> Edit
     requires { ⌜ Ready head agreed len (now words) ⌝ }
-    ensures { λ r. ⌜ (r ≡ add-edit head agreed len (now (words .entry)) a b) × (now (words .exit) ≡ add-words head agreed len (now (words .entry)) a b) ⌝ }
+    ensures { λ r. ⌜ (r ≡ add-edit head agreed len (now (words .entry)) a b w)
+        × (now (words .exit) ≡ add-words head agreed len (now (words .entry)) a b w) ⌝ }
 {
     let k = first_number(head, agreed, a, b);
     if k != 0 {
         return refused(k, head);
     }
+    let c = count_number(w);
+    if c != 0 {
+        return refused(c, head);
+    }
     let m = head.m as usize;
     let place = find(words, m, a, b);
-    if place.held {
-        return refused(10, head);
+    let held = count_there(words, m, place, a, b);
+    let r = room_number(head, len, place.held, held, w);
+    if r != 0 {
+        return refused(r, head);
     }
-    if full(head, len) {
-        return refused(11, head);
-    }
-    insert(words, m, place.at, lesser(a, b), greater(a, b), 1);
+    let count = raise(words, m, place, lesser(a, b), greater(a, b), w);
     Edit {
         number: 0,
         head: Head {
             n: head.n,
-            m: head.m + 1,
+            m: count as u32,
         },
-        count: m + 1,
+        count,
     }
 }
 
-// Refuses by 13, 5, 4, 14. The record freed comes back as 0,0.
+// Refuses by 13, 5, 4, 14. The pair goes with its whole count, and the record freed comes back as 0,0,0.
 pub(crate) fn remove_on_words(
     head: Head,
     agreed: bool,

@@ -1,4 +1,5 @@
-// The public calls of Kandurzo, over lent records (document 01, "The list and its calls"; document 02, items 1 to 3: DIMACS files; 5 before 4; place).
+// The public calls of Kandurzo, over lent records (document 01, "The list and its calls"; document 02, items 1 to 4: DIMACS files; 5 before 4; place;
+// stop counts).
 mod buffers;
 mod edits;
 mod judging;
@@ -118,17 +119,17 @@ pub extern "C" fn kandurzo_start(n: u32) -> Changed
 
 pub use kandurzo_start as start;
 
-// Adds the pair of modules a and b, in either order. Refuses by 13, 5, 4, 10, 11; head and list are then as before. Copies the held
-// records to words and back.
+// Adds w stops of the pair of modules a and b, in either order: a held pair's count is raised, a new pair goes to its place. Refuses by 13, 5, 4, 18,
+// 19, 11; head and list are then as before. Copies the held records to words and back.
 #[no_mangle]
-pub extern "C" fn kandurzo_add(head: Head, list: &mut [Pair], a: u32, b: u32) -> Changed
-    ensures { λ r. ⌜ Add-says head (now (list .entry)) a b r (now (list .exit)) ⌝ }
+pub extern "C" fn kandurzo_add(head: Head, list: &mut [Pair], a: u32, b: u32, w: u32) -> Changed
+    ensures { λ r. ⌜ Add-says head (now (list .entry)) a b w r (now (list .exit)) ⌝ }
 {
     let agreed = agree(head, list);
     let mut words = [0u32; 12288];
     let out = records_out(head, agreed);
     copy_out(list, &mut words, out);
-    let edit = add_on_words(head, agreed, list.len(), &mut words, a, b);
+    let edit = add_on_words(head, agreed, list.len(), &mut words, a, b, w);
     copy_in(list, &words, edit.count);
     Changed {
         number: edit.number,
@@ -138,7 +139,7 @@ pub extern "C" fn kandurzo_add(head: Head, list: &mut [Pair], a: u32, b: u32) ->
 
 pub use kandurzo_add as add;
 
-// Removes the pair of modules a and b, in either order. Refuses by 13, 5, 4, 14; head and list are then as before.
+// Removes the pair of modules a and b, in either order, with its whole count. Refuses by 13, 5, 4, 14; head and list are then as before.
 #[no_mangle]
 pub extern "C" fn kandurzo_remove(head: Head, list: &mut [Pair], a: u32, b: u32) -> Changed
     ensures { λ r. ⌜ Remove-says head (now (list .entry)) a b r (now (list .exit)) ⌝ }
@@ -159,10 +160,10 @@ pub use kandurzo_remove as remove;
 
 // Adds to the caller's own head and list, and answers the number.
 #[no_mangle]
-pub extern "C" fn kandurzo_add_to(head: &mut Head, list: &mut [Pair], a: u32, b: u32) -> u32
-    ensures { λ r. ⌜ Add-says (now (head .entry)) (now (list .entry)) a b (changed-to r (now (head .exit))) (now (list .exit)) ⌝ }
+pub extern "C" fn kandurzo_add_to(head: &mut Head, list: &mut [Pair], a: u32, b: u32, w: u32) -> u32
+    ensures { λ r. ⌜ Add-says (now (head .entry)) (now (list .entry)) a b w (changed-to r (now (head .exit))) (now (list .exit)) ⌝ }
 {
-    let answer = kandurzo_add(*head, list, a, b);
+    let answer = kandurzo_add(*head, list, a, b, w);
     *head = answer.head;
     answer.number
 }
@@ -252,7 +253,7 @@ pub extern "C" fn kandurzo_peel(
     head: Head,
     list: &[Pair],
     order: &mut [u16],
-    cores: &mut [u16],
+    cores: &mut [u32],
     work: &mut [u32],
 ) -> u32
     ensures { λ r. ⌜ Peel-call head (now (list .entry)) (now (order .entry)) (now (cores .entry)) (now (work .entry)) r
@@ -274,8 +275,8 @@ pub extern "C" fn kandurzo_solve(
     head: Head,
     list: &[Pair],
     members: &mut [u8],
-    cores: &mut [u16],
-    shares: &mut [u16],
+    cores: &mut [u32],
+    shares: &mut [u32],
     work: &mut [u32],
 ) -> Solved
     ensures { λ r. ⌜ Solve-call head (now (list .entry)) (now (members .entry)) (now (cores .entry)) (now (shares .entry)) (now (work .entry)) r
@@ -303,7 +304,7 @@ pub extern "C" fn kandurzo_check(
     head: Head,
     list: &[Pair],
     members: &[u8],
-    shares: &[u16],
+    shares: &[u32],
     work: &mut [u32],
 ) -> Verdict
     ensures { λ r. ⌜ Check-call head (now (list .entry)) (now (members .entry)) (now (shares .entry)) (now (work .entry)) r (now (work .exit)) ⌝ }

@@ -6,13 +6,12 @@ ghost use Rattle.theory.specs.Ratio.{float-ratio};
 ghost use Rattle.theory.specs.Words.{laid-list, Holds-list};
 ghost use Rattle.densest.specs.Solve.{Solves};
 ghost use Rattle.kandurzo.specs.Buffers.{any-short};
-ghost use Rattle.kandurzo.specs.Gate.{gate-of, Fits-16-bits, Behind};
+ghost use Rattle.kandurzo.specs.Gate.{gate-of, Behind};
 ghost use Rattle.kandurzo.specs.Solving.{solve-buffers, declined, Solve-on};
 use crate::Gate;
 use crate::Solved;
 use crate::buffers::clear;
 use crate::buffers::gate;
-use crate::buffers::narrow;
 use densest::Effort;
 use densest::PHASES;
 use densest::Solution;
@@ -53,44 +52,38 @@ fn refused(number: u32) -> Solved
     }
 }
 
-// Group, core numbers and load sheet of the list in the words; core numbers and shares are narrowed to the buffers' 16 bits.
+// Group, core numbers and load sheet of the list in the words.
 fn sheet_in(
     n: usize,
     m: usize,
     work: &[u32],
     members: &mut [u8],
-    cores: &mut [u16],
-    shares: &mut [u16],
+    cores: &mut [u32],
+    shares: &mut [u32],
 ) -> Solution
     requires { ⌜ Holds-list n m (now work) ⌝ }
     requires { ⌜ n ≤ length (now members) ⌝ }
     requires { ⌜ n ≤ length (now cores) ⌝ }
     requires { ⌜ m ≤ length (now shares) ⌝ }
-    requires { ⌜ Fits-16-bits (laid-list n m (now work)) ⌝ }
     ensures { λ r. ⌜ Solves (laid-list n m (now (work .entry))) (now (members .entry))
         (now (cores .entry)) (now (shares .entry)) (now (members .exit)) (now (cores .exit)) (now (shares .exit)) r ⌝ }
 {
-    let mut numbers = [0u32; 512];
-    let mut sheet = [0u32; 4096];
     let ends = 2 * m;
     let weights = 8192 + m;
     let effort = Effort {
         phases: PHASES,
         links: m,
     };
-    let found = solve(
+    solve(
         n,
         m,
         effort,
         &work[0..ends],
         &work[8192..weights],
         members,
-        &mut numbers,
-        &mut sheet,
-    );
-    narrow(&numbers, n, cores);
-    narrow(&sheet, m, shares);
-    found
+        cores,
+        shares,
+    )
 }
 
 // The record of what was found.
@@ -121,8 +114,8 @@ pub(crate) fn solve_on_words(
     head: Head,
     gate: u32,
     members: &mut [u8],
-    cores: &mut [u16],
-    shares: &mut [u16],
+    cores: &mut [u32],
+    shares: &mut [u32],
     work: &mut [u32],
 ) -> Solved
     requires { ⌜ Behind head gate (now work)
