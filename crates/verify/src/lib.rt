@@ -2,12 +2,12 @@
 // Check counts P and Q of the group itself (crate `groups`), tests each share against its pair's units at share size Q, adds up the load of each
 // module, and accepts where no load is above P: then group and split are both best (demand 3, `Optimal`). Surplus is the
 // difference of two products, as i64. Both cost a few passes over modules and pairs, and write nothing.
-// Pair j has its ends at slots 2j and 2j + 1 of `ends` and its weight at place j of `weights`. The list has been found good and every
-// buffer long enough (13 and 12 are the caller's); the refusals here are 7, 8 and 9, in document 01's order.
+// Pair j has its ends at slots 2j and 2j + 1 of `ends`, its weight at place j of `weights`, and its smaller end's units at place j of `shares`. The
+// list has been found good and every buffer long enough (13 and 12 are the caller's); the refusals here are 7, 8 and 9, in document 01's order.
 ghost use mathlib.Core.Path.{_≡_};
 ghost use mathlib.Core.Bool.{true};
 ghost use mathlib.Core.List.{List};
-ghost use Prim.Native.Nat.{ℕ, _*_, _≤_, _<_};
+ghost use Prim.Native.Nat.{ℕ, _*_, _≤_};
 ghost use lib.ListN.{length, getD, take};
 ghost use lib.IntN.{pos, _-ℤ_};
 ghost use Rattle.theory.specs.Basics.{greatest};
@@ -30,17 +30,6 @@ pub struct Verdict {
 pub struct Difference {
     pub number: u32,
     pub value: i64,
-}
-
-// An entry of the load sheet as it is lent; `share_at` is the only place that knows its width.
-type Share = u16;
-
-// The smaller end's units of pair j.
-fn share_at(shares: &[Share], j: usize) -> u32
-    requires { ⌜ j < length (now shares) ⌝ }
-    ensures { λ r. ⌜ r ≡ getD (now (shares .entry)) j 0 ⌝ }
-{
-    shares[j] as u32
 }
 
 // Whether the first n bytes are member bytes, 0 or 1.
@@ -71,7 +60,7 @@ fn counted(n: usize, members: &[u8]) -> u32
 }
 
 // Whether no share is above its pair's units at share size q. The ends do not matter.
-fn shares_fit(m: usize, weights: &[u32], shares: &[Share], q: u32) -> bool
+fn shares_fit(m: usize, weights: &[u32], shares: &[u32], q: u32) -> bool
     requires { ⌜ (m ≤ length (now weights)) × (m ≤ length (now shares)) ⌝ }
     requires { ⌜ Light m (now weights) ⌝ }
     requires { ⌜ q ≤ 512 ⌝ }
@@ -79,7 +68,7 @@ fn shares_fit(m: usize, weights: &[u32], shares: &[Share], q: u32) -> bool
 {
     let mut j: usize = 0;
     while j < m {
-        if weights[j] * q < share_at(shares, j) {
+        if weights[j] * q < shares[j] {
             return false;
         }
         j += 1;
@@ -88,14 +77,7 @@ fn shares_fit(m: usize, weights: &[u32], shares: &[Share], q: u32) -> bool
 }
 
 // The load of every module, the smaller end's share of each pair and the rest for the other end.
-fn loads_of(
-    n: usize,
-    m: usize,
-    ends: &[u32],
-    weights: &[u32],
-    shares: &[Share],
-    q: u32,
-) -> [u32; 512]
+fn loads_of(n: usize, m: usize, ends: &[u32], weights: &[u32], shares: &[u32], q: u32) -> [u32; 512]
     requires { ⌜ Held-words n m (now ends) (now weights) ⌝ }
     requires { ⌜ m ≤ length (now shares) ⌝ }
     requires { ⌜ q ≤ 512 ⌝ }
@@ -108,7 +90,7 @@ fn loads_of(
         let pair = groups::two_ends(n, m, j, ends);
         let a = pair.a;
         let b = pair.b;
-        let x = share_at(shares, j);
+        let x = shares[j];
         let rest = weights[j] * q - x;
         loads[a] += x;
         loads[b] += rest;
@@ -154,7 +136,7 @@ pub fn check_words(
     ends: &[u32],
     weights: &[u32],
     members: &[u8],
-    shares: &[Share],
+    shares: &[u32],
 ) -> Verdict
     requires { ⌜ Held-words n m (now ends) (now weights) ⌝ }
     requires { ⌜ n ≤ length (now members) ⌝ }

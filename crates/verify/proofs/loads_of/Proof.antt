@@ -1,6 +1,8 @@
 -- `verify::loads_of` meets its contract. The loop keeps `Loading`. Assumes nothing.
+use mathlib.Core.Path.{refl}
 use Prim.Native.Nat.{_-_}
 use native.Mathlib.Omega.{arith}
+use lib.ListN.{getD}
 use Rattle.slots.proofs.Words.{list-ends}
 use Rattle.verify.proofs.Loading.{Loading, Turn, both-more, loading-starts, turn, loading-ends}
 use Rattle.verify.proofs.loads_of.Statement.{statement}
@@ -22,18 +24,18 @@ two-ends-requires c κs =
     let h = c .before .before .before .before .before .pre .0 in (list-ends _ _ _ _ (h .listed) (h .ends-long), omega arith)
 
 -- what holds in the turn
-at-turn : (c : tie.After-shared-slice-known4 Inv-loop μ-loop) →
+at-turn : (c : tie.After-shared-slice-known5 Inv-loop μ-loop) →
     let at = c .before .before .before .before in
     let s = at .before .before .before .before .args in
     let pair = c .before .before .two-ends .result in
     Turn (s .m) (s .q) (s .ends .now) (s .weights .now) (s .shares .now) (at .loop .loads) (at .loop .j) (pair .a) (pair .b)
-    (c .before .share-at .result)
+    (getD (s .shares .now) (at .loop .j) 0)
 at-turn c =
     let at = c .before .before .before .before in
     let h = at .before .before .before .before .pre in
     let e = c .before .before .two-ends .ensures in
     turn _ _ _ _ _ _ (h .0) (h .1 .0) (h .1 .1 .0) (h .1 .1 .1) (at .loop .loads) (at .loop .j) _ _ _ (at .loop .inv) (omega arith)
-    (e .first) (e .second) (c .before .share-at .ensures)
+    (e .first) (e .second) refl
 
 mul-rest-2 : tie.Need-mul-rest-2 Inv-loop μ-loop
 mul-rest-2 c = omega (arith, at-turn c .units)
@@ -82,7 +84,8 @@ loads-of-spec =
     μ-loop
     loop-holds
     two-ends-requires
-    (λ c κs. omega arith)
+    (λ c. omega arith)
+    (λ c. omega arith)
     (λ c. omega arith)
     (λ c. omega arith)
     mul-rest-2
