@@ -32,15 +32,15 @@ fn count(head: Head) -> usize
 pub fn sheet_file(
     bytes: &[u8],
     members: &mut [u8],
-    cores: &mut [u16],
-    shares: &mut [u16],
+    cores: &mut [u32],
+    shares: &mut [u32],
     words: &mut [u32],
 ) -> Answer
     requires { ⌜ Room-enough (length (now members)) (length (now cores)) (length (now shares)) (length (now words)) ⌝ }
     ensures { λ r. ⌜ Sheeted (now (bytes .entry)) (now (members .entry)) (now (cores .entry)) (now (shares .entry)) (now (words .entry)) r
         (now (members .exit)) (now (cores .exit)) (now (shares .exit)) (now (words .exit)) ⌝ }
 {
-    let mut list = [Pair { a: 0, b: 0 }; 4096];
+    let mut list = [Pair { a: 0, b: 0, w: 0 }; 4096];
     let mut work = [0u32; 16384];
     let file = read(bytes, &mut list, &mut work);
     let head = file.head;
@@ -63,8 +63,8 @@ pub fn solve_file(bytes: &[u8], members: &mut [u8]) -> Answer
     requires { ⌜ 512 ≤ length (now members) ⌝ }
     ensures { λ r. ⌜ Answers (now (bytes .entry)) (now (members .entry)) r (now (members .exit)) ⌝ }
 {
-    let mut cores = [0u16; 512];
-    let mut shares = [0u16; 4096];
+    let mut cores = [0u32; 512];
+    let mut shares = [0u32; 4096];
     let mut words = [0u32; 12288];
     sheet_file(bytes, members, &mut cores, &mut shares, &mut words)
 }

@@ -1,5 +1,6 @@
 -- Document 02, item 1: what is promised of DIMACS files.
---   Written-reads-back     a list that is written and read is the same list
+--   once-each, Written-reads-once    a list that is written and read is the same list, each pair with the count 1
+--   Written-reads-back     so a list of ones is the same list
 --   Written-plain          what is written has no comments and names the pairs in list order
 --   pair-on, named-on, named    the pairs named on a file's `e` lines, in file order, as written less 1
 --   Rewritten              an accepted file without comments, in list order and with the smaller module first, is rewritten byte for byte
@@ -13,7 +14,7 @@
 -- proofs/Promises.antt has a theorem for each, of the same name in small letters. Assumes nothing: these are definitions.
 use mathlib.Core.Path.{_≡_}
 use mathlib.Core.Bool.{Bool, true, _||_}
-use mathlib.Core.List.{List, [], _∷_, _++_}
+use mathlib.Core.List.{List, [], _∷_, _++_, map}
 use mathlib.Core.Option.{Option, none, some}
 use Prim.Native.Nat.{ℕ, _-_, _≤_}
 use lib.Dec.{eqb}
@@ -27,7 +28,15 @@ use Rattle.pairfile.specs.Promise.{Names, all-once, names-two, Different}
 use Rattle.dimacs.specs.Comments.{is-comment, first-line, plain-lines, without-comments}
 use Rattle.dimacs.specs.Edges.{edge-form, read-dimacs, dimacs-file, dimacs-of}
 
--- A LIST THAT IS WRITTEN AND READ IS THE SAME LIST, where each pair counts once
+-- the list with the count 1 on each pair
+unfoldable pub once-each : Pairs → Pairs
+once-each g = record { n = g .n; pairs = map (λ p. pair (p .a) (p .b)) (g .pairs) }
+
+-- A LIST THAT IS WRITTEN AND READ HAS THE SAME PAIRS, EACH WITH THE COUNT 1: a DIMACS file has no counts (document 02, item 4)
+unfoldable pub Written-reads-once : Type 0
+Written-reads-once = (room : ℕ) (g : Pairs) → is-list g ≡ true → length (g .pairs) ≤ room → read-dimacs room (dimacs-of g) ≡ taken (once-each g)
+
+-- A LIST OF ONES THAT IS WRITTEN AND READ IS THE SAME LIST
 unfoldable pub Written-reads-back : Type 0
 Written-reads-back =
     (room : ℕ) (g : Pairs) → is-list g ≡ true → all-once (g .pairs) ≡ true → length (g .pairs) ≤ room → read-dimacs room (dimacs-of g) ≡ taken g

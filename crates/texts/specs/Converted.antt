@@ -17,6 +17,7 @@ use Rattle.theory.specs.Lists.{Pairs}
 use Rattle.lines.specs.Outcomes.{Outcome, refused, taken}
 use Rattle.pairfile.specs.File.{read-file, file-of}
 use Rattle.dimacs.specs.Edges.{read-dimacs, dimacs-of}
+use Rattle.dimacs.specs.Promise.{once-each}
 use Rattle.texts.specs.Texts.{refusal-text}
 use Rattle.texts.specs.Contracts.{Read-of}
 
@@ -25,7 +26,7 @@ unfoldable pub converted : (file-of-list : Pairs → List ℕ) → Outcome Pairs
 converted file-of-list (refused k) = refusal-text k
 converted file-of-list (taken g) = file-of-list g
 
--- the pair file of a list: the pairs in list order, the smaller module first
+-- the pair file of a list: the pairs in list order, the smaller module first, each with its count
 unfoldable pub pair-file : Pairs → List ℕ
 pair-file g = file-of (g .n) (g .pairs)
 
@@ -49,20 +50,20 @@ pub record From-dimacs-read (buffer : List ℕ) (n : ℕ) (text : List ℕ) : Ty
 pub record To-dimacs-read (buffer : List ℕ) (n : ℕ) (text : List ℕ) : Type 0 where
   pub due : (file : List ℕ) → Read-of buffer n file → text ≡ to-dimacs-printed file
 
--- WHAT `from_dimacs` PRINTS OF AN ACCEPTED FILE, the reader of pair files reads as the same list
+-- WHAT `from_dimacs` PRINTS OF AN ACCEPTED FILE, the reader of pair files reads as the same list; each pair has the count 1
 unfoldable pub From-dimacs-same : Type 0
 From-dimacs-same =
     (file : List ℕ) (g : Pairs) → is-long file ≡ false → read-dimacs 4096 file ≡ taken g → read-file 4096 (from-dimacs-printed file) ≡ taken g
 
--- WHAT `to_dimacs` PRINTS OF AN ACCEPTED FILE, the reader of DIMACS files reads as the same list
+-- WHAT `to_dimacs` PRINTS OF AN ACCEPTED FILE, the reader of DIMACS files reads as the same pairs, each with the count 1: of a list of ones, as the same list
 unfoldable pub To-dimacs-same : Type 0
-To-dimacs-same = (file : List ℕ) (g : Pairs) → read-file 4096 file ≡ taken g → read-dimacs 4096 (to-dimacs-printed file) ≡ taken g
+To-dimacs-same = (file : List ℕ) (g : Pairs) → read-file 4096 file ≡ taken g → read-dimacs 4096 (to-dimacs-printed file) ≡ taken (once-each g)
 
 -- ONE AFTER THE OTHER they print the file of the list, in list order and the smaller module first: its DIMACS file,
 unfoldable pub From-then-to : Type 0
 From-then-to =
     (file : List ℕ) (g : Pairs) → is-long file ≡ false → read-dimacs 4096 file ≡ taken g → to-dimacs-printed (from-dimacs-printed file) ≡ dimacs-of g
 
--- and its pair file
+-- and its pair file, in which each pair has the count 1
 unfoldable pub To-then-from : Type 0
-To-then-from = (file : List ℕ) (g : Pairs) → read-file 4096 file ≡ taken g → from-dimacs-printed (to-dimacs-printed file) ≡ pair-file g
+To-then-from = (file : List ℕ) (g : Pairs) → read-file 4096 file ≡ taken g → from-dimacs-printed (to-dimacs-printed file) ≡ pair-file (once-each g)

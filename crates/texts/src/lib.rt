@@ -2,9 +2,9 @@
 // `from_dimacs` and `to_dimacs` print, neighbours.rt what `neighbours` prints.
 //
 // A program reads its input, calls one of the public functions, and writes the first bytes of the buffer out, as many as the function answers.
-// A text is written once, from front to back, line by line, at the cost of its bytes. 8,192 bytes hold the text of any group, 100,000 that of any
+// A text is written once, from front to back, line by line, at the cost of its bytes. 8,192 bytes hold the text of any group, 140,000 that of any
 // sheet, 64 that of any audit or pair; a file is refused by its number on the status line. Of an input a caller lends the whole buffer, which has room for
-// every byte that decides (65,536 of a pair file, 100,000 of a sheet), and says how many bytes were read: the text is that of the whole file.
+// every byte that decides (65,536 of a pair file, 140,000 of a sheet), and says how many bytes were read: the text is that of the whole file.
 mod converted;
 mod neighbours;
 
@@ -66,14 +66,14 @@ fn write_members(members: &[u8], out: &mut [u8], at: usize) -> usize
 }
 
 // A line for each core number.
-fn write_numbers(cores: &[u16], out: &mut [u8], at: usize) -> usize
+fn write_numbers(cores: &[u32], out: &mut [u8], at: usize) -> usize
     requires { ⌜ at + length (number-lines (now cores)) ≤ length (now out) ⌝ }
     ensures { λ r. ⌜ Puts (number-lines (now (cores .entry))) (now (out .entry)) at (now (out .exit)) r ⌝ }
 {
     let mut i = at;
     let mut v: usize = 0;
     while v < cores.len() {
-        let numbers = [cores[v] as u32];
+        let numbers = [cores[v]];
         i = write_line(b"number=C\n", &numbers, out, i);
         v += 1;
     }
@@ -81,7 +81,7 @@ fn write_numbers(cores: &[u16], out: &mut [u8], at: usize) -> usize
 }
 
 // A line for each pair, with its share.
-fn write_shares(words: &[u32], shares: &[u16], out: &mut [u8], at: usize) -> usize
+fn write_shares(words: &[u32], shares: &[u32], out: &mut [u8], at: usize) -> usize
     requires { ⌜ 2 * length (now shares) ≤ length (now words) ⌝ }
     requires { ⌜ at + length (share-lines (laid-pairs (length (now shares)) (now words)) (now shares)) ≤ length (now out) ⌝ }
     ensures { λ r. ⌜ Puts (share-lines (laid-pairs (length (now (shares .entry))) (now (words .entry))) (now (shares .entry))) (now (out .entry)) at
@@ -90,7 +90,7 @@ fn write_shares(words: &[u32], shares: &[u16], out: &mut [u8], at: usize) -> usi
     let mut i = at;
     let mut j: usize = 0;
     while j < shares.len() {
-        let numbers = [words[2 * j], words[2 * j + 1], shares[j] as u32];
+        let numbers = [words[2 * j], words[2 * j + 1], shares[j]];
         i = write_line(b"share=A,B,U\n", &numbers, out, i);
         j += 1;
     }
@@ -112,9 +112,9 @@ fn write_group(found: Answer, members: &[u8], out: &mut [u8]) -> usize
 fn write_sheet(
     found: Answer,
     members: &[u8],
-    cores: &[u16],
+    cores: &[u32],
     words: &[u32],
-    shares: &[u16],
+    shares: &[u32],
     out: &mut [u8],
 ) -> usize
     requires { ⌜ length (now members) ≤ 512 ⌝ }
@@ -146,12 +146,12 @@ pub fn group_text(file: &[u8], n: usize, out: &mut [u8]) -> usize
 // The text of `sheet`, of the n bytes that were read of a pair file; answers how long it is.
 pub fn sheet_text(file: &[u8], n: usize, out: &mut [u8]) -> usize
     requires { ⌜ Input 65536 (now file) n ⌝ }
-    requires { ⌜ 100000 ≤ length (now out) ⌝ }
+    requires { ⌜ 140000 ≤ length (now out) ⌝ }
     ensures { λ r. ⌜ Prints (Sheet-read (now (file .entry)) n) (now (out .entry)) (now (out .exit)) r ⌝ }
 {
     let mut members = [0u8; 512];
-    let mut cores = [0u16; 512];
-    let mut shares = [0u16; 4096];
+    let mut cores = [0u32; 512];
+    let mut shares = [0u32; 4096];
     let mut words = [0u32; 12288];
     let found = sheet_file(
         &file[..n],
@@ -178,7 +178,7 @@ pub fn sheet_text(file: &[u8], n: usize, out: &mut [u8]) -> usize
 // The text of `audit`, of the n bytes that were read of a pair file and the k of a sheet; answers how long it is.
 pub fn audit_text(file: &[u8], n: usize, sheet: &[u8], k: usize, out: &mut [u8]) -> usize
     requires { ⌜ Input 65536 (now file) n ⌝ }
-    requires { ⌜ Input 100000 (now sheet) k ⌝ }
+    requires { ⌜ Input 140000 (now sheet) k ⌝ }
     requires { ⌜ 64 ≤ length (now out) ⌝ }
     ensures { λ r. ⌜ Prints (Audit-read (now (file .entry)) n (now (sheet .entry)) k) (now (out .entry)) (now (out .exit)) r ⌝ }
 {
