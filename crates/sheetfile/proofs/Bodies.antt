@@ -16,7 +16,7 @@ use Rattle.theory.specs.Basics.{mark}
 use Rattle.theory.specs.Lists.{Pairs}
 use Rattle.theory.specs.Refusals.{cause, refusal}
 use Rattle.lines.specs.Text.{text, between}
-use Rattle.lines.specs.Lines.{first, second, is-place, places}
+use Rattle.lines.specs.Lines.{first, second, third, fourth, is-place, places}
 use Rattle.lines.specs.Outcomes.{Outcome, taken, _>>=_, _>>_, passed, judge, line-or, line-due}
 use Rattle.lines.specs.Answers.{LineFound}
 use Rattle.lines.specs.declared.FoundLine.{FoundLine}
@@ -24,8 +24,6 @@ use Rattle.lines.specs.declared.FoundLine.the-variants.{Malformed}
 use Rattle.lines.proofs.Found.{LineHas, malformed}
 use Rattle.sheetfile.specs.Sheet.{
   head-form,
-  third,
-  fourth,
   Part,
   Body,
   read-members,
@@ -111,17 +109,17 @@ abbrev pub head-in : (number : ℕ) → (numbers : List ℕ) → SheetHead
 head-in k ns = record { number = k; p = getD ns 0 0; q = getD ns 1 0; k = getD ns 2 0; coresize = getD ns 3 0 }
 
 -- 101
-pub head-none : {bs ms ns : List ℕ} {r : FoundLine} → LineFound 4 bs 0 head-form ms ns r → (g : Pairs) (s xs : List ℕ) → r ≡ Malformed →
+pub head-none : {bs ms ns : List ℕ} {r : FoundLine} → LineFound 7 bs 0 head-form ms ns r → (g : Pairs) (s xs : List ℕ) → r ≡ Malformed →
     SheetRead (read-sheet g bs) s xs (refused-head 101)
 unfolding read-sheet line-due line-or _>>=_ unless-number
 head-none f g s xs e = record { found = rw (malformed f e); some = λ z. absurd (omega (arith, z)) }
 
--- Q has at most four digits
-pub head-small : {bs ns : List ℕ} {i : ℕ} → LineHas 4 head-form 4 bs 0 ns i → getD ns 1 0 ≤ 9999
+-- Q has at most seven digits
+pub head-small : {bs ns : List ℕ} {i : ℕ} → LineHas 7 head-form 4 bs 0 ns i → getD ns 1 0 ≤ 9999999
 unfolding head-form text places is-place between mark
-head-small {bs} {ns} f = omega (arith, line-small head-form bs _ 1 (f .found) (omega arith), getD-take 4 ns 1 0 (omega arith))
+head-small {bs} {ns} f = omega (arith, line-small 7 (omega arith) head-form bs _ 1 (f .found) (omega arith), getD-take 4 ns 1 0 (omega arith))
 
-module _ {bs ns : List ℕ} {i : ℕ} (f : LineHas 4 head-form 4 bs 0 ns i) (g : Pairs) where
+module _ {bs ns : List ℕ} {i : ℕ} (f : LineHas 7 head-form 4 bs 0 ns i) (g : Pairs) where
   abbrev n : ℕ
   n = g .n
 

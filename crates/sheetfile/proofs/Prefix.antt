@@ -2,7 +2,7 @@
 --   one-alike                                      a line
 --   members-alike, numbers-alike, shares-alike     lines one after another
 --   body-trimmed, read-trimmed                     all lines after the head, and the whole sheet
---   sheet-first                                    Sheet-first: a sheet is decided by its first 100,000 bytes
+--   sheet-first                                    Sheet-first: a sheet is decided by its first 140,000 bytes
 --   audit-first                                    Audit-first: both files are decided by their first bytes
 -- Assumes nothing.
 use mathlib.Core.Path.{_≡_, refl}
@@ -19,7 +19,7 @@ use Rattle.theory.proofs.Tables.{length-table}
 use Rattle.theory.proofs.Tests.{tests, by-test}
 use Rattle.lines.specs.Text.{text, between}
 use Rattle.lines.specs.Numbers.{is-digit, Number}
-use Rattle.lines.specs.Lines.{is-place, Line, first, second}
+use Rattle.lines.specs.Lines.{is-place, Line, first, second, third, fourth}
 use Rattle.lines.specs.Outcomes.{Outcome, refused, taken, _>>=_, _>>_, passed, judge}
 use Rattle.pairfile.specs.File.{read-file}
 use Rattle.lines.proofs.Fills.{starts-plain, parted}
@@ -32,8 +32,6 @@ use Rattle.sheetfile.specs.Sheet.{
   member-form,
   number-form,
   share-form,
-  third,
-  fourth,
   judged-line,
   Part,
   member-line,
@@ -61,42 +59,42 @@ trim-part v x = record { entries = x .entries; rest = take v (x .rest) }
 -- ---- lines
 
 -- a line judged: its own cause and the number picked do not go by the bytes after it
-one-alike : (form : List ℕ) (own : Line → Cause) (pick : Line → ℕ) (w : ℕ) (bs : List ℕ) → parted form ≡ true → span 4 form ≤ w →
+one-alike : (d : ℕ) (form : List ℕ) (own : Line → Cause) (pick : Line → ℕ) (w : ℕ) (bs : List ℕ) → parted form ≡ true → span d form ≤ w →
     ((l : Line) (v : ℕ) → own (trim-line v l) ≡ own l) → ((l : Line) (v : ℕ) → pick (trim-line v l) ≡ pick l) →
-    Alike trim-number w (span 4 form) (judged-line form own pick (take w bs)) (judged-line form own pick bs)
+    Alike trim-number w (span d form) (judged-line d form own pick (take w bs)) (judged-line d form own pick bs)
 unfolding judged-line
-one-alike form own pick w bs p h same-own same-pick =
-    judged-alike 101 4 form w bs p h trim-number (λ l. own l ∷ []) _ (λ l v. rw (same-own l v)) (λ l v. rw (same-pick l v))
+one-alike d form own pick w bs p h same-own same-pick =
+    judged-alike 101 d form w bs p h trim-number (λ l. own l ∷ []) _ (λ l v. rw (same-own l v)) (λ l v. rw (same-pick l v))
 
--- one line after another: a member line and a number line have at most 12 bytes, a share line 21
+-- one line after another: a member line has at most 12 bytes, a number line 15, a share line 30
 members-alike : (left low : ℕ) (s : List ℕ) (w : ℕ) (bs : List ℕ) → 12 * left ≤ w →
     Alike trim-part w (12 * left) (read-members left low s (take w bs)) (read-members left low s bs)
 unfolding read-members member-line first member-form text parted starts-plain span is-place is-digit between
 members-alike zero low s w bs h = taken-alike (record { entries = s; rest = bs }) w refl refl (omega arith)
 members-alike (suc left) low s w bs h =
-    alike-then (12 * left) _ (omega arith) (one-alike member-form _ first w bs refl (omega arith) (λ l v. refl) (λ l v. refl))
+    alike-then (12 * left) _ (omega arith) (one-alike 4 member-form _ first w bs refl (omega arith) (λ l v. refl) (λ l v. refl))
     (λ a v m. members-alike left (suc (a .value)) (set s (a .value) 1) v (a .rest) (omega arith))
 
-numbers-alike : (cs : List ℕ) (w : ℕ) (bs : List ℕ) → 12 * length cs ≤ w →
-    Alike take w (12 * length cs) (read-numbers cs (take w bs)) (read-numbers cs bs)
+numbers-alike : (cs : List ℕ) (w : ℕ) (bs : List ℕ) → 15 * length cs ≤ w →
+    Alike take w (15 * length cs) (read-numbers cs (take w bs)) (read-numbers cs bs)
 unfolding read-numbers number-line first number-form text parted starts-plain span is-place is-digit between
 numbers-alike [] w bs h = taken-alike bs w refl refl (omega arith)
 numbers-alike (c ∷ cs) w bs h =
-    alike-then (12 * length cs) _ (omega arith) (one-alike number-form _ first w bs refl (omega arith) (λ l v. refl) (λ l v. refl))
+    alike-then (15 * length cs) _ (omega arith) (one-alike 7 number-form _ first w bs refl (omega arith) (λ l v. refl) (λ l v. refl))
     (λ x v m. numbers-alike cs v (x .rest) (omega arith))
 
-shares-alike : (ps : List Pair) (xs : List ℕ) (w : ℕ) (bs : List ℕ) → 21 * length ps ≤ w →
-    Alike trim-part w (21 * length ps) (read-shares ps xs (take w bs)) (read-shares ps xs bs)
+shares-alike : (ps : List Pair) (xs : List ℕ) (w : ℕ) (bs : List ℕ) → 30 * length ps ≤ w →
+    Alike trim-part w (30 * length ps) (read-shares ps xs (take w bs)) (read-shares ps xs bs)
 unfolding read-shares share-line first second third share-form text parted starts-plain span is-place is-digit between
 shares-alike [] xs w bs h = taken-alike (record { entries = xs; rest = bs }) w refl refl (omega arith)
 shares-alike (p ∷ ps) xs w bs h =
-    alike-then (21 * length ps) _ (omega arith) (one-alike share-form _ third w bs refl (omega arith) (λ l v. refl) (λ l v. refl))
+    alike-then (30 * length ps) _ (omega arith) (one-alike 7 share-form _ third w bs refl (omega arith) (λ l v. refl) (λ l v. refl))
     (λ u v m. shares-alike ps (xs ++ (u .value ∷ [])) v (u .rest) (omega arith))
 
 -- ---- the whole
 
 -- all lines after the head, and one byte more, which shows whether bytes follow
-body-trimmed : (g : Pairs) (q w : ℕ) (bs : List ℕ) → 12 * q + 12 * g .n + 21 * length (g .pairs) + 1 ≤ w → read-body g q (take w bs) ≡ read-body g q bs
+body-trimmed : (g : Pairs) (q w : ℕ) (bs : List ℕ) → 12 * q + 15 * g .n + 30 * length (g .pairs) + 1 ≤ w → read-body g q (take w bs) ≡ read-body g q bs
 unfolding read-body rest-causes core-numbers
 body-trimmed g q w bs h =
     let n : length (core-numbers g) ≡ g .n = length-table (g .n) (core-number g) in
@@ -110,14 +108,14 @@ ratio-unmet : (n q : ℕ) → refusal (ratio-causes n q) ≡ 0 → q ≤ n
 unfolding ratio-causes cause refusal between
 ratio-unmet n q e = by-test (between 1 n q) (λ t. (simp tests at t) .1) (λ t. absurd (omega (arith, rw t at e)))
 
--- the whole sheet: the head has at most 40 bytes
-read-trimmed : (g : Pairs) (w : ℕ) (bs : List ℕ) → 40 + 24 * g .n + 21 * length (g .pairs) + 1 ≤ w → read-sheet g (take w bs) ≡ read-sheet g bs
+-- the whole sheet: the head has at most 52 bytes
+read-trimmed : (g : Pairs) (w : ℕ) (bs : List ℕ) → 52 + 27 * g .n + 30 * length (g .pairs) + 1 ≤ w → read-sheet g (take w bs) ≡ read-sheet g bs
 unfolding read-sheet sheet first second third fourth judge passed _>>_ head-form text parted starts-plain span is-place is-digit between
 read-trimmed g w bs h =
-    alike-same _ (line-alike 101 4 head-form w bs refl (omega arith))
+    alike-same _ (line-alike 101 7 head-form w bs refl (omega arith))
     (λ l v d m. go l v (refusal (ratio-causes (g .n) (second l))) refl m)
   where
-    go : (l : Line) (v k : ℕ) → refusal (ratio-causes (g .n) (second l)) ≡ k → w ≤ v + span 4 head-form →
+    go : (l : Line) (v k : ℕ) → refusal (ratio-causes (g .n) (second l)) ≡ k → w ≤ v + span 7 head-form →
         (do
           passed k
           body ← read-body g (second l) (take v (l .rest))

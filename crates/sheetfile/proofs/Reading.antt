@@ -1,39 +1,35 @@
 -- Lines of a sheet read one after another: the three loops.
 --   Accepted-line, accepted-line       what is known of a line that is taken
---   line-small                         a number on it has at most four digits
+--   line-small                         a number on it is below 10 to the number of its digits
 --   unless-none, unless-some           a number that is 0, and one that is not
 --   ends-reading, goes-on              a refusal ends the reading, and what is taken goes on
 --   Marked, marked-start, marked-index, marked-refused, marked-step, marked-done       member lines
 --   Counted, counted-start, counted-refused, counted-step, counted-done                number lines
---   Shared, shared-start, shared-small, shared-refused, shared-step, shared-done       share lines
+--   Shared, shared-start, shared-refused, shared-step, shared-done       share lines
 -- Assumes nothing.
 use mathlib.Core.Path.{_≡_, refl, ap, _∙_}
 use mathlib.Core.Bool.{Bool, false, not, _&&_}
 use mathlib.Core.List.{List, [], _∷_, _++_}
 use mathlib.Core.Option.{some}
-use Prim.Native.Nat.{ℕ, zero, suc, _+_, _*_, _-_, _≤_, _<_}
+use Prim.Native.Nat.{ℕ, zero, suc, _+_, _*_, _-_, _^_, _≤_, _<_}
 use native.Mathlib.Omega.{arith}
 use borrow.Author.Tests.{not-false}
 use lib.Dec.{leb, ltb}
 use lib.ListN.{length, getD, set, take, drop, length-set}
 use lib.Seq.{take-all, drop-cons, take-suc, take-set-le, getD-set-same}
-use Rattle.theory.specs.Basics.{mark}
 use Rattle.theory.specs.Lists.{Pair, pair}
 use Rattle.theory.specs.Refusals.{cause, refusal}
 use Rattle.theory.specs.Words.{laid-pairs}
 use Rattle.theory.proofs.Tests.{tests, fails}
 use Rattle.theory.proofs.Words.{length-laid, laid-at}
 use Rattle.pairs.proofs.General.{all-at}
-use Rattle.lines.specs.Text.{text, between}
 use Rattle.lines.specs.Numbers.{Number}
-use Rattle.lines.specs.Lines.{Line, first, is-place, places, line-of}
+use Rattle.lines.specs.Lines.{Line, first, places, line-of}
 use Rattle.lines.specs.Outcomes.{Outcome, refused, taken, _>>=_}
 use Rattle.lines.proofs.Taken.{taken-same, line-passed}
 use Rattle.lines.proofs.Fills.{small, line-spelled}
 use Rattle.sheetfile.specs.Sheet.{
   member-form,
-  share-form,
-  third,
   judged-line,
   member-line,
   read-members,
@@ -47,17 +43,17 @@ use Rattle.sheetfile.specs.declared.sheet.OneLine.{OneLine}
 use Rattle.sheetfile.specs.declared.sheet.Lines.{Lines}
 
 -- a line that is taken: it is of its form, its own cause is not met, and its number is the one picked
-pub record Accepted-line (form : List ℕ) (test : Line → Bool) (pick : Line → ℕ) (bs : List ℕ) (a : Number) : Type 0 where
+pub record Accepted-line (d : ℕ) (form : List ℕ) (test : Line → Bool) (pick : Line → ℕ) (bs : List ℕ) (a : Number) : Type 0 where
   pub line : Line
-  pub found : line-of 4 form bs ≡ some line
+  pub found : line-of d form bs ≡ some line
   pub unmet : test line ≡ false
   pub picked : pick line ≡ a .value
 
-pub accepted-line : (form : List ℕ) (k : ℕ) (test : Line → Bool) (pick : Line → ℕ) (bs : List ℕ) (a : Number) →
-    judged-line form (λ l. cause (suc k) (test l)) pick bs ≡ taken a → Accepted-line form test pick bs a
+pub accepted-line : (d : ℕ) (form : List ℕ) (k : ℕ) (test : Line → Bool) (pick : Line → ℕ) (bs : List ℕ) (a : Number) →
+    judged-line d form (λ l. cause (suc k) (test l)) pick bs ≡ taken a → Accepted-line d form test pick bs a
 unfolding judged-line refusal cause
-accepted-line form k test pick bs a e =
-    let p = line-passed 101 4 form bs (λ l. cause (suc k) (test l) ∷ []) (λ l. taken (record { value = pick l; rest = l .rest })) a e in
+accepted-line d form k test pick bs a e =
+    let p = line-passed 101 d form bs (λ l. cause (suc k) (test l) ∷ []) (λ l. taken (record { value = pick l; rest = l .rest })) a e in
     record {
       line = p .line;
       found = p .found;
@@ -65,12 +61,12 @@ accepted-line form k test pick bs a e =
       picked = ap (λ (x : Number). x .value) (taken-same (p .then));
     }
 
--- a number on a line has at most four digits
-pub line-small : (form bs : List ℕ) (l : Line) (i : ℕ) → line-of 4 form bs ≡ some l → i < places form → getD (l .numbers) i 0 ≤ 9999
+-- a number on a line has at most d digits
+pub line-small : (d : ℕ) → d ≤ 10 → (form bs : List ℕ) (l : Line) (i : ℕ) → line-of d form bs ≡ some l → i < places form → getD (l .numbers) i 0 < 10 ^ d
 unfolding small
-line-small form bs l i e h =
-    let s = line-spelled 4 (omega arith) form bs l e in
-    omega (arith, simp tests at (all-at (small 4) (l .numbers) i 0 (s .short) (omega (arith, s .size))))
+line-small d few form bs l i e h =
+    let s = line-spelled d few form bs l e in
+    simp tests at (all-at (small d) (l .numbers) i 0 (s .short) (omega (arith, s .size)))
 
 -- a number that is not 0 is a refusal, and 0 is none
 pub unless-some : {A : Type 0} (k : ℕ) (a : A) → (k ≡ 0 → ⊥) → unless-number k a ≡ refused k
@@ -146,7 +142,7 @@ module _ {bs : List ℕ} {at q : ℕ} {old s : List ℕ} {i low k : ℕ} (m : Ma
       pub marked-index : r .value < length s
       unfolding member-line first
       marked-index =
-          let a = accepted-line member-form 102 (λ l. not (leb low (first l) && ltb (first l) (length s))) first (drop i bs) (line-at r bs)
+          let a = accepted-line 4 member-form 102 (λ l. not (leb low (first l) && ltb (first l) (length s))) first (drop i bs) (line-at r bs)
           (l .found ∙ unless-none (r .number) (line-at r bs) taken-line) in
           let t = simp tests at (not-false (leb low (first (a .line)) && ltb (first (a .line)) (length s)) (a .unmet)) in
           omega (arith, t .1, a .picked)
@@ -235,24 +231,16 @@ module _ {bs : List ℕ} {at : ℕ} {words old xs : List ℕ} {i j : ℕ} (m : S
     pub shared-refused : (r .number ≡ 0 → ⊥) → PartRead bs (read-shares pairs [] (drop at bs)) xs (stopped (r .number))
     shared-refused h = record { found = next-share ∙ ends-reading (r .number) (line-at r bs) _ _ h; within = omega arith }
 
-    module _ (taken-line : r .number ≡ 0) where
-      -- a number on a line has at most four digits, so it fits 16 bits
-      pub shared-small : r .value ≤ 9999
-      unfolding share-line share-form text third places is-place between mark
-      shared-small =
-          let a = accepted-line share-form 104 _ third (drop i bs) (line-at r bs) (l .found ∙ unless-none (r .number) (line-at r bs) taken-line) in
-          omega (arith, line-small share-form (drop i bs) (a .line) 2 (a .found) (omega arith), a .picked)
-
-      pub shared-step : Shared bs at words old (set xs j (r .value)) (r .next) (j + 1)
-      shared-step =
-          let e : j + 1 ≡ suc j = omega arith in
-          let long : length (set xs j (r .value)) ≡ length xs = length-set xs j (r .value) in
-          let front : take (suc j) (set xs j (r .value)) ≡ take j xs ++ (r .value ∷ []) =
-          take-suc (set xs j (r .value)) j 0 (omega (arith, long))
-          ∙ rw (take-set-le j xs j (r .value) (omega arith), getD-set-same xs j (r .value) 0 more) in
-          record {
-            within = l .within;
-            upto = omega (arith, m .size);
-            size = long ∙ m .size;
-            left = next-share ∙ goes-on (r .number) (line-at r bs) _ taken-line ∙ rw (e, front);
-          }
+    pub shared-step : r .number ≡ 0 → Shared bs at words old (set xs j (r .value)) (r .next) (j + 1)
+    shared-step z =
+        let e : j + 1 ≡ suc j = omega arith in
+        let long : length (set xs j (r .value)) ≡ length xs = length-set xs j (r .value) in
+        let front : take (suc j) (set xs j (r .value)) ≡ take j xs ++ (r .value ∷ []) =
+        take-suc (set xs j (r .value)) j 0 (omega (arith, long))
+        ∙ rw (take-set-le j xs j (r .value) (omega arith), getD-set-same xs j (r .value) 0 more) in
+        record {
+          within = l .within;
+          upto = omega (arith, m .size);
+          size = long ∙ m .size;
+          left = next-share ∙ goes-on (r .number) (line-at r bs) _ z ∙ rw (e, front);
+        }

@@ -26,7 +26,7 @@ use Rattle.theory.proofs.Bounds.{size-le-length}
 use Rattle.theory.proofs.Groups.{Bits, group-bits}
 use Rattle.lines.specs.Text.{text, between}
 use Rattle.lines.specs.Numbers.{is-digit}
-use Rattle.lines.specs.Lines.{is-place, places, first, second, line-of, filled}
+use Rattle.lines.specs.Lines.{is-place, places, first, second, third, fourth, line-of, filled}
 use Rattle.lines.specs.Outcomes.{taken, _>>=_, _>>_, passed, judge, line-or, line-due}
 use Rattle.pairfile.proofs.Accepts.{accepted}
 use Rattle.lines.proofs.Found.{judge-passed}
@@ -36,8 +36,6 @@ use Rattle.sheetfile.specs.Sheet.{
   member-form,
   number-form,
   share-form,
-  third,
-  fourth,
   member-line,
   read-members,
   number-line,
@@ -51,7 +49,7 @@ use Rattle.sheetfile.specs.Sheet.{
   ratio-causes,
   read-sheet,
 }
-use Rattle.sheetfile.specs.Writer.{member-lines, number-lines, share-lines, sheet-file, four-digits, Sheet-back, Accepts-back}
+use Rattle.sheetfile.specs.Writer.{member-lines, number-lines, share-lines, sheet-file, seven-digits, Sheet-back, Accepts-back}
 use Rattle.sheetfile.specs.Audit.{ratio-good, core-good, head-causes, sheet-causes, audit-sheet, audit}
 use Rattle.sheetfile.proofs.Judging.{line-taken}
 use Rattle.sheetfile.proofs.Auditing.{check-then}
@@ -64,21 +62,21 @@ module _ (rest : List ℕ) where
   unfolding member-form text parted starts-plain is-digit is-place between places mark all small
   member-read v l = line-filled 4 (omega arith) (omega arith) member-form (v ∷ []) rest refl refl (simp tests (omega arith, refl))
 
-  number-read : (c : ℕ) → c ≤ 9999 → line-of 4 number-form (filled number-form (c ∷ []) ++ rest) ≡ some (record { numbers = c ∷ []; rest = rest })
+  number-read : (c : ℕ) → c ≤ 9999999 → line-of 7 number-form (filled number-form (c ∷ []) ++ rest) ≡ some (record { numbers = c ∷ []; rest = rest })
   unfolding number-form text parted starts-plain is-digit is-place between places mark all small
-  number-read c l = line-filled 4 (omega arith) (omega arith) number-form (c ∷ []) rest refl refl (simp tests (omega arith, refl))
+  number-read c l = line-filled 7 (omega arith) (omega arith) number-form (c ∷ []) rest refl refl (simp tests (omega arith, refl))
 
-  share-read : (a b u : ℕ) → a ≤ 9999 → b ≤ 9999 → u ≤ 9999 →
-      line-of 4 share-form (filled share-form (a ∷ b ∷ u ∷ []) ++ rest) ≡ some (record { numbers = a ∷ b ∷ u ∷ []; rest = rest })
+  share-read : (a b u : ℕ) → a ≤ 9999999 → b ≤ 9999999 → u ≤ 9999999 →
+      line-of 7 share-form (filled share-form (a ∷ b ∷ u ∷ []) ++ rest) ≡ some (record { numbers = a ∷ b ∷ u ∷ []; rest = rest })
   unfolding share-form text parted starts-plain is-digit is-place between places mark all small
   share-read a b u l m n =
-      line-filled 4 (omega arith) (omega arith) share-form (a ∷ b ∷ u ∷ []) rest refl refl (simp tests (omega arith, (omega arith, (omega arith, refl))))
+      line-filled 7 (omega arith) (omega arith) share-form (a ∷ b ∷ u ∷ []) rest refl refl (simp tests (omega arith, (omega arith, (omega arith, refl))))
 
-  head-read : (p q k c : ℕ) → p ≤ 9999 → q ≤ 9999 → k ≤ 9999 → c ≤ 9999 →
-      line-of 4 head-form (filled head-form (p ∷ q ∷ k ∷ c ∷ []) ++ rest) ≡ some (record { numbers = p ∷ q ∷ k ∷ c ∷ []; rest = rest })
+  head-read : (p q k c : ℕ) → p ≤ 9999999 → q ≤ 9999999 → k ≤ 9999999 → c ≤ 9999999 →
+      line-of 7 head-form (filled head-form (p ∷ q ∷ k ∷ c ∷ []) ++ rest) ≡ some (record { numbers = p ∷ q ∷ k ∷ c ∷ []; rest = rest })
   unfolding head-form text parted starts-plain is-digit is-place between places mark all small
   head-read p q k c l m n o =
-      line-filled 4 (omega arith) (omega arith) head-form (p ∷ q ∷ k ∷ c ∷ []) rest refl refl
+      line-filled 7 (omega arith) (omega arith) head-form (p ∷ q ∷ k ∷ c ∷ []) rest refl refl
       (simp tests (omega arith, (omega arith, (omega arith, (omega arith, refl)))))
 
 -- ---- the parts
@@ -88,7 +86,7 @@ named : (low n v : ℕ) (more : List ℕ) → low ≤ v → v < n → v ≤ 9999
     member-line n low (filled member-form (v ∷ []) ++ more) ≡ taken (record { value = v; rest = more })
 unfolding member-line first
 named low n v more l h s =
-    line-taken member-form _ first (filled member-form (v ∷ []) ++ more) _ 103 (member-read more v s) (rw (le-leb low v l, lt-ltb v n h))
+    line-taken 4 member-form _ first (filled member-form (v ∷ []) ++ more) _ 103 (member-read more v s) (rw (le-leb low v l, lt-ltb v n h))
 
 -- the members of `ps` are marked, those of `bs` are still to be read
 members-back : (ps bs rest : List ℕ) (low : ℕ) → low ≤ length ps → bytes-good bs ≡ true → length ps + length bs ≤ 512 →
@@ -117,19 +115,19 @@ members-back ps (suc zero ∷ bs) rest low l g f =
     (step ∙ ap (λ (t : List ℕ). read-members (size bs) (suc v) t more) (set-append-seam ps 0 zs 1) ∙ ih′)
 members-back ps (suc (suc x) ∷ bs) rest low l g f = absurd (omega (arith, (simp tests at g) .0))
 
-numbers-back : (cs rest : List ℕ) → four-digits cs → read-numbers cs (number-lines cs ++ rest) ≡ taken rest
-unfolding four-digits all number-lines read-numbers number-line first _>>=_
+numbers-back : (cs rest : List ℕ) → seven-digits cs → read-numbers cs (number-lines cs ++ rest) ≡ taken rest
+unfolding seven-digits all number-lines read-numbers number-line first _>>=_
 numbers-back [] rest h = refl
 numbers-back (c ∷ cs) rest h =
     let t = simp tests at h in
     let more : List ℕ = number-lines cs ++ rest in
     let line : number-line c (filled number-form (c ∷ []) ++ more) ≡ taken (record { value = c; rest = more }) =
-    line-taken number-form _ first (filled number-form (c ∷ []) ++ more) _ 104 (number-read more c (t .0)) (rw (eq-eqb c c refl)) in
+    line-taken 7 number-form _ first (filled number-form (c ∷ []) ++ more) _ 104 (number-read more c (t .0)) (rw (eq-eqb c c refl)) in
     rw (append-assoc (filled number-form (c ∷ [])) (number-lines cs) rest, line) (numbers-back cs rest (t .1))
 
-shares-back : (n : ℕ) → n ≤ 512 → (ps : List Pair) (acc xs : List ℕ) → length xs ≡ length ps → all (ends-in-range n) ps ≡ true → four-digits xs →
+shares-back : (n : ℕ) → n ≤ 512 → (ps : List Pair) (acc xs : List ℕ) → length xs ≡ length ps → all (ends-in-range n) ps ≡ true → seven-digits xs →
     read-shares ps acc (share-lines ps xs) ≡ taken (record { entries = acc ++ xs; rest = [] })
-unfolding four-digits all share-lines read-shares share-line first second third ends-in-range _>>=_
+unfolding seven-digits all share-lines read-shares share-line first second third ends-in-range _>>=_
 shares-back n few [] acc [] e r h = ap (λ (ys : List ℕ). taken (record { entries = ys; rest = [] })) (sym (append-nil acc))
 shares-back n few [] acc (x ∷ xs) e r h = absurd (omega arith)
 shares-back n few (p ∷ ps) acc [] e r h = absurd (omega arith)
@@ -139,7 +137,7 @@ shares-back n few (p ∷ ps) acc (x ∷ xs) e r h =
     let more : List ℕ = share-lines ps xs in
     let ns : List ℕ = p .a ∷ p .b ∷ x ∷ [] in
     let line : share-line (p .a) (p .b) (filled share-form ns ++ more) ≡ taken (record { value = x; rest = more }) =
-    line-taken share-form _ third (filled share-form ns ++ more) _ 105
+    line-taken 7 share-form _ third (filled share-form ns ++ more) _ 105
     (share-read more (p .a) (p .b) x (omega (arith, u .0 .0, few)) (omega (arith, u .0 .1, few)) (t .0))
     (rw (eq-eqb (p .a) (p .a) refl, eq-eqb (p .b) (p .b) refl)) in
     let ih = shares-back n few ps (acc ++ (x ∷ [])) xs (omega (arith, e)) (u .1) (t .1) in

@@ -1,6 +1,6 @@
 -- The text of a sheet, as the program `sheet` prints it, and that it reads back.
 --   member-lines, number-lines, share-lines, sheet-file      the lines of a sheet of a list
---   Writable                                                 a sheet that can be written: a group, a share for each pair, numbers of at most four digits
+--   Writable                                                 a sheet that can be written: a group, a share for each pair, numbers of at most seven digits
 --   Sheet-back, Accepts-back                                 what is written reads back, and every best sheet is accepted; the theorems are `sheet-back`
 --                                                            and `accepts-back`
 -- Assumes nothing: these are definitions.
@@ -44,18 +44,18 @@ sheet-file g s =
     filled head-form (s .p ∷ s .q ∷ s .k ∷ s .coresize ∷ [])
     ++ (member-lines 0 (s .members) ++ (number-lines (core-numbers g) ++ share-lines (g .pairs) (s .shares)))
 
--- the numbers have at most four digits
-unfoldable pub four-digits : List ℕ → Type 0
-four-digits ns = all (λ n. leb n 9999) ns ≡ true
+-- the numbers have at most seven digits
+unfoldable pub seven-digits : List ℕ → Type 0
+seven-digits ns = all (λ n. leb n 9999999) ns ≡ true
 
 -- a sheet of a list as it can be written
 pub record Writable (g : Pairs) (s : Sheet) : Type 0 where
   pub group : is-group g (s .members) ≡ true
   pub members-size : s .q ≡ size (s .members)
   pub each-pair : length (s .shares) ≡ length (g .pairs)
-  pub head-digits : (s .p ≤ 9999) × (s .k ≤ 9999) × (s .coresize ≤ 9999)
-  pub numbers-digits : four-digits (core-numbers g)
-  pub shares-digits : four-digits (s .shares)
+  pub head-digits : (s .p ≤ 9999999) × (s .k ≤ 9999999) × (s .coresize ≤ 9999999)
+  pub numbers-digits : seven-digits (core-numbers g)
+  pub shares-digits : seven-digits (s .shares)
 
 -- WHAT IS WRITTEN READS BACK
 unfoldable pub Sheet-back : Type 0

@@ -75,7 +75,7 @@ fn audit_beside(
     words: &[u32],
     cores: &[u32],
     members: &mut [u8],
-    shares: &mut [u16],
+    shares: &mut [u32],
 ) -> Verdict
     requires { ⌜ Holds-list (length (now members)) (length (now shares)) (now words) ⌝ }
     requires { ⌜ Beside (laid-list (length (now members)) (length (now shares)) (now words)) (now cores) (now members) ⌝ }
@@ -127,7 +127,7 @@ fn audit_list(
     sheet: &[u8],
     cores: &mut [u32],
     members: &mut [u8],
-    shares: &mut [u16],
+    shares: &mut [u32],
 ) -> Verdict
     requires { ⌜ Holds-list n m (now words) ⌝ }
     requires { ⌜ Audit-buffers n m (now cores) (now members) (now shares) ⌝ }
@@ -150,7 +150,7 @@ pub fn audit(file: &[u8], sheet: &[u8]) -> Verdict
     let mut words = [0u32; 12288];
     let mut cores = [0u32; 512];
     let mut members = [0u8; 512];
-    let mut shares = [0u16; 4096];
+    let mut shares = [0u32; 4096];
     let list = read_words(file, 4096, &mut words);
     if list.number != 0 {
         return refused(list.number);

@@ -1,4 +1,5 @@
-// A sheet read once, from front to back, beside the list: each line is matched with its form and judged.
+// A sheet read once, from front to back, beside the list: each line is matched with its form and judged. Its numbers have up to 7 digits, those of
+// members up to 4.
 ghost use mathlib.Core.Path.{_≡_};
 ghost use mathlib.Core.List.{[]};
 ghost use Prim.Native.Nat.{_≤_};
@@ -68,7 +69,7 @@ fn number_line(bytes: &[u8], at: usize, c: u32) -> OneLine
     requires { ⌜ at ≤ length (now bytes) ⌝ }
     ensures { λ r. ⌜ LineRead (now (bytes .entry)) (number-line c (drop at (now (bytes .entry)))) r ⌝ }
 {
-    match one_number_at(bytes, at, b"number=C\n", 4) {
+    match one_number_at(bytes, at, b"number=C\n", 7) {
         FoundNumber::Missing => refused_line(101),
         FoundNumber::Number { value, next } => {
             if value != c {
@@ -89,7 +90,7 @@ fn share_line(bytes: &[u8], at: usize, a: u32, b: u32) -> OneLine
     ensures { λ r. ⌜ LineRead (now (bytes .entry)) (share-line a b (drop at (now (bytes .entry)))) r ⌝ }
 {
     let mut numbers = [0u32; 3];
-    match line_at(bytes, at, b"share=A,B,U\n", 4, &mut numbers) {
+    match line_at(bytes, at, b"share=A,B,U\n", 7, &mut numbers) {
         FoundLine::Malformed => refused_line(101),
         FoundLine::Line { next } => {
             if numbers[0] != a || numbers[1] != b {
@@ -151,7 +152,7 @@ fn read_numbers(bytes: &[u8], at: usize, cores: &[u32]) -> Lines
 }
 
 // The share lines from `at` on, one for each pair, and their shares.
-fn read_shares(bytes: &[u8], at: usize, words: &[u32], shares: &mut [u16]) -> Lines
+fn read_shares(bytes: &[u8], at: usize, words: &[u32], shares: &mut [u32]) -> Lines
     requires { ⌜ at ≤ length (now bytes) ⌝ }
     requires { ⌜ length (now shares) ≤ 4096 ⌝ }
     requires { ⌜ 8192 ≤ length (now words) ⌝ }
@@ -168,7 +169,7 @@ fn read_shares(bytes: &[u8], at: usize, words: &[u32], shares: &mut [u16]) -> Li
                 next: 0,
             };
         }
-        shares[j] = line.value as u16;
+        shares[j] = line.value;
         i = line.next;
         j += 1;
     }
@@ -183,7 +184,7 @@ fn read_body(
     words: &[u32],
     cores: &[u32],
     members: &mut [u8],
-    shares: &mut [u16],
+    shares: &mut [u32],
 ) -> u32
     requires { ⌜ at ≤ length (now bytes) ⌝ }
     requires { ⌜ Holds-list (length (now members)) (length (now shares)) (now words) ⌝ }
@@ -228,7 +229,7 @@ pub(crate) fn read_sheet(
     words: &[u32],
     cores: &[u32],
     members: &mut [u8],
-    shares: &mut [u16],
+    shares: &mut [u32],
 ) -> SheetHead
     requires { ⌜ Holds-list (length (now members)) (length (now shares)) (now words) ⌝ }
     requires { ⌜ Beside (laid-list (length (now members)) (length (now shares)) (now words)) (now cores) (now members) ⌝ }
@@ -241,7 +242,7 @@ pub(crate) fn read_sheet(
         bytes,
         0,
         b"status=0\nratio=P/Q\ncore=K,C\n",
-        4,
+        7,
         &mut numbers,
     ) {
         FoundLine::Malformed => refused_head(101),

@@ -20,7 +20,7 @@ line-at-requires c κs = (c .before .before .before .pre, omega arith)
 numbers : (c : tie.After-known-told) →
     let l = c .before .before .before .before in
     let start = l .before .before .before .before in
-    LineHas 4 share-form 3 (start .args .bytes .now) (start .args .at) (l .line-at .last .1 .1 .1 .1 .0) (c .before .next .given .0 .0)
+    LineHas 7 share-form 3 (start .args .bytes .now) (start .args .at) (l .line-at .last .1 .1 .1 .1 .0) (c .before .next .given .0 .0)
 unfolding share-form text places is-place between mark
 numbers c = line-has (c .before .before .before .before .line-at .ensures) (c .before .next .given .1)
 
