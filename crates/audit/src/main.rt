@@ -1,6 +1,6 @@
 // Whether a sheet is the best there is of the list that a pair file names: `audit FILE SHEET`. Prints the refusal number, or 0 and the ratio. A file that
 // cannot be opened or read, a folder say, has no bytes, and standard error says why. A pair file is decided by its first 65,536 bytes and a sheet by its
-// first 100,000 (sheetfile, audit-first). What is printed is proved (texts, audit_text), and that the buffers have room for as many.
+// first 140,000 (sheetfile, audit-first). What is printed is proved (texts, audit_text), and that the buffers have room for as many.
 ghost use Rattle.io.specs.Counts.{Counts};
 use libc::STDOUT_FILENO;
 
@@ -32,7 +32,7 @@ fn readable(fd: i32) -> bool {
 
 fn main() {
     let mut file = [0u8; 65536];
-    let mut sheet = [0u8; 100000];
+    let mut sheet = [0u8; 140000];
     let mut out = [0u8; 64];
     let n = read_argument(1, &mut file);
     let k = read_argument(2, &mut sheet);

@@ -1,6 +1,7 @@
-// Reads a DIMACS edge file on standard input, of up to 1,048,576 bytes, and prints the pair file of the list that it names, its pairs in list order and the
-// smaller module first. A refused file prints the line `status=` with its number only; a longer file is refused by 109, whatever it holds: the buffer has
-// room for one byte more. What is printed is proved (texts, from_dimacs_text), and that the pair file's reader reads it as the same list.
+// Reads a DIMACS edge file on standard input, of up to 1,048,576 bytes, and prints the pair file of the list that it names, its pairs in list order, the
+// smaller module first and each with the stop count 1. A refused file prints the line `status=` with its number only; a longer file is refused by 109,
+// whatever it holds: the buffer has room for one byte more. What is printed is proved (texts, from_dimacs_text), and that the pair file's reader reads it as
+// the same list.
 ghost use Prim.Native.Nat.{_≤_};
 ghost use lib.ListN.{length};
 use libc::STDIN_FILENO;
