@@ -40,7 +40,7 @@ use Rattle.kandurzo.proofs.Taken.{held-few}
 use Rattle.kandurzo.proofs.Judgements.{check-enough, surplus-enough}
 use Rattle.statements.specs.Entry.{in-front, kept-or, work-left, peel-refusal, Peel-says, ratio, solve-refusal, Turned, Solve-as, Solve-says}
 use Rattle.statements.specs.Entry.{Check-says, surplus-refusal, Differs, Surplus-says}
-use Rattle.statements.specs.Promise.{List-stated, Peel-stated, Solve-stated, Check-stated, Surplus-stated}
+use Rattle.statements.specs.Promise.{Ones, List-stated, Peel-stated, Solve-stated, Check-stated, Surplus-stated}
 use Rattle.statements.proofs.Lent.{lent, list-lent, held-lent, refusal-lent}
 use Rattle.statements.proofs.Sheets.{found-as}
 
@@ -58,19 +58,24 @@ turned : (t : Bool) (x y : ℕ) → cond (not t) x y ≡ cond t y x
 turned true x y = refl
 turned false x y = refl
 
+-- the list as document 03 reads it, and its 13
 module _ (h : Head) (ps : List Pair) where
-  -- the list as document 03 reads it, and its 13
   abbrev g : plain.Pairs
   g = lent h ps
 
   abbrev refused : ℕ
   refused = plain.list-refusal (h .n) (h .m) (ends-of ps)
 
+  -- where nothing is refused, head and records agree
+  agreed : (short : Bool) (causes : List Cause) → refusal (cause 13 (not (agrees h ps)) ∷ cause 12 short ∷ causes) ≡ 0 → agrees h ps ≡ true
+  agreed short causes e = not-false _ (refusal-none 12 _ _ e .0)
+
+module _ (h : Head) (ps : List Pair) (once : Ones h ps) where
   module _ (short : Bool) (rest : ℕ) (causes : List Cause) (same : agrees h ps ≡ true → short ≡ false → rest ≡ refusal causes) where
     -- 13, 12, and what comes after them
-    orders : cond (eqb refused 0) (cond short 12 rest) 13 ≡ refusal (cause 13 (not (agrees h ps)) ∷ cause 12 short ∷ causes)
+    orders : cond (eqb (refused h ps) 0) (cond short 12 rest) 13 ≡ refusal (cause 13 (not (agrees h ps)) ∷ cause 12 short ∷ causes)
     unfolding refusal cause
-    orders = rw (refusal-lent h ps) (go (agrees h ps) short same)
+    orders = rw (refusal-lent h ps once) (go (agrees h ps) short same)
       where
         go : (a s : Bool) → (a ≡ true → s ≡ false → rest ≡ refusal causes) →
             cond (eqb (cond a 0 13) 0) (cond s 12 rest) 13 ≡ cond (not a) 13 (cond s 12 (refusal causes))
@@ -78,20 +83,16 @@ module _ (h : Head) (ps : List Pair) where
         go true false f = f refl refl
         go false s f = refl
 
-  -- where nothing is refused, head and records agree
-  agreed : (short : Bool) (causes : List Cause) → refusal (cause 13 (not (agrees h ps)) ∷ cause 12 short ∷ causes) ≡ 0 → agrees h ps ≡ true
-  agreed short causes e = not-false _ (refusal-none 12 _ _ e .0)
-
   -- document 03 takes the list
-  refused-none : agrees h ps ≡ true → refused ≡ 0
-  refused-none e = refusal-lent h ps ∙ rw e
+  refused-none : agrees h ps ≡ true → refused h ps ≡ 0
+  refused-none e = refusal-lent h ps once ∙ rw e
 
   -- and the list is document 03's
-  same-list : agrees h ps ≡ true → held-list h ps ≡ weighted g
-  same-list e = sym (list-lent h ps (held-few h ps e))
+  same-list : agrees h ps ≡ true → held-list h ps ≡ weighted (g h ps)
+  same-list e = sym (list-lent h ps once (held-few h ps e))
 
   -- 13 and 12 alone
-  gate-order : (short : Bool) → gate-number (agrees h ps) short ≡ cond (eqb refused 0) (cond short 12 0) 13
+  gate-order : (short : Bool) → gate-number (agrees h ps) short ≡ cond (eqb (refused h ps) 0) (cond short 12 0) 13
   unfolding gate-number refusal
   gate-order short = sym (orders short 0 [] (λ _ _. refl))
 
@@ -102,10 +103,10 @@ list-says = refusal-lent
 -- ---- peel
 
 module _ (h : Head) (ps : List Pair) (order cores work : List ℕ) (r : ℕ) (order′ cores′ work′ : List ℕ)
-    (call : Peel-call h ps order cores work r order′ cores′ work′) where
+    (once : Ones h ps) (call : Peel-call h ps order cores work r order′ cores′ work′) where
   peel-order : r ≡ peel-refusal (h .n) (h .m) (ends-of ps) (length order) (length cores) (length work)
   unfolding peel-call-causes gate-number peel-buffers ours.buffer ours.any-short ours.work-words peel-refusal
-  peel-order = call .number ∙ gate-order h ps (ours.any-short (peel-buffers h (length order) (length cores) (length work))) ∙ simp or-false
+  peel-order = call .number ∙ gate-order h ps once (ours.any-short (peel-buffers h (length order) (length cores) (length work))) ∙ simp or-false
 
   peel-agreed : r ≡ 0 → agrees h ps ≡ true
   unfolding peel-call-causes gate-number
@@ -116,8 +117,8 @@ module _ (h : Head) (ps : List Pair) (order cores work : List ℕ) (r : ℕ) (or
   peel-as =
       rw (← peel-order) (
         refl,
-        call .order-is ∙ same-taken r _ _ order (λ z. rw (same-list h ps (peel-agreed z), leaving-plain (g h ps))),
-        call .cores-are ∙ same-taken r _ _ cores (λ z. rw (same-list h ps (peel-agreed z), core-numbers-plain (g h ps) (held-lent h ps (peel-agreed z)))),
+        call .order-is ∙ same-taken r _ _ order (λ z. rw (same-list h ps once (peel-agreed z), leaving-plain (g h ps))),
+        call .cores-are ∙ same-taken r _ _ cores (λ z. rw (same-list h ps once (peel-agreed z), core-numbers-plain (g h ps) (held-lent h ps once (peel-agreed z)))),
         call .left,
       )
 
@@ -128,7 +129,7 @@ peel-says = peel-as
 -- ---- check
 
 module _ (h : Head) (ps : List Pair) (members shares work : List ℕ) (v : Verdict) (work′ : List ℕ)
-    (call : Check-call h ps members shares work v work′) where
+    (once : Ones h ps) (call : Check-call h ps members shares work v work′) where
   -- 7, 8, 9
   abbrev causes : List Cause
   causes = check-causes (held-list h ps) (take (h .n) members) (take (h .m) shares)
@@ -149,18 +150,18 @@ module _ (h : Head) (ps : List Pair) (members shares work : List ℕ) (v : Verdi
   unfolding check-call-causes check-number plain.check-refusal
   check-order-as =
       call .number ∙ ap (λ (b : Bool). refusal (cause 13 (not (agrees h ps)) ∷ cause 12 b ∷ causes)) same-short
-      ∙ sym (turned (eqb (refused h ps) 0) 13 _ ∙ orders h ps short _ causes (λ e s.
+      ∙ sym (turned (eqb (refused h ps) 0) 13 _ ∙ orders h ps once short _ causes (λ e s.
       let n = check-enough h _ _ _ (same-short ∙ s) in
-      let z : refused h ps ≡ 0 = refused-none h ps e in
+      let z : refused h ps ≡ 0 = refused-none h ps once e in
       let l = check-plain (h .n) (h .m) (ends-of ps) members shares (length work) z (n .0) (n .1) (n .2) in
-      sym (rw (← (same-list h ps e), z, s) at l)))
+      sym (rw (← (same-list h ps once e), z, s) at l)))
 
   check-as : Check-says (h .n) (h .m) (ends-of ps) members shares v work work′
   unfolding Check-says work-left in-front ours.work-left ours.cleared ours.work-words ours.in-front if-taken
   check-as =
       rw (← check-order-as) (
         refl,
-        call .p ∙ same-taken (v .number) _ _ 0 (λ z. rw (same-list h ps (check-agreed z)) (inside-plain (g h ps) (take (h .n) members))),
+        call .p ∙ same-taken (v .number) _ _ 0 (λ z. rw (same-list h ps once (check-agreed z)) (inside-plain (g h ps) (take (h .n) members))),
         call .q,
         call .left,
       )
@@ -177,7 +178,7 @@ two-sets true true = refl
 two-sets true false = refl
 two-sets false s = refl
 
-module _ (h : Head) (ps : List Pair) (t s : List ℕ) (d : Difference) (call : Surplus-call h ps t s d) where
+module _ (h : Head) (ps : List Pair) (t s : List ℕ) (d : Difference) (once : Ones h ps) (call : Surplus-call h ps t s d) where
   -- 7
   abbrev both : List Cause
   both = surplus-causes (held-list h ps) (take (h .n) t) (take (h .n) s)
@@ -193,9 +194,9 @@ module _ (h : Head) (ps : List Pair) (t s : List ℕ) (d : Difference) (call : S
   unfolding surplus-call-causes surplus-causes refusal cause surplus-refusal plain.list-in
   surplus-order-as =
       call .number ∙ ap (λ (b : Bool). refusal (cause 13 (not (agrees h ps)) ∷ cause 12 b ∷ both)) same-either
-      ∙ sym (turned (eqb (refused h ps) 0) 13 _ ∙ orders h ps either-short _ both (λ e l.
+      ∙ sym (turned (eqb (refused h ps) 0) 13 _ ∙ orders h ps once either-short _ both (λ e l.
       let n = surplus-enough h _ _ (same-either ∙ l) in
-      rw (same-list h ps e, members-plain (g h ps) t (n .0), members-plain (g h ps) s (n .1))
+      rw (same-list h ps once e, members-plain (g h ps) t (n .0), members-plain (g h ps) s (n .1))
       (two-sets (is-group (weighted (g h ps)) (take (h .n) t)) (is-group (weighted (g h ps)) (take (h .n) s)))))
 
   differs : (k : ℕ) → d .number ≡ k → Differs k (g h ps) (take (h .n) t) (take (h .n) s) d
@@ -203,7 +204,7 @@ module _ (h : Head) (ps : List Pair) (t s : List ℕ) (d : Difference) (call : S
   differs zero z = (
     z,
     rw z at (call .value)
-        ∙ rw (same-list h ps (agreed h ps _ both (sym (call .number) ∙ z))) (surplus-plain (g h ps) (take (h .n) t) (take (h .n) s)),
+        ∙ rw (same-list h ps once (agreed h ps _ both (sym (call .number) ∙ z))) (surplus-plain (g h ps) (take (h .n) t) (take (h .n) s)),
   )
   differs (suc k) z = (z, rw (ne-eqb (d .number) 0 (λ e. omega (arith, e, z))) at (call .value))
 
@@ -223,11 +224,11 @@ unfolding Turned declined ratio float-ratio
 declined-as k a x c y d z r e b = rw e (refl, refl, refl, refl, refl, refl, b .0, b .1, b .2)
 
 module _ (h : Head) (ps : List Pair) (members cores shares work : List ℕ) (r : Solved) (members′ cores′ shares′ work′ : List ℕ)
-    (call : Solve-call h ps members cores shares work r members′ cores′ shares′ work′) where
+    (once : Ones h ps) (call : Solve-call h ps members cores shares work r members′ cores′ shares′ work′) where
   solve-order : r .number ≡ solve-refusal (h .n) (h .m) (ends-of ps) (length members) (length cores) (length shares) (length work)
   unfolding solve-call-causes gate-number solve-buffers ours.buffer ours.any-short ours.work-words solve-refusal
   solve-order =
-      call .number .outright ∙ gate-order h ps (ours.any-short (solve-buffers h (length members) (length cores) (length shares) (length work)))
+      call .number .outright ∙ gate-order h ps once (ours.any-short (solve-buffers h (length members) (length cores) (length shares) (length work)))
       ∙ simp or-false
 
   -- the found group and a split at its size are handed out, so 15 never comes; or the call is refused
@@ -235,10 +236,10 @@ module _ (h : Head) (ps : List Pair) (members cores shares work : List ℕ) (r :
   unfolding Solve-as solve-call-causes gate-number
   solve-as zero e =
       let a : agrees h ps ≡ true = gate-open (agrees h ps) _ (sym (call .number .outright) ∙ e) .0 in
-      let out : Handed (weighted (g h ps)) members cores shares r members′ cores′ shares′ = rw (same-list h ps a) at (call .handed e) in (
+      let out : Handed (weighted (g h ps)) members cores shares r members′ cores′ shares′ = rw (same-list h ps once a) at (call .handed e) in (
         _,
         found-plain (g h ps) _ (out .found),
-        inl (_, found-as (g h ps) (held-lent h ps a) members cores shares members′ cores′ shares′ r out e),
+        inl (_, found-as (g h ps) (held-lent h ps once a) members cores shares members′ cores′ shares′ r out e),
       )
   solve-as (suc k) e =
       let no = call .refused (λ z. omega (arith, z, e)) in
