@@ -24,7 +24,7 @@ use Rattle.pairfile.specs.File.{read-file}
 use Rattle.pairfile.specs.Answers.{reading-of, pairs-of, Same-past}
 use Rattle.records.specs.declared.Pair.{Pair}
 use Rattle.records.specs.declared.Head.{Head}
-use Rattle.records.specs.Records.{as-pair, held-list, agrees, ends-of, weights-of, copied-ends, copied-out, Room-out}
+use Rattle.records.specs.Records.{held-list, agrees, ends-of, weights-of, copied-out, Room-out}
 use Rattle.records.proofs.Copies.{length-ends-of, length-copied-out, copied-out-none, copied-out-pairs, agrees-room}
 use Rattle.kandurzo.specs.declared.Changed.{Changed}
 use Rattle.kandurzo.specs.declared.Solved.{Solved}
@@ -53,13 +53,13 @@ answer-of file found = record {
 
 -- the words past the first m pairs are as they were
 out-past : (ps : List Pair) (ws : List ℕ) (m : ℕ) → Room-out ps ws m → 12288 ≤ length ws → Same-past m ws (copied-out ps ws m)
-unfolding copied-out copied-ends weights-of
+unfolding copied-out weights-of
 out-past ps ws m room long =
     let es : List ℕ = ends-of (take m ps) in
     let cs : List ℕ = weights-of (take m ps) in
     let front : length (take m ps) ≡ m = length-take-le m ps (room .enough) in
     let es-long : length es ≡ 2 * m = length-ends-of (take m ps) ∙ ap (λ (k : ℕ). 2 * k) front in
-    let cs-long : length cs ≡ m = length-map (take m ps) (λ p. as-pair p .w) ∙ front in
+    let cs-long : length cs ≡ m = length-map (take m ps) (λ p. p .w) ∙ front in
     let es-room : 0 + length es ≤ length ws = omega (arith, es-long, room .few, long) in
     let cs-room : 8192 + length cs ≤ length (put-at 0 es ws) = omega (arith, cs-long, room .few, long, length-put 0 es ws es-room) in
     record {

@@ -30,9 +30,9 @@ use Rattle.records.proofs.Frame.{Places, env}
 use Rattle.records.proofs.Entry as Entry
 use Rattle.records.proofs.Entry.{Par}
 use Rattle.records.proofs.Arrays.{copies, length-copies}
-use Rattle.records.proofs.Records.{plain-pair, plain-head, pair-row, word-row, half-row, byte-row, blank-fits, room-as}
+use Rattle.records.proofs.Records.{plain-pair, plain-head, pair-row, word-row, byte-row, blank-fits, room-as}
 use Rattle.records.proofs.Cells.{Plan, calls, gives, makes, drops}
-use Rattle.records.proofs.Forms.{Form, reads, writes, byte, half, word, Arguments, Fitting, kinds-of, pars-of, fits-of}
+use Rattle.records.proofs.Forms.{Form, reads, writes, byte, word, Arguments, Fitting, kinds-of, pars-of, fits-of}
 use Rattle.records.proofs.Stated.{states-asking}
 use Rattle.records.proofs.Chain.{table, loops, Finishes, Walked, Does, Takes, Spot, spot, calls-at, outright-at, out-at, array-at, drop-at, returns-at, chains}
 use Rattle.records.proofs.Pair as P
@@ -61,7 +61,7 @@ use Rattle.answer.proofs.sheet_file.Statement as stated
 use Rattle.answer.proofs.sheet_file.Code as code
 
 abbrev forms : List (Form 5)
-forms = reads 0 tt byte ∷ writes 1 tt byte ∷ writes 2 tt half ∷ writes 3 tt half ∷ writes 4 tt word ∷ []
+forms = reads 0 tt byte ∷ writes 1 tt byte ∷ writes 2 tt word ∷ writes 3 tt word ∷ writes 4 tt word ∷ []
 
 -- ---- the two arrays before read writes to them
 abbrev list₀ : List Pair
@@ -120,8 +120,8 @@ module _ {M : Type 1} (𝓤 : URA M) (H : Heap 𝓤) (𝓜 : Model 𝓤 H) (𝓖
     solve-args list work h h-fits ps list-kept ws work-kept = by-value N.the-row (plain-head W) h h-fits ∷ loan
         (lend-shr (pair-row W fullShare list 0) ps (list-room list-kept))
         ∷ loan (lend-mut (byte-row W fullShare (a .1 .0 .ptr .0) (a .1 .0 .ptr .1)) (a .1 .0 .now) (are .1 .0 .0 .1))
-        ∷ loan (lend-mut (half-row W fullShare (a .1 .1 .0 .ptr .0) (a .1 .1 .0 .ptr .1)) (a .1 .1 .0 .now) (are .1 .1 .0 .0 .1))
-        ∷ loan (lend-mut (half-row W fullShare (a .1 .1 .1 .0 .ptr .0) (a .1 .1 .1 .0 .ptr .1)) (a .1 .1 .1 .0 .now) (are .1 .1 .1 .0 .0 .1))
+        ∷ loan (lend-mut (word-row W fullShare (a .1 .1 .0 .ptr .0) (a .1 .1 .0 .ptr .1)) (a .1 .1 .0 .now) (are .1 .1 .0 .0 .1))
+        ∷ loan (lend-mut (word-row W fullShare (a .1 .1 .1 .0 .ptr .0) (a .1 .1 .1 .0 .ptr .1)) (a .1 .1 .1 .0 .now) (are .1 .1 .1 .0 .0 .1))
         ∷ loan (lend-mut (word-row W fullShare work 0) ws (work-room work-kept)) ∷ []
 
     abbrev count-args : (h : Head) → Fits N.the-row (plain-head W) h → List (Arg W)
