@@ -1,29 +1,27 @@
 -- Records and words: laws of `copied-out` and `put-back`.
 --   length-ends-of                   two words a record
---   length-copied-ends, copied-ends-none, copied-ends-more    numbers to words: a buffer's length stays; no record, and one record more
---   counts-out, count-none, count-more    the counts, once the numbers are there; no count, and one count more
---   length-copied-out, copied-out-none    both: a buffer's length stays; no record
+--   length-copied-out, copied-out-none, copied-out-more    records to words: a buffer's length stays; no record, and one record more
 --   copied-out-pairs                   what lies in the words are the pairs that the records stand for
 --   copied-out-drop, copied-out-past     the words past the places of records stay
 --   copied-out-list, agrees-room, copied-out-holds       where head and list agree, words that are long enough then hold the list
 --   length-put-back, put-back-none, put-back-more    a list's length stays; no record, and one record more
 --   records-copied-out                 words read back are the records
+--   word-laid, records-laid            what lies in words are the pairs that the records read from them stand for: at a place, and at the first places
 -- Assumes nothing.
 use mathlib.Core.Path.{_≡_, refl, sym, ap, _∙_, subst}
 use Prim.Native.Nat.{ℕ, zero, suc, _+_, _*_, _≤_, _<_}
 use native.Mathlib.Omega.{arith}
 use mathlib.Core.Bool.{true}
-use mathlib.Core.List.{List, [], _∷_, _++_, map, append-assoc}
-use lib.ListN.{length, getD, set, take, drop, replicate, length-replicate, length-append, length-drop, length-map, take-append-drop}
-use lib.Seq.{length-take-le, getD-take, getD-drop, take-suc, drop-cons, append-snoc, set-at}
+use mathlib.Core.List.{List, [], _∷_, _++_, map, map-append, append-assoc}
+use lib.ListN.{length, getD, set, take, drop, length-set, length-append, length-drop, length-map, take-append-drop}
+use lib.Seq.{length-take-le, getD-take, getD-drop, take-suc, take-set-lt, drop-set-lt, set-append-left, drop-cons, append-snoc, set-at}
 use Rattle.theory.specs.Basics.{table}
 use Rattle.theory.specs.Lists as Lists
-use Rattle.theory.specs.Lists.{pair}
 use Rattle.theory.specs.Words.{word-pair, pairs-in, counts-of, laid-pairs, laid-list, Holds-list, put-at}
 use Rattle.theory.proofs.Tests.{tests}
 use Rattle.theory.proofs.Tables.{length-table, table-ext}
 use Rattle.theory.proofs.Words.{length-put, put-below, put-in, put-drop}
-use Rattle.records.specs.Records.{as-pair, as-pairs, held-list, agrees, blank, ends-of, weights-of, copied-record, copied-ends, copied-out}
+use Rattle.records.specs.Records.{as-pair, as-pairs, held-list, agrees, blank, ends-of, weights-of, copied-record, copied-out}
 use Rattle.records.specs.Records.{word-record, records-in, put-back, Room-out}
 use Rattle.records.specs.declared.Pair.{Pair}
 use Rattle.records.specs.declared.Head.{Head}
@@ -46,6 +44,16 @@ module _ (k : ℕ) (new old : List ℕ) (v j : ℕ) where
         append-snoc new v (drop (suc j) old),
       )
 
+-- an entry before new ones
+put-before : (k : ℕ) (new old : List ℕ) (v j : ℕ) → j < k → k ≤ length old → set (put-at k new old) j v ≡ put-at k new (set old j v)
+unfolding put-at
+put-before k new old v j l room =
+    cc (
+      set-append-left (take k old) (new ++ drop (k + length new) old) j v (omega (arith, l, length-take-le k old room)),
+      take-set-lt k old j v l,
+      drop-set-lt (k + length new) old j v (omega (arith, l)),
+    )
+
 -- ---- records to words
 pub length-ends-of : (ps : List Pair) → length (ends-of ps) ≡ 2 * length ps
 unfolding ends-of
@@ -56,6 +64,10 @@ ends-of-more : (ps : List Pair) (p : Pair) → ends-of (ps ++ (p ∷ [])) ≡ (e
 unfolding ends-of
 ends-of-more [] p = refl
 ends-of-more (q ∷ ps) p = ap {B = List ℕ} (λ (xs : List ℕ). q .a ∷ q .b ∷ xs) (ends-of-more ps p)
+
+weights-of-more : (ps : List Pair) (p : Pair) → weights-of (ps ++ (p ∷ [])) ≡ weights-of ps ++ (p .w ∷ [])
+unfolding weights-of
+weights-of-more ps p = map-append (λ (q : Pair). q .w) ps (p ∷ [])
 
 -- the words of record j
 double-suc : (j : ℕ) → 2 * suc j ≡ suc (suc (2 * j))
@@ -70,19 +82,15 @@ ends-at (p ∷ ps) (suc j) l =
     subst (λ (i : ℕ). (getD (p .a ∷ p .b ∷ ends-of ps) i 0 ≡ getD ps j blank .a) × (getD (p .b ∷ ends-of ps) i 0 ≡ getD ps j blank .b))
     (sym (double-suc j)) (ends-at ps j (omega (arith, l)))
 
-weights-at : (ps : List Pair) (j : ℕ) → j < length ps → getD (weights-of ps) j 0 ≡ as-pair (getD ps j blank) .w
+weights-at : (ps : List Pair) (j : ℕ) → j < length ps → getD (weights-of ps) j 0 ≡ getD ps j blank .w
 unfolding weights-of
 weights-at [] j l = absurd (omega (arith, l))
 weights-at (p ∷ ps) zero l = refl
 weights-at (p ∷ ps) (suc j) l = weights-at ps j (omega (arith, l))
 
-pub copied-ends-none : (ps : List Pair) (ws : List ℕ) → copied-ends ps ws 0 ≡ ws
-unfolding copied-ends ends-of put-at
-copied-ends-none ps ws = refl
-
 -- no record: nothing is written
 pub copied-out-none : (ps : List Pair) (ws : List ℕ) → copied-out ps ws 0 ≡ ws
-unfolding copied-out copied-ends ends-of weights-of put-at
+unfolding copied-out ends-of weights-of put-at
 copied-out-none ps ws = take-append-drop 8192 ws
 
 -- m records, and places for them
@@ -98,7 +106,7 @@ module _ (ps : List Pair) (ws : List ℕ) (m : ℕ) (enough : m ≤ length ps) (
 
   length-cs : length cs ≡ m
   unfolding weights-of
-  length-cs = length-map (take m ps) (λ p. as-pair p .w) ∙ length-take-le m ps enough
+  length-cs = length-map (take m ps) (λ p. p .w) ∙ length-take-le m ps enough
 
   room-es : 0 + length es ≤ length ws
   room-es = omega (arith, length-es, few, long)
@@ -107,17 +115,17 @@ module _ (ps : List Pair) (ws : List ℕ) (m : ℕ) (enough : m ≤ length ps) (
   room-cs = omega (arith, length-cs, few, long, length-put 0 es ws room-es)
 
   length-laid : length (copied-out ps ws m) ≡ length ws
-  unfolding copied-out copied-ends
+  unfolding copied-out
   length-laid = length-put 8192 cs (put-at 0 es ws) room-cs ∙ length-put 0 es ws room-es
 
   past-laid : (k : ℕ) → 12288 ≤ k → drop k (copied-out ps ws m) ≡ drop k ws
-  unfolding copied-out copied-ends
+  unfolding copied-out
   past-laid k l =
       put-drop 8192 cs (put-at 0 es ws) room-cs k (omega (arith, length-cs, few, l)) ∙ put-drop 0 es ws room-es k (omega (arith, length-es, few, l))
 
   -- a word of the ends
   end-laid : (k : ℕ) → k < 2 * m → getD (copied-out ps ws m) k 0 ≡ getD es k 0
-  unfolding copied-out copied-ends
+  unfolding copied-out
   end-laid k l =
       let e : k ≡ 0 + k = omega arith in
       cc (e, put-below 8192 cs (put-at 0 es ws) room-cs k (omega (arith, l, few)), put-in 0 es ws room-es k (omega (arith, l, length-es)))
@@ -134,59 +142,51 @@ module _ (ps : List Pair) (ws : List ℕ) (m : ℕ) (enough : m ≤ length ps) (
         let e : 2 * j + 1 ≡ suc (2 * j) = omega arith in
         cc (e, end-laid (2 * j + 1) (omega (arith, l)), ends-at (take m ps) j in-take .1, getD-take m ps j blank l)
 
-    weight-laid : getD (counts-of (copied-out ps ws m)) j 0 ≡ as-pair (getD ps j blank) .w
-    unfolding copied-out copied-ends counts-of
+    weight-laid : getD (copied-out ps ws m) (8192 + j) 0 ≡ getD ps j blank .w
+    unfolding copied-out
     weight-laid =
         let there = put-in 8192 cs (put-at 0 es ws) room-cs j (omega (arith, l, length-cs)) in
-        cc (getD-drop 8192 (copied-out ps ws m) j 0, there, weights-at (take m ps) j in-take, getD-take m ps j blank l)
+        cc (there, weights-at (take m ps) j in-take, getD-take m ps j blank l)
 
--- one record's numbers more
+-- one record more
 module _ (ps : List Pair) (ws : List ℕ) (i : ℕ) (l : i < length ps) (few : i < 4096) (long : 12288 ≤ length ws) where
-  pub copied-ends-more : copied-record (copied-ends ps ws i) i (getD ps i blank) ≡ copied-ends ps ws (suc i)
-  unfolding copied-record copied-ends
-  copied-ends-more =
-      let p : Pair = getD ps i blank in
+  abbrev next : Pair
+  next = getD ps i blank
+
+  -- its numbers
+  ends-more : set (set (put-at 0 (ends-of (take i ps)) ws) (2 * i) (next .a)) (2 * i + 1) (next .b) ≡ put-at 0 (ends-of (take (suc i) ps)) ws
+  ends-more =
       let es : List ℕ = ends-of (take i ps) in
-      let fs : List ℕ = es ++ (p .a ∷ []) in
+      let fs : List ℕ = es ++ (next .a ∷ []) in
       let es-long : length es ≡ 2 * i = length-es ps ws i (omega (arith, l)) (omega (arith, few)) long in
-      let fs-long : length fs ≡ 2 * i + 1 = omega (arith, es-long, length-append es (p .a ∷ [])) in
+      let fs-long : length fs ≡ 2 * i + 1 = omega (arith, es-long, length-append es (next .a ∷ [])) in
       cc (
-        put-more 0 es ws (p .a) (2 * i) (omega (arith, es-long)) (omega (arith, few, long)),
-        put-more 0 fs ws (p .b) (2 * i + 1) (omega (arith, fs-long)) (omega (arith, few, long)),
-        ends-of-more (take i ps) p,
+        put-more 0 es ws (next .a) (2 * i) (omega (arith, es-long)) (omega (arith, few, long)),
+        put-more 0 fs ws (next .b) (2 * i + 1) (omega (arith, fs-long)) (omega (arith, few, long)),
+        ends-of-more (take i ps) next,
         take-suc ps i blank l,
       )
 
--- every record counts once
-weights-once : (ps : List Pair) (m : ℕ) → m ≤ length ps → replicate m 1 ≡ weights-of (take m ps)
-unfolding weights-of as-pair pair
-weights-once ps zero l = refl
-weights-once [] (suc m) l = absurd (omega (arith, l))
-weights-once (p ∷ ps) (suc m) l = ap (λ (cs : List ℕ). 1 ∷ cs) (weights-once ps m (omega (arith, l)))
-
--- the counts, once the numbers are there
-pub counts-out : (ps : List Pair) (ws : List ℕ) (m : ℕ) → m ≤ length ps → put-at 8192 (replicate m 1) (copied-ends ps ws m) ≡ copied-out ps ws m
-unfolding copied-out
-counts-out ps ws m l = ap (λ (cs : List ℕ). put-at 8192 cs (copied-ends ps ws m)) (weights-once ps m l)
-
-ones-more : (i : ℕ) → _≡_ {A = List ℕ} (replicate i 1 ++ (1 ∷ [])) (1 ∷ replicate i 1)
-ones-more zero = refl
-ones-more (suc i) = ap (λ (cs : List ℕ). 1 ∷ cs) (ones-more i)
-
--- no count, and a count more
-pub count-none : (ws : List ℕ) → put-at 8192 (replicate 0 1) ws ≡ ws
-unfolding put-at
-count-none ws = take-append-drop 8192 ws
-
-pub count-more : (i : ℕ) (ws : List ℕ) → i < 4096 → 12288 ≤ length ws → set (put-at 8192 (replicate i 1) ws) (8192 + i) 1 ≡ put-at 8192 (replicate (suc i) 1) ws
-count-more i ws few long =
-    put-more 8192 (replicate i 1) ws 1 (8192 + i) (omega (arith, length-replicate {A = ℕ} i 1)) (omega (arith, few, long))
-    ∙ ap (λ (cs : List ℕ). put-at 8192 cs ws) (ones-more i)
-
-pub length-copied-ends : (ps : List Pair) (ws : List ℕ) (m : ℕ) → Room-out ps ws m → length (copied-ends ps ws m) ≡ length ws
-length-copied-ends ps ws zero r = ap {B = ℕ} (λ (xs : List ℕ). length xs) (copied-ends-none ps ws)
-length-copied-ends ps ws (suc m) r =
-    unfold copied-ends in length-put 0 (ends-of (take (suc m) ps)) ws (room-es ps ws (suc m) (r .enough) (r .few) (r .long (omega arith)))
+  -- its numbers and its count: the numbers lie before the counts
+  pub copied-out-more : copied-record (copied-out ps ws i) i next ≡ copied-out ps ws (suc i)
+  unfolding copied-record copied-out
+  copied-out-more =
+      let cs : List ℕ = weights-of (take i ps) in
+      let old : List ℕ = put-at 0 (ends-of (take i ps)) ws in
+      let new : List ℕ = put-at 0 (ends-of (take (suc i) ps)) ws in
+      let old-long : length old ≡ length ws = length-put 0 (ends-of (take i ps)) ws (room-es ps ws i (omega (arith, l)) (omega (arith, few)) long) in
+      let new-long : length new ≡ length ws =
+      length-put 0 (ends-of (take (suc i) ps)) ws (room-es ps ws (suc i) (omega (arith, l)) (omega (arith, few)) long) in
+      let mid-long : length (set old (2 * i) (next .a)) ≡ length ws = length-set old (2 * i) (next .a) ∙ old-long in
+      let cs-long : length cs ≡ i = length-cs ps ws i (omega (arith, l)) (omega (arith, few)) long in
+      cc (
+        put-before 8192 cs old (next .a) (2 * i) (omega (arith, few)) (omega (arith, old-long, long)),
+        put-before 8192 cs (set old (2 * i) (next .a)) (next .b) (2 * i + 1) (omega (arith, few)) (omega (arith, mid-long, long)),
+        ends-more,
+        put-more 8192 cs new (next .w) (8192 + i) (omega (arith, cs-long)) (omega (arith, new-long, few, long)),
+        weights-of-more (take i ps) next,
+        take-suc ps i blank l,
+      )
 
 -- a buffer keeps its length
 pub length-copied-out : (ps : List Pair) (ws : List ℕ) (m : ℕ) → Room-out ps ws m → length (copied-out ps ws m) ≡ length ws
@@ -235,33 +235,35 @@ unfolding table
 table-map f g zero = refl
 table-map f g (suc m) = ap {B = List _} (λ r. g (f 0) ∷ r) (table-map (λ j. f (suc j)) g m)
 
+-- what lies at place j is the pair that the record read from there stands for
+pub word-laid : (ws : List ℕ) (j : ℕ) → word-pair ws (counts-of ws) j ≡ as-pair (word-record ws j)
+unfolding word-pair counts-of as-pair
+word-laid ws j = ap (λ (c : ℕ). record { a = getD ws (2 * j) 0; b = getD ws (2 * j + 1) 0; w = c }) (getD-drop 8192 ws j 0)
+
+-- and so at the first m places
+pub records-laid : (m : ℕ) (ws : List ℕ) → laid-pairs m ws ≡ as-pairs (records-in m ws)
+unfolding laid-pairs pairs-in records-in as-pairs
+records-laid m ws = table-ext m _ (λ j. as-pair (word-record ws j)) (λ j _. word-laid ws j) ∙ table-map (word-record ws) as-pair m
+
 module _ (ps : List Pair) (ws : List ℕ) (m : ℕ) (r : Room-out ps ws m) where
-  module _ (j : ℕ) (l : j < m) where
-    there : 12288 ≤ length ws
-    there = r .long (omega (arith, l))
-
-    -- the record at place j
-    record-laid : word-record (copied-out ps ws m) j ≡ getD ps j blank
-    record-laid = λ i. record {
-      a = first-laid ps ws m (r .enough) (r .few) there j l i;
-      b = second-laid ps ws m (r .enough) (r .few) there j l i;
-    }
-
-    pair-laid : word-pair (copied-out ps ws m) (counts-of (copied-out ps ws m)) j ≡ as-pair (getD ps j blank)
-    unfolding word-pair as-pair pair
-    pair-laid = λ i. record { a = record-laid i .a; b = record-laid i .b; w = weight-laid ps ws m (r .enough) (r .few) there j l i }
-
-  -- words stand for the pairs that the records stand for
-  pub copied-out-pairs : laid-pairs m (copied-out ps ws m) ≡ as-pairs (take m ps)
-  unfolding laid-pairs pairs-in as-pairs
-  copied-out-pairs =
-      table-ext m _ (λ j. as-pair (getD ps j blank)) pair-laid ∙ table-map (λ j. getD ps j blank) as-pair m
-      ∙ ap (map as-pair) (table-take blank ps m (r .enough))
+  -- the record at place j
+  record-laid : (j : ℕ) → j < m → word-record (copied-out ps ws m) j ≡ getD ps j blank
+  record-laid j l =
+      let there : 12288 ≤ length ws = r .long (omega (arith, l)) in
+      λ i. record {
+        a = first-laid ps ws m (r .enough) (r .few) there j l i;
+        b = second-laid ps ws m (r .enough) (r .few) there j l i;
+        w = weight-laid ps ws m (r .enough) (r .few) there j l i;
+      }
 
   -- words read back are the records
   pub records-copied-out : records-in m (copied-out ps ws m) ≡ take m ps
   unfolding records-in
   records-copied-out = table-ext m _ (λ j. getD ps j blank) record-laid ∙ table-take blank ps m (r .enough)
+
+  -- words stand for the pairs that the records stand for
+  pub copied-out-pairs : laid-pairs m (copied-out ps ws m) ≡ as-pairs (take m ps)
+  copied-out-pairs = records-laid m (copied-out ps ws m) ∙ ap as-pairs records-copied-out
 
 -- ---- where head and list agree, words that are long enough then hold the list
 module _ (h : Head) (ps : List Pair) (ws : List ℕ) where

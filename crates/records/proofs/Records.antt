@@ -1,7 +1,7 @@
 -- The plain types of this crate, for walks.
 --   plain-pair, plain-head, plain-seen       Pair, Head and Seen; plain-search, plain-place: Search and Place of `pairs`
 --   pair-row, word-row, half-row, byte-row   where records and numbers lie
---   blank-fits               the record 0,0
+--   blank-fits               the record 0,0,0
 --   room-as                  a length has room where one that is the same has
 --   record-size              the bytes of a record: all that a loop over records has of it
 --   record-of                record i, read through a pointer to it
@@ -76,7 +76,7 @@ module _ {M : Type 1} {𝓤 : URA M} {H : Heap 𝓤} {A : Atoms 𝓤} (W : Given
   byte-row s b o = record { type = u8; plain = plain-byte W; share = s; block = b; offset = o }
 
   pub blank-fits : Fits PairRow.the-row plain-pair blank
-  blank-fits = Struct.owes PairRow.the-type PairLaws.the-laws blank ((refl, lit< tt), ((refl, lit< tt), tt))
+  blank-fits = Struct.owes PairRow.the-type PairLaws.the-laws blank ((refl, lit< tt), ((refl, lit< tt), ((refl, lit< tt), tt)))
 
 -- record i, read through a pointer to it: np is the pointer's entry, n the row's
 pub record-of : {M : Type 1} {𝓤 : URA M} {H : Heap 𝓤} {A : Atoms 𝓤} {K : Type 0} {W : Given 𝓤 H A} {Γ : List (Item 𝓤)} {E : Env 𝓤 H} → K

@@ -5,14 +5,15 @@
 --   agrees-count     where head and list agree, M records are there, and they are few
 -- Assumes nothing.
 use mathlib.Core.Path.{_≡_, refl, sym, _∙_, subst}
-use mathlib.Core.Bool.{Bool, true, false, cond}
+use mathlib.Core.Bool.{Bool, true, false, _&&_, _||_, cond}
 use mathlib.Core.List.{List, [], _∷_}
 use Prim.Native.Nat.{ℕ, zero, suc, _≤_, _<_}
 use native.Mathlib.Omega.{arith}
+use lib.Dec.{ltb, eqb}
 use lib.ListN.{length, getD, take, length-map}
 use lib.Seq.{length-take-le}
 use Rattle.theory.specs.Basics.{all}
-use Rattle.theory.specs.Lists.{pair, ends-in-range, smaller-first, weight-in-range, stands-before, before-first, rising, size-in-range, is-list}
+use Rattle.theory.specs.Lists.{ends-in-range, smaller-first, weight-in-range, stands-before, before-first, rising, size-in-range, is-list}
 use borrow.Author.Tests.{lt-ltb}
 use Rattle.theory.proofs.Tests.{tests, no, or-left}
 use Rattle.records.specs.Records.{as-pair, as-pairs, blank, held-list, agrees}
@@ -39,12 +40,13 @@ record Good (n : ℕ) (s : Seen) (ps : List Pair) : Type 0 where
   before : s .ok ≡ true
   ends : all (ends-in-range n) (as-pairs ps) ≡ true
   first : all smaller-first (as-pairs ps) ≡ true
+  counted : all weight-in-range (as-pairs ps) ≡ true
   next : before-first (as-pair (s .last)) (as-pairs ps) ≡ true
   rises : rising (as-pairs ps) ≡ true
 
 scan-good : (n : ℕ) (s : Seen) (ps : List Pair) → scan n s ps .ok ≡ true → Good n s ps
-unfolding scan as-pairs as-pair all before-first rising step-of ends-in-range smaller-first pair
-scan-good n s [] e = record { before = e; ends = refl; first = refl; next = refl; rises = refl }
+unfolding scan as-pairs as-pair all before-first rising step-of ends-in-range smaller-first
+scan-good n s [] e = record { before = e; ends = refl; first = refl; counted = refl; next = refl; rises = refl }
 scan-good n s (p ∷ ps) e =
     let g = scan-good n (step-of n s p) ps e in
     let k = simp tests at (g .before) in
@@ -52,38 +54,35 @@ scan-good n s (p ∷ ps) e =
       before = k .0;
       ends = simp tests ((omega (arith, k .1 .0, k .1 .1 .0), k .1 .0), g .ends);
       first = simp tests (k .1 .1 .0, g .first);
-      next = k .1 .1 .1;
+      counted = simp tests (k .1 .1 .1 .0, g .counted);
+      next = k .1 .1 .1 .1;
       rises = simp tests (g .next, g .rises);
     }
 
 good-scan : (n : ℕ) (s : Seen) (ps : List Pair) → Good n s ps → scan n s ps .ok ≡ true
-unfolding scan as-pairs as-pair all before-first rising step-of ends-in-range smaller-first pair
+unfolding scan as-pairs as-pair all before-first rising step-of ends-in-range smaller-first
 good-scan n s [] g = g .before
 good-scan n s (p ∷ ps) g =
     let e = simp tests at (g .ends) in
     let f = simp tests at (g .first) in
+    let w = simp tests at (g .counted) in
     let r = simp tests at (g .rises) in
     good-scan n (step-of n s p) ps (record {
-      before = simp tests (g .before, (e .0 .1, (f .0, g .next)));
+      before = simp tests (g .before, (e .0 .1, (f .0, (w .0, g .next))));
       ends = e .1;
       first = f .1;
+      counted = w .1;
       next = r .0;
       rises = r .1;
     })
 
--- a record's pair counts once
-weights-good : (ps : List Pair) → all weight-in-range (as-pairs ps) ≡ true
-unfolding as-pairs as-pair all weight-in-range pair
-weights-good [] = refl
-weights-good (p ∷ ps) = weights-good ps
-
--- 0,0 stands before every record whose smaller number is first
+-- 0,0,0 stands before every record whose smaller number is first
 zero-before : (ps : List Pair) → all smaller-first (as-pairs ps) ≡ true → before-first (as-pair blank) (as-pairs ps) ≡ true
-unfolding as-pairs as-pair all smaller-first before-first stands-before pair
+unfolding as-pairs as-pair all smaller-first before-first stands-before
 zero-before [] e = refl
 zero-before (p ∷ ps) e = let l : p .a < p .b = (simp tests at e) .0 in go (p .a) (p .b) l
   where
-    go : (a b : ℕ) → a < b → stands-before (pair 0 0) (pair a b) ≡ true
+    go : (a b : ℕ) → a < b → (ltb 0 a || (eqb 0 a && ltb 0 b)) ≡ true
     go zero b l = simp tests (refl, l)
     go (suc a) b l = or-left _ _ (lt-ltb 0 (suc a) (omega arith))
 
@@ -105,16 +104,16 @@ module _ (h : Head) (ps : List Pair) where
   agree-parts e g =
       let k = fits-facts e in
       let short : length (as-pairs held) ≤ 4096 = omega (arith, k .1, length-map held as-pair, length-take-le (h .m) ps (k .1 .1)) in
-      simp tests (k .1 .1, ((k .0, short), (g .ends, (g .first, (weights-good held, g .rises)))))
+      simp tests (k .1 .1, ((k .0, short), (g .ends, (g .first, (g .counted, g .rises)))))
 
   -- and where they agree, both are so
   parts-agree : agrees h ps ≡ true → (fits h (length ps) ≡ true) × (all (ends-in-range (h .n)) (as-pairs held) ≡ true) ×
-      (all smaller-first (as-pairs held) ≡ true) × (rising (as-pairs held) ≡ true)
+      (all smaller-first (as-pairs held) ≡ true) × (all weight-in-range (as-pairs held) ≡ true) × (rising (as-pairs held) ≡ true)
   unfolding agrees held-list is-list size-in-range as-pairs fits
   parts-agree e =
       let k = simp tests at e in
       let few : h .m ≤ 4096 = omega (arith, k .1 .0 .1, length-map held as-pair, length-take-le (h .m) ps (k .0)) in
-      (simp tests (k .1 .0 .0 .0, (k .1 .0 .0 .1, (few, k .0))), k .1 .1 .0, k .1 .1 .1 .0, k .1 .1 .1 .1 .1)
+      (simp tests (k .1 .0 .0 .0, (k .1 .0 .0 .1, (few, k .0))), k .1 .1 .0, k .1 .1 .1 .0, k .1 .1 .1 .1 .0, k .1 .1 .1 .1 .1)
 
   -- what the scan says is whether head and list agree
   pub scan-agrees : scan (h .n) start (take (tested-of h (start .ok)) ps) .ok ≡ agrees h ps
@@ -131,7 +130,7 @@ module _ (h : Head) (ps : List Pair) where
       from : agrees h ps ≡ true → scan (h .n) start (take (tested-of h (start .ok)) ps) .ok ≡ true
       from e = let k = parts-agree e in
           subst (λ (t : Bool). scan (h .n) start (take (cond t (h .m) 0) ps) .ok ≡ true) (sym (k .0))
-          (good-scan (h .n) start held (record { before = k .0; ends = k .1; first = k .2; next = zero-before held (k .2); rises = k .3 }))
+          (good-scan (h .n) start held (record { before = k .0; ends = k .1; first = k .2; counted = k .3; next = zero-before held (k .2); rises = k .4 }))
 
   -- no more records are tested than there are, and at most 4,096
   pub tested-le : (tested-of h (start .ok) ≤ length ps) × (tested-of h (start .ok) ≤ 4096)

@@ -1,4 +1,4 @@
--- `records::lay` meets its contract: two words are written. Assumes nothing.
+-- `records::lay` meets its contract: three words are written. Assumes nothing.
 use borrow.Author.Needs.{needs}
 use mathlib.Core.Path.{refl}
 use native.Mathlib.Omega.{arith}
@@ -9,6 +9,9 @@ use Rattle.records.proofs.lay.Tie as tie
 
 slice-write-words-2 : tie.Need-slice-write-words-2
 slice-write-words-2 c = simp length-set (omega arith)
+
+slice-write-words-3 : tie.Need-slice-write-words-3
+slice-write-words-3 c = simp length-set (omega arith)
 
 returns : tie.Need-returns
 unfolding copied-record
@@ -27,5 +30,9 @@ lay-spec =
     (λ c. search needs)
     (λ c. search needs)
     slice-write-words-2
+    (λ c. search needs)
+    (λ c. search needs)
+    (λ c. search needs)
+    slice-write-words-3
     (λ c. search needs)
     returns)
