@@ -1,40 +1,47 @@
 -- What add and remove do on words.
 --   Edited                      what the words are after an answer
 --   edit-refused, edit-taken    an answer and the words, by its number
---   lookup-says, insert-says, full-less    what lookup says, and what is put in there; a list that is not full has room for a record
+--   lookup-says, raise-says     what lookup says, and what is raised there
+--   full-less                   a list that is not full has room for a record
 --   freed-pair                  the record that remove frees
---   few, find-asks, insert-asks, delete-asks    what the functions on words ask
+--   count-is, weight-few        the count at a held pair's place, and that none passes 1,000
+--   find-asks, room-asks, raised-asks, raised-few, delete-asks    what the functions on words ask
 --   add-edited, remove-edited   what add and remove leave
 -- Assumes nothing.
 use mathlib.Core.Path.{_≡_, refl, sym, ap, _∙_}
-use mathlib.Core.Bool.{Bool, true, false, _||_, not}
+use mathlib.Core.Bool.{Bool, true, false, _&&_, _||_, not}
 use mathlib.Core.List.{List, [], _∷_, _++_}
 use Prim.Native.Nat.{ℕ, zero, suc, _+_, _-_, _≤_, _<_, min, max}
 use native.Mathlib.Omega.{arith}
-use lib.Dec.{eqb}
+use lib.Dec.{eqb, leb}
 use lib.ListN.{length, getD}
 use borrow.Author.Tests.{ne-eqb, eq-eqb, eqb-true, eqb-false, not-false}
 use Rattle.theory.specs.Basics.{all}
-use Rattle.theory.specs.Lists.{Pair, pair, ends-in-range, is-list}
+use Rattle.theory.specs.Lists.{Pair, pair, ends-in-range, weight-in-range, is-list}
 use Rattle.theory.specs.Refusals.{refusal, if-taken}
 use Rattle.theory.proofs.Tests.{tests, no, by-test}
 use Rattle.theory.specs.Words.{laid-pairs, laid-list}
 use Rattle.theory.proofs.Lists.{listed}
 use Rattle.theory.proofs.Words.{length-laid, laid-at}
-use Rattle.pairs.specs.Held.{is-held, place-of, insert-pair, remove-pair, without-pair, smaller-first-pair}
-use Rattle.pairs.specs.Causes.{pair-causes}
+use Rattle.pairs.specs.Held.{same-ends, is-held, weight-of, place-of, raise-pair, remove-pair, without-pair, smaller-first-pair, stops-of}
+use Rattle.pairs.specs.Causes.{count-causes}
 use Rattle.pairs.specs.Located.{Rising-words, located}
+use Rattle.pairs.specs.Counts.{Raisable, raised, pairs-raised}
 use Rattle.pairs.specs.declared.Place.{Place}
-use Rattle.pairs.specs.Shifts.{insert-at, delete-at}
-use Rattle.pairs.proofs.Causes.{modules-known, pair-good}
+use Rattle.pairs.specs.Shifts.{delete-at}
+use Rattle.pairs.proofs.Causes.{modules-known, count-known, count-stays, stops-good}
+use Rattle.pairs.proofs.Ends.{stops-held, stops-weight}
 use Rattle.pairs.proofs.Keeps.{remove-list}
-use Rattle.pairs.proofs.Words.{holds-rising, place-within, place-held, insert-holds, laid-inserted, length-insert, laid-freed, length-delete}
+use Rattle.pairs.proofs.Places.{weight-at, located-any}
+use Rattle.pairs.proofs.Raised.{raise-list}
+use Rattle.pairs.proofs.Stops.{raise-asks, length-raised, raised-pairs}
+use Rattle.pairs.proofs.Words.{holds-rising, place-held, laid-freed, length-delete}
 use Rattle.records.specs.declared.Head.{Head}
 use Rattle.records.specs.Records.{Fits-records}
 use Rattle.kandurzo.specs.declared.Edit.{Edit}
 use Rattle.kandurzo.specs.Listing.{head-of, is-full}
-use Rattle.kandurzo.specs.Edits.{Ready, edit-of, pair-place, add-on-number, add-words, remove-on-number, remove-words}
-use Rattle.kandurzo.proofs.Orders.{First, first-none, add-none, remove-none}
+use Rattle.kandurzo.specs.Edits.{Ready, edit-of, pair-located, add-on-number, add-words, remove-on-number, remove-words}
+use Rattle.kandurzo.proofs.Orders.{First, first-none, Unmet, add-none, remove-none}
 
 -- the answer k with its head; where k is 0, the pairs `after` in the words, of which `back` records come back to the list
 pub record Edited (h : Head) (len k : ℕ) (new : Head) (back : ℕ) (after : List Pair) (words : List ℕ) : Type 0 where
@@ -66,36 +73,75 @@ edit-taken h k new back words after e f g = let z : eqb k 0 ≡ true = eq-eqb k 
 
 -- ---- the words of records
 
--- pairs that are within n
-ends-small : (n : ℕ) (ps : List Pair) (i : ℕ) → n ≤ 512 → all (ends-in-range n) ps ≡ true → i < length ps →
-    (getD ps i (pair 0 0) .a < 65536) × (getD ps i (pair 0 0) .b < 65536)
-unfolding all ends-in-range
-ends-small n [] i few e l = absurd (omega arith)
-ends-small n (p ∷ ps) zero few e l = let e′ = simp tests at e in (omega (arith, e′ .0 .0), omega (arith, e′ .0 .1))
-ends-small n (p ∷ ps) (suc i) few e l = let e′ = simp tests at e in ends-small n ps i few (e′ .1) (omega arith)
+-- both modules below n, and a count of at most 1,000
+unfoldable is-small : (n : ℕ) → Pair → Bool
+is-small n p = ends-in-range n p && leb (p .w) 1000
+
+-- so are all pairs of a list
+list-small : (n : ℕ) (ps : List Pair) → all (ends-in-range n) ps ≡ true → all weight-in-range ps ≡ true → all (is-small n) ps ≡ true
+unfolding all is-small weight-in-range
+list-small n [] e f = refl
+list-small n (p ∷ ps) e f =
+    let e′ = simp tests at e in
+    let f′ = simp tests at f in
+    simp tests ((e′ .0, f′ .0 .1), list-small n ps (e′ .1) (f′ .1))
+
+-- and the record freed behind them
+freed-small : (n : ℕ) (ps : List Pair) → 1 ≤ n → all (is-small n) ps ≡ true → all (is-small n) (ps ++ (freed-pair ∷ [])) ≡ true
+unfolding all is-small ends-in-range
+freed-small n [] h e = simp tests (((h, h), omega arith), refl)
+freed-small n (p ∷ ps) h e = let e′ = simp tests at e in simp tests (e′ .0, freed-small n ps h (e′ .1))
+
+small-fits : (n : ℕ) (ps : List Pair) (i : ℕ) → n ≤ 512 → all (is-small n) ps ≡ true → i < length ps →
+    (getD ps i (pair 0 0) .a < 65536) × (getD ps i (pair 0 0) .b < 65536) × (getD ps i (pair 0 0) .w < 65536)
+unfolding all is-small ends-in-range
+small-fits n [] i few e l = absurd (omega arith)
+small-fits n (p ∷ ps) zero few e l = let e′ = simp tests at e in (omega (arith, e′ .0 .0 .0), omega (arith, e′ .0 .0 .1), omega (arith, e′ .0 .1))
+small-fits n (p ∷ ps) (suc i) few e l = let e′ = simp tests at e in small-fits n ps i few (e′ .1) (omega arith)
 
 -- in words they fit records
-words-fit : (n m : ℕ) (words : List ℕ) → n ≤ 512 → all (ends-in-range n) (laid-pairs m words) ≡ true → Fits-records m words
+words-fit : (n m : ℕ) (words : List ℕ) → n ≤ 512 → all (is-small n) (laid-pairs m words) ≡ true → Fits-records m words
 unfolding Fits-records
 words-fit n m words few e i h =
-    let f = ends-small n (laid-pairs m words) i few e (omega (arith, length-laid m words)) in
-    let p = laid-at m words i (pair 0 0) h in
-    (omega (arith, f .0, ap (λ (q : Pair). q .a) p), omega (arith, f .1, ap (λ (q : Pair). q .b) p))
+    let f = small-fits n (laid-pairs m words) i few e (omega (arith, length-laid m words)) in
+    let p = laid-at m words i (pair 0 0) h in (
+      omega (arith, f .0, ap (λ (q : Pair). q .a) p),
+      omega (arith, f .1, ap (λ (q : Pair). q .b) p),
+      omega (arith, f .2, ap (λ (q : Pair). q .w) p),
+    )
 
 -- ---- lookup
 
 -- what lookup answers of the pair of a and b, the smaller first
 pub lookup-says : (a b : ℕ) (ps : List Pair) {c d : ℕ} {r : Place} → c ≡ min a b → d ≡ max a b → r ≡ located (pair c d) ps →
-    (r .held ≡ is-held (smaller-first-pair a b) ps) × (r .at ≡ place-of (smaller-first-pair a b) ps)
-unfolding located smaller-first-pair
-lookup-says a b ps e f g =
-    (ap (λ (x : Place). x .held) g ∙ rw (e, f), ap (λ (x : Place). x .at) g ∙ rw (e, f))
+    r ≡ located (smaller-first-pair a b) ps
+unfolding smaller-first-pair
+lookup-says a b ps e f g = g ∙ rw (e, f)
 
--- and what is put in where it said
-pub insert-says : (m a b : ℕ) (words : List ℕ) {at place c d : ℕ} → at ≡ place → c ≡ min a b → d ≡ max a b →
-    insert-at m at (record { a = c; b = d; w = 1 }) words ≡ insert-at m place (smaller-first-pair a b) words
-unfolding smaller-first-pair pair
-insert-says m a b words e f g = rw (e, f, g)
+-- and what is raised where it said
+pub raise-says : (m a b w : ℕ) (words : List ℕ) {place found : Place} {c d : ℕ} → place ≡ found → c ≡ min a b → d ≡ max a b →
+    raised m place (record { a = c; b = d; w = w }) words ≡ raised m found (stops-of a b w) words
+unfolding stops-of
+raise-says m a b w words e f g = rw (e, f, g)
+
+-- w stops of the pair are found alike
+stops-located : (a b w : ℕ) (ps : List Pair) → located (smaller-first-pair a b) ps ≡ located (stops-of a b w) ps
+unfolding smaller-first-pair pair stops-of
+stops-located a b w ps = located-any (min a b) (max a b) 1 w ps
+
+-- the count at a held pair's place
+pub count-is : (m : ℕ) (p : Pair) (words : List ℕ) → Rising-words m words → is-held p (laid-pairs m words) ≡ true →
+    (place-of p (laid-pairs m words) < m) × (getD words (8192 + place-of p (laid-pairs m words)) 0 ≡ weight-of p (laid-pairs m words))
+count-is m p words rises held =
+    let there = place-held m p words held in
+    let at = ap (λ (q : Pair). q .w) (laid-at m words (place-of p (laid-pairs m words)) (pair 0 0) there) in
+    (there, sym (weight-at p (laid-pairs m words) (pair 0 0) (rises .rises) held ∙ at))
+
+-- no count in a list passes 1,000
+pub weight-few : (p : Pair) (ps : List Pair) → all weight-in-range ps ≡ true → weight-of p ps ≤ 1000
+unfolding weight-of all weight-in-range
+weight-few p [] e = omega arith
+weight-few p (r ∷ rs) e = let e′ = simp tests at e in by-test (same-ends p r) (λ t. rw t (e′ .0 .1)) (λ t. rw t (weight-few p rs (e′ .1)))
 
 -- a list that is not full has room for a record
 pub full-less : (h : Head) (len : ℕ) → h .m ≤ 4096 → h .m ≤ len → is-full h len ≡ false → (h .m < 4096) × (h .m < len)
@@ -110,78 +156,126 @@ full-less h len few fits e = go (eqb (h .m) 4096) (eqb (h .m) len) refl refl e
         let b : h .m ≡ len → ⊥ = eqb-false (h .m) len g in
         (omega arith, omega arith)
 
--- ---- what find, and the two changes behind it, ask
+-- ---- what the functions on words ask
 
-module _ {h : Head} {t : Bool} {len : ℕ} {words : List ℕ} (ready : Ready h t len words) (yes : t ≡ true) where
-  ready-rising : Rising-words (h .m) words
-  ready-rising = holds-rising (h .n) (h .m) words (ready .holds yes)
+module _ {h : Head} {t : Bool} {len : ℕ} {words : List ℕ} (ready : Ready h t len words) where
+  ready-rising : t ≡ true → Rising-words (h .m) words
+  ready-rising e = holds-rising (h .n) (h .m) words (ready .holds e)
 
-module _ (a b : ℕ) {h : Head} {t : Bool} {len : ℕ} {words : List ℕ} (ready : Ready h t len words) (fine : First (not t) (h .n) a b ≡ 0) where
-  yes : t ≡ true
-  yes = not-false t (first-none (not t) (h .n) a b fine .0)
+  module _ (a b : ℕ) where
+    abbrev its-pair : Pair
+    its-pair = smaller-first-pair a b
 
-  pub find-asks : Rising-words (h .m) words
-  find-asks = ready-rising ready yes
+    abbrev now-held : List Pair
+    now-held = laid-pairs (h .m) words
 
-  pub few : h .m ≤ 4096
-  few = find-asks .few
+    -- where 13, 5 and 4 do not hold
+    module _ (fine : First (not t) (h .n) a b ≡ 0) where
+      yes : t ≡ true
+      yes = not-false t (first-none (not t) (h .n) a b fine .0)
 
-  module _ {at : ℕ} (is : at ≡ place-of (smaller-first-pair a b) (laid-pairs (h .m) words)) where
-    pub insert-asks : is-full h len ≡ false → (at ≤ h .m) × (h .m < 4096) × (12288 ≤ length words)
-    insert-asks e =
-        (rw is (place-within (h .m) (smaller-first-pair a b) words), full-less h len few (ready .fits yes) e .0, find-asks .long)
+      pub find-asks : Rising-words (h .m) words
+      find-asks = ready-rising yes
 
-    pub delete-asks : is-held (smaller-first-pair a b) (laid-pairs (h .m) words) ≡ true → (at < h .m) × (h .m ≤ 4096) × (12288 ≤ length words)
-    delete-asks held = (rw is (place-held (h .m) (smaller-first-pair a b) words held), few, find-asks .long)
+      pub room-asks : {count w : ℕ} → count ≡ weight-of its-pair now-held → refusal (count-causes w) ≡ 0 → (count ≤ 1000) × (w ≤ 1000)
+      unfolding laid-list
+      room-asks e c =
+          let l = listed (laid-list (h .n) (h .m) words) (ready .holds yes .listed) in
+          (omega (arith, e, weight-few its-pair now-held (l .weights)), count-known _ c .1)
 
--- ---- a pair more, and a pair less
+      pub delete-asks : {place : Place} → place ≡ pair-located h words a b → place .held ≡ true →
+          (place .at < h .m) × (h .m ≤ 4096) × (12288 ≤ length words)
+      unfolding pair-located located
+      delete-asks is held =
+          let there = place-held (h .m) its-pair words (sym (ap (λ (x : Place). x .held) is) ∙ held) in
+          (omega (arith, ap (λ (x : Place). x .at) is, there), find-asks .few, find-asks .long)
 
--- all pairs of a list, and 0,0 behind them, are within n
-all-zero : (n : ℕ) (ps : List Pair) → 1 ≤ n → all (ends-in-range n) ps ≡ true → all (ends-in-range n) (ps ++ (freed-pair ∷ [])) ≡ true
-unfolding all ends-in-range
-all-zero n [] h e = simp tests ((h, h), refl)
-all-zero n (p ∷ ps) h e = let e′ = simp tests at e in simp tests (e′ .0, all-zero n ps h (e′ .1))
+-- ---- stops more of a pair
 
-module _ (h : Head) (t : Bool) (len : ℕ) (words : List ℕ) (ready : Ready h t len words) (yes : t ≡ true) (long : length words ≡ 12288) where
-  abbrev now-held : List Pair
-  now-held = laid-pairs (h .m) words
+module _ (h : Head) (t : Bool) (len : ℕ) (words : List ℕ) (ready : Ready h t len words) (a b w : ℕ) (taken : add-on-number h t len words a b w ≡ 0) where
+  passed : Unmet (not t) (laid-list (h .n) (h .m) words) (is-full h len) a b w
+  unfolding add-on-number
+  passed = add-none (not t) (laid-list (h .n) (h .m) words) (is-full h len) a b w taken
 
-  held : is-list (laid-list (h .n) (h .m) words) ≡ true
-  held = ready .holds yes .listed
+  agreed : t ≡ true
+  agreed = not-false t (passed .agreed)
 
-  rises : Rising-words (h .m) words
-  rises = ready-rising ready yes
+  abbrev held-now : List Pair
+  held-now = laid-pairs (h .m) words
 
-  edit-added : (a b k : ℕ) → k ≡ 0 → refusal (pair-causes 0 (h .n) a b) ≡ 0 → is-held (smaller-first-pair a b) now-held ≡ false →
-      (h .m < 4096) × (h .m < len) → let p = smaller-first-pair a b in
-      Edited h len k (head-of (h .n) (h .m + 1)) (h .m + 1) (insert-pair p now-held) (insert-at (h .m) (place-of p now-held) p words)
-  unfolding edit-of if-taken laid-list smaller-first-pair
-  edit-added a b k z fine free less =
-      let p : Pair = smaller-first-pair a b in
+  abbrev there : Place
+  there = pair-located h words a b
+
+  free : there .held ≡ false → (h .m < 4096) × (h .m < len)
+  unfolding pair-located located laid-list
+  free new = full-less h len (ready-rising ready agreed .few) (ready .fits agreed) (passed .room new)
+
+  found : there ≡ located (stops-of a b w) held-now
+  unfolding pair-located
+  found = stops-located a b w held-now
+
+  below : weight-of (stops-of a b w) held-now + w ≤ 1000
+  unfolding laid-list
+  below = omega (arith, stops-weight a b w held-now, count-stays (smaller-first-pair a b) w held-now (passed .within))
+
+  pub raised-asks : Raisable (h .m) there w words
+  unfolding stops-of
+  raised-asks = raise-asks (h .m) there (stops-of a b w) words (ready-rising ready agreed) found (λ _. omega (arith, below)) (λ new. free new .0)
+
+  -- how many pairs there are then
+  pub raised-few : (pairs-raised (h .m) there ≤ 4096) × (pairs-raised (h .m) there ≤ len)
+  unfolding pairs-raised
+  raised-few =
+      by-test (there .held)
+      (λ e. rw e (ready-rising ready agreed .few, ready .fits agreed))
+      (λ e. rw e (omega (arith, free e .0), omega (arith, free e .1)))
+
+  raised-list : is-list (record { n = h .n; pairs = raise-pair (stops-of a b w) held-now }) ≡ true
+  unfolding laid-list stops-of
+  raised-list =
+      let count = count-known w (passed .stops) in
+      let good = stops-good (h .n) a b w (modules-known (h .n) a b (passed .modules)) count in
+      raise-list (laid-list (h .n) (h .m) words) (stops-of a b w) (ready .holds agreed .listed) (good .0) (good .1) (count .0) below
+      (λ new. omega (arith, length-laid (h .m) words, free (unfold pair-located located in (sym (stops-held a b w held-now) ∙ new)) .0))
+
+  edit-added : length words ≡ 12288 → (k : ℕ) → k ≡ 0 →
+      Edited h len k (head-of (h .n) (pairs-raised (h .m) there)) (pairs-raised (h .m) there) (raise-pair (stops-of a b w) held-now)
+      (raised (h .m) there (stops-of a b w) words)
+  unfolding edit-of if-taken stops-of
+  edit-added long k z =
       let k0 : eqb k 0 ≡ true = eq-eqb k 0 z in
-      let good = pair-good (h .n) a b (modules-known (h .n) a b fine) in
-      let l = listed _ (insert-holds (h .n) (h .m) p words (ready .holds yes) (good .0) (good .1) (good .2) free (less .0) .listed) in
+      let same = raised-pairs (h .m) there (stops-of a b w) words raised-asks (ready-rising ready agreed) found in
+      let l = listed (record { n = h .n; pairs = raise-pair (stops-of a b w) held-now }) raised-list in
       record {
-        long = length-insert (h .m) (place-of p now-held) p words (place-within (h .m) p words) (less .0) (rises .long) ∙ long;
-        in-list = rw k0 (omega (arith, less .1));
-        room = rw k0 (omega (arith, less .0));
-        pairs = λ w. laid-inserted (h .m) p words (less .0) (rises .long);
-        fit = rw k0 (words-fit (h .n) (h .m + 1) _ (l .few) (l .ends));
+        long = length-raised (h .m) there (stops-of a b w) words raised-asks ∙ long;
+        in-list = rw k0 (raised-few .1);
+        room = rw k0 (raised-few .0);
+        pairs = λ _. same;
+        fit = rw k0 (words-fit (h .n) _ _ (l .few) (rw same (list-small (h .n) _ (l .ends) (l .weights))));
       }
 
-  edit-removed : (p : Pair) (k : ℕ) → k ≡ 0 → is-held p now-held ≡ true →
-      Edited h len k (head-of (h .n) (h .m - 1)) (h .m) (remove-pair p now-held ++ (freed-pair ∷ [])) (delete-at (h .m) (place-of p now-held) words)
+-- ---- a pair less
+
+module _ (h : Head) (t : Bool) (len : ℕ) (words : List ℕ) (ready : Ready h t len words) (yes : t ≡ true) (long : length words ≡ 12288) where
+  abbrev all-held : List Pair
+  all-held = laid-pairs (h .m) words
+
+  edit-removed : (p : Pair) (k : ℕ) → k ≡ 0 → is-held p all-held ≡ true →
+      Edited h len k (head-of (h .n) (h .m - 1)) (h .m) (remove-pair p all-held ++ (freed-pair ∷ [])) (delete-at (h .m) (place-of p all-held) words)
   unfolding edit-of if-taken laid-list without-pair
   edit-removed p k z there =
       let k0 : eqb k 0 ≡ true = eq-eqb k 0 z in
+      let rises = ready-rising ready yes in
       let same = laid-freed (h .m) p words rises there in
-      let l = listed (without-pair p (laid-list (h .n) (h .m) words)) (remove-list (laid-list (h .n) (h .m) words) p held there) in
+      let g = laid-list (h .n) (h .m) words in
+      let l = listed (without-pair p g) (remove-list g p (ready .holds yes .listed) there) in
       record {
-        long = length-delete (h .m) (place-of p now-held) words (place-held (h .m) p words there) (rises .few) (rises .long) ∙ long;
+        long = length-delete (h .m) (place-of p all-held) words (place-held (h .m) p words there) (rises .few) (rises .long) ∙ long;
         in-list = rw k0 (ready .fits yes);
         room = rw k0 (rises .few);
-        pairs = λ w. same;
-        fit = rw k0 (words-fit (h .n) (h .m) _ (l .few) (rw same (all-zero (h .n) (remove-pair p now-held) (l .some) (l .ends))));
+        pairs = λ _. same;
+        fit = rw k0 (words-fit (h .n) (h .m) _ (l .few)
+            (rw same (freed-small (h .n) (remove-pair p all-held) (l .some) (list-small (h .n) (remove-pair p all-held) (l .ends) (l .weights)))));
       }
 
 -- ---- what add and remove leave on words
@@ -194,23 +288,20 @@ edit-none h len k new back after words some l =
     let z : eqb k 0 ≡ false = ne-eqb k 0 some in
     record { long = l; in-list = rw z (omega arith); room = rw z (omega arith); pairs = λ w. absurd (some w); fit = rw z (λ i w. absurd (omega arith)) }
 
-module _ (h : Head) (t : Bool) (len : ℕ) (words : List ℕ) (a b : ℕ) (ready : Ready h t len words) (long : length words ≡ 12288) where
-  pub add-edited : Edited h len (add-on-number h t len words a b) (head-of (h .n) (h .m + 1)) (h .m + 1)
-      (insert-pair (smaller-first-pair a b) (laid-pairs (h .m) words)) (add-words h t len words a b)
-  unfolding add-words add-on-number laid-list if-taken pair-place
-  add-edited =
-      let K = add-on-number h t len words a b in
+module _ (h : Head) (t : Bool) (len : ℕ) (words : List ℕ) (ready : Ready h t len words) (long : length words ≡ 12288) (a b : ℕ) where
+  pub add-edited : (w : ℕ) → let m = pairs-raised (h .m) (pair-located h words a b) in
+      Edited h len (add-on-number h t len words a b w) (head-of (h .n) m) m (raise-pair (stops-of a b w) (laid-pairs (h .m) words))
+      (add-words h t len words a b w)
+  unfolding add-words if-taken
+  add-edited w =
+      let K = add-on-number h t len words a b w in
       by-test (eqb K 0)
-      (λ e.
-      let x = add-none (not t) (laid-list (h .n) (h .m) words) (is-full h len) a b (eqb-true K 0 e) in
-      let yes = not-false t (x .0) in
-      let less = full-less h len (ready-rising ready yes .few) (ready .fits yes) (x .3) in
-      rw e (edit-added h t len words ready yes long a b K (eqb-true K 0 e) (x .1) (x .2) less))
+      (λ e. rw e (edit-added h t len words ready a b w (eqb-true K 0 e) long K (eqb-true K 0 e)))
       (λ e. rw e (edit-none h len K _ _ _ words (eqb-false K 0 e) long))
 
   pub remove-edited : Edited h len (remove-on-number h t words a b) (head-of (h .n) (h .m - 1)) (h .m)
       (remove-pair (smaller-first-pair a b) (laid-pairs (h .m) words) ++ (freed-pair ∷ [])) (remove-words h t words a b)
-  unfolding remove-words remove-on-number laid-list if-taken pair-place
+  unfolding remove-words remove-on-number laid-list if-taken pair-located located
   remove-edited =
       let K = remove-on-number h t words a b in
       by-test (eqb K 0)

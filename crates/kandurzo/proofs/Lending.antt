@@ -106,7 +106,7 @@ pub small : (len : ℕ) → len ≤ 4096 → len < 2 ^ 64
 small len few = lt-of-le-of-lt few (lit< tt)
 
 pub room-of : (len : ℕ) → len ≤ 4096 → (ps : List Pair) → length ps ≡ len → Room P.the-row (length ps)
-room-of len few ps e = room-as P.the-row e (small len few, lt-of-le-of-lt (mul-le-mul-right 4 few) (lit< tt))
+room-of len few ps e = room-as P.the-row e (small len few, lt-of-le-of-lt (mul-le-mul-right 6 few) (lit< tt))
 
 -- so many of the first `len` records fit a list, and the words have room for 4,096 where any does
 abbrev pub Held : ℕ → List ℕ → ℕ → Type 0
