@@ -7,20 +7,25 @@
 --   pair-fit         two such numbers are not refused
 --   modules-known    numbered from 0, both are below N
 --   pair-good        the pair of two such modules, smaller first, is one that a list may hold
+--   count-low, count-high, count-fit    a stop count below 1, above 1,000, and neither
+--   count-known, count-then             one that is not refused is 1 to 1,000, and the causes behind decide
+--   count-stays      a raised count that is not refused is at most 1,000
+--   stops-round      w stops of 2,5 are w stops of 5,2
+--   stops-good       with such a count that pair is one that a list may hold
 -- Assumes nothing.
 use mathlib.Core.Path.{_≡_, refl, sym, _∙_}
-use mathlib.Core.Bool.{true, false, _&&_, and-comm}
+use mathlib.Core.Bool.{true, false, _&&_, and-comm, and-false}
 use mathlib.Core.Logic.{_≢_}
 use mathlib.Core.List.{List, [], _∷_, _++_}
 use Prim.Native.Nat.{ℕ, zero, suc, _+_, _≤_, _<_, min, max}
 use native.Mathlib.Omega.{arith}
-use lib.Dec.{eqb}
-use borrow.Author.Tests.{eqb-true, eqb-false, eq-eqb, ne-eqb, le-leb, lt-ltb}
-use Rattle.theory.specs.Lists.{pair, ends-in-range, smaller-first, weight-in-range}
+use lib.Dec.{leb, eqb}
+use borrow.Author.Tests.{eqb-true, eqb-false, eq-eqb, ne-eqb, le-leb, lt-leb, lt-ltb, ltb-false}
+use Rattle.theory.specs.Lists.{Pair, pair, ends-in-range, smaller-first, weight-in-range}
 use Rattle.theory.specs.Refusals.{Cause, cause, refusal}
 use Rattle.theory.proofs.Tests.{tests, by-test}
-use Rattle.pairs.specs.Held.{smaller-first-pair}
-use Rattle.pairs.specs.Causes.{is-module, module-unknown, self-paired, pair-causes}
+use Rattle.pairs.specs.Held.{weight-of, smaller-first-pair, stops-of}
+use Rattle.pairs.specs.Causes.{is-module, module-unknown, self-paired, pair-causes, count-outside, count-causes, count-passes}
 
 -- a number given by the first of two lists of causes is given by both together
 pub refusal-first : (cs ds : List Cause) → (refusal cs ≡ 0 → ⊥) → refusal (cs ++ ds) ≡ refusal cs
@@ -48,6 +53,14 @@ module _ (a b : ℕ) where
   self-round : self-paired a b ≡ self-paired b a
   unfolding self-paired
   self-round = by-test (eqb a b) (λ t. t ∙ sym (eq-eqb b a (sym (eqb-true a b t)))) (λ t. t ∙ sym (ne-eqb b a (λ e. eqb-false a b t (sym e))))
+
+  -- with any count
+  pub stops-round : (w : ℕ) → stops-of a b w ≡ stops-of b a w
+  unfolding stops-of
+  stops-round w =
+      let low : min a b ≡ min b a = omega arith in
+      let high : max a b ≡ max b a = omega arith in
+      rw (low, high)
 
   -- and refused alike
   pub causes-round : (lowest n : ℕ) → pair-causes lowest n a b ≡ pair-causes lowest n b a
@@ -88,3 +101,44 @@ unfolding smaller-first-pair pair ends-in-range smaller-first weight-in-range
 pair-good n a b t =
     let d : a ≢ b = t .2 in
     (simp tests (omega (arith, t .0, t .1), omega (arith, t .0, t .1)), simp tests (omega arith), refl)
+
+-- 18: a stop count is below 1
+pub count-low : (w : ℕ) → w < 1 → refusal (count-causes w) ≡ 18
+unfolding count-causes count-outside cause refusal
+count-low w h = rw (lt-leb 1 w h)
+
+-- 18: it is above 1,000
+pub count-high : (w : ℕ) → 1000 < w → refusal (count-causes w) ≡ 18
+unfolding count-causes count-outside cause refusal
+count-high w h = rw (lt-leb w 1000 h, and-false)
+
+-- neither
+pub count-fit : (w : ℕ) → 1 ≤ w → w ≤ 1000 → refusal (count-causes w) ≡ 0
+unfolding count-causes count-outside cause refusal
+count-fit w h l = rw (le-leb 1 w h, le-leb w 1000 l)
+
+-- a stop count that is not refused is 1 to 1,000; and the causes that stand behind decide
+module _ (w : ℕ) (taken : refusal (count-causes w) ≡ 0) where
+  inside : (leb 1 w && leb w 1000) ≡ true
+  unfolding count-causes count-outside cause refusal
+  inside = by-test (leb 1 w && leb w 1000) (λ t. t) (λ t. absurd (omega (arith, rw t at taken)))
+
+  pub count-known : (1 ≤ w) × (w ≤ 1000)
+  count-known = simp tests at inside
+
+  pub count-then : (cs : List Cause) → refusal (count-causes w ++ cs) ≡ refusal cs
+  unfolding count-causes count-outside cause refusal
+  count-then cs = rw inside
+
+-- a raised count that is not refused is at most 1,000
+pub count-stays : (p : Pair) (w : ℕ) (ps : List Pair) → count-passes p w ps ≡ false → weight-of p ps + w ≤ 1000
+unfolding count-passes
+count-stays p w ps h = ltb-false 1000 (weight-of p ps + w) h
+
+-- w stops of two modules that differ, smaller first, are a pair that a list may hold
+pub stops-good : (n a b w : ℕ) → (a < n) × (b < n) × (a ≡ b → ⊥) → (1 ≤ w) × (w ≤ 1000) →
+    let p = stops-of a b w in (ends-in-range n p ≡ true) × (smaller-first p ≡ true) × (weight-in-range p ≡ true)
+unfolding stops-of ends-in-range smaller-first weight-in-range
+stops-good n a b w t c =
+    let d : a ≢ b = t .2 in
+    (simp tests (omega (arith, t .0, t .1), omega (arith, t .0, t .1)), simp tests (omega arith), simp tests c)

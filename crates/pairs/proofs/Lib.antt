@@ -1,6 +1,7 @@
 -- Laws of the pair list; each file opens with what it gives.
 pub mod General
 pub mod Order
+pub mod Ends
 pub mod Rising
 pub mod Changes
 pub mod Keeps
@@ -12,4 +13,5 @@ pub mod Words
 pub mod Searching
 pub mod Counts
 pub mod Places
+pub mod Raised
 pub mod Stops

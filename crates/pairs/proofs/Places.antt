@@ -5,16 +5,17 @@
 --   located-any             lookup goes by the ends: the count does not matter
 -- Assumes nothing.
 use mathlib.Core.Path.{_≡_, refl, sym, ap, _∙_}
-use mathlib.Core.Bool.{Bool, true, false, _||_, cond}
+use mathlib.Core.Bool.{true, false}
 use mathlib.Core.List.{List, [], _∷_}
-use Prim.Native.Nat.{ℕ, suc}
+use Prim.Native.Nat.{ℕ}
 use lib.Dec.{leb}
 use lib.ListN.{getD, set}
-use Rattle.theory.specs.Lists.{Pair, stands-before, rising}
+use Rattle.theory.specs.Lists.{Pair, rising}
 use Rattle.theory.proofs.Tests.{no}
 use Rattle.pairs.specs.Held.{same-ends, is-held, weight-of, place-of, insert-pair, remove-pair, heavier, lighter, raise-pair, lower-pair}
 use Rattle.pairs.specs.Located.{located}
-use Rattle.pairs.proofs.Order.{order-cases}
+use Rattle.pairs.proofs.Order.{same-refl, order-cases}
+use Rattle.pairs.proofs.Ends.{held-same, place-same}
 use Rattle.pairs.proofs.Rising.{rising-iff, lower-not-held}
 
 -- a pair whose count comes to 0 is taken out
@@ -65,16 +66,10 @@ weight-at p (r ∷ rs) d e h =
     (λ x g s. rw (s, g) (weight-at p rs d ((simp rising-iff at e) .1) (rw s at h)))
 
 -- lookup goes by the ends: the count does not matter
-held-any : (a b v w : ℕ) (ps : List Pair) → is-held (record { a = a; b = b; w = v }) ps ≡ is-held (record { a = a; b = b; w = w }) ps
-unfolding is-held same-ends
-held-any a b v w [] = refl
-held-any a b v w (r ∷ rs) = ap (λ (t : Bool). same-ends (record { a = a; b = b; w = w }) r || t) (held-any a b v w rs)
-
-place-any : (a b v w : ℕ) (ps : List Pair) → place-of (record { a = a; b = b; w = v }) ps ≡ place-of (record { a = a; b = b; w = w }) ps
-unfolding place-of stands-before
-place-any a b v w [] = refl
-place-any a b v w (r ∷ rs) = ap (λ (k : ℕ). cond (stands-before r (record { a = a; b = b; w = w })) (suc k) 0) (place-any a b v w rs)
-
 pub located-any : (a b v w : ℕ) (ps : List Pair) → located (record { a = a; b = b; w = v }) ps ≡ located (record { a = a; b = b; w = w }) ps
-unfolding located
-located-any a b v w ps = cc (held-any a b v w ps, place-any a b v w ps)
+unfolding located same-ends
+located-any a b v w ps =
+    let p : Pair = record { a = a; b = b; w = v } in
+    let q : Pair = record { a = a; b = b; w = w } in
+    let s : same-ends p q ≡ true = same-refl q in
+    cc (held-same p q ps s, place-same p q ps s)
