@@ -5,7 +5,7 @@
 --   any-order-taken, arrival-traceless, one-at-a-time    so order and steps make no difference
 --   every-list-added               different pairs added in a row are taken
 -- Assumes nothing.
-use mathlib.Core.Path.{_≡_, refl, sym, ap, _∙_}
+use mathlib.Core.Path.{_≡_, refl, sym, _∙_}
 use mathlib.Core.Bool.{true, false}
 use mathlib.Core.List.{List, [], _∷_, _++_}
 use Prim.Native.Nat.{ℕ, _+_, _≤_, _<_}
