@@ -31,7 +31,6 @@ use Rattle.kandurzo.specs.declared.Gate.{Gate}
 use Rattle.kandurzo.specs.Gate.{gate-number, gate-of, Behind}
 use Rattle.kandurzo.proofs.Filling.{left-open, cleared-past}
 use Rattle.kandurzo.proofs.Taken.{held-few, held-is-list, length-held}
-use Rattle.kandurzo.proofs.Bits.{held-fit}
 
 -- every buffer is as long as stated
 abbrev pub Long-enough : List Buffer → Type 0
@@ -137,7 +136,6 @@ module _ (h : Head) (ps : List Pair) (lent : ℕ → List Buffer) (work : List �
           listed = rw (words-list h ps short work long z) (held-is-list h ps (passed h ps short z .0));
           long = omega (arith, same, long (passed h ps short z .1));
         };
-        fits = λ z. rw (words-list h ps short work long z) (held-fit h ps (passed h ps short z .0));
         long = λ z. rw same (passed h ps short z .1);
         shut = unfold gate-of in (gate-shut (agrees h ps) short);
       }

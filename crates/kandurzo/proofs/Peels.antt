@@ -1,6 +1,6 @@
--- Peel on words: 32-bit numbers in front of local arrays, narrowed to the lent buffers; and the call's promise.
+-- Peel on words: the leaving order narrowed to the lent buffer, the core numbers in front of theirs; and the call's promise.
 --   narrowed, narrow-long, narrow-fits    n entries in front of an array, narrowed, stand in front of the buffer
---   cores-long, cores-fit, cores-narrowed, cores-in-front    the same for core numbers
+--   cores-in-front                        the first n entries are the core numbers
 --   peel-enough, peel-long, peel-call     where no buffer is short; the call's promise
 -- Assumes nothing.
 use mathlib.Core.Path.{_≡_, refl, sym, ap, _∙_}
@@ -13,8 +13,8 @@ use lib.ListN.{length, getD, take, drop, length-append, List·getD-append}
 use lib.Seq.{take-at}
 use borrow.Author.Tests.{eqb-true}
 use Rattle.theory.specs.Lists as Lists
-use Rattle.theory.specs.Cores.{core-number, core-numbers}
-use Rattle.theory.proofs.Tables.{length-table, table-at}
+use Rattle.theory.specs.Cores.{core-numbers}
+use Rattle.theory.proofs.Tables.{length-table}
 use Rattle.theory.specs.Refusals.{if-taken}
 use Rattle.theory.proofs.Tests.{by-test}
 use Rattle.records.specs.declared.Pair.{Pair}
@@ -37,7 +37,7 @@ module _ (n : ℕ) (xs rest new : List ℕ) (long : length xs ≡ n) (is : new �
   narrow-fits b h i l =
       omega (arith, ap (λ (ys : List ℕ). getD ys i 0) is, List·getD-append xs rest 0 i (omega (arith, long)), h i l)
 
--- ---- core numbers, narrowed
+-- ---- core numbers
 
 numbers-length : (g : Lists.Pairs) → length (core-numbers g) ≡ g .n
 unfolding core-numbers
@@ -46,18 +46,6 @@ numbers-length g = length-table (g .n) _
 pub cores-in-front : (g : Lists.Pairs) (to : List ℕ) → core-numbers g ++ drop (g .n) to ≡ in-front (core-numbers g) to
 unfolding in-front
 cores-in-front g to = ap (λ (i : ℕ). core-numbers g ++ drop i to) (sym (numbers-length g))
-
-module _ (g : Lists.Pairs) (old new : List ℕ) (is : new ≡ core-numbers g ++ drop (g .n) old) where
-  pub cores-long : g .n ≤ length new
-  cores-long = narrow-long (g .n) (core-numbers g) _ new (numbers-length g) is
-
-  pub cores-fit : ((v : ℕ) → core-number g v < 65536) → (i : ℕ) → i < g .n → getD new i 0 < 65536
-  cores-fit few =
-      narrow-fits (g .n) (core-numbers g) _ new (numbers-length g) is 65536
-      (λ i b. unfold core-numbers in rw (table-at (g .n) (core-number g) i 0 b) (few i))
-
-  pub cores-narrowed : (to : List ℕ) → in-front (take (g .n) new) to ≡ in-front (core-numbers g) to
-  cores-narrowed to = narrowed (g .n) (core-numbers g) _ new (numbers-length g) is to
 
 -- ---- the call
 

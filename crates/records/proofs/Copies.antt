@@ -6,7 +6,7 @@
 --   copied-out-list, agrees-room, copied-out-holds       where head and list agree, words that are long enough then hold the list
 --   length-put-back, put-back-none, put-back-more    a list's length stays; no record, and one record more
 --   records-copied-out                 words read back are the records
---   word-laid, records-laid            what lies in words are the pairs that the records read from them stand for: at a place, and at the first places
+--   pair-read, pairs-read              what lies in words are the pairs that the records read from them stand for: at a place, and at the first places
 -- Assumes nothing.
 use mathlib.Core.Path.{_≡_, refl, sym, ap, _∙_, subst}
 use Prim.Native.Nat.{ℕ, zero, suc, _+_, _*_, _≤_, _<_}
@@ -236,14 +236,14 @@ table-map f g zero = refl
 table-map f g (suc m) = ap {B = List _} (λ r. g (f 0) ∷ r) (table-map (λ j. f (suc j)) g m)
 
 -- what lies at place j is the pair that the record read from there stands for
-pub word-laid : (ws : List ℕ) (j : ℕ) → word-pair ws (counts-of ws) j ≡ as-pair (word-record ws j)
+pub pair-read : (ws : List ℕ) (j : ℕ) → word-pair ws (counts-of ws) j ≡ as-pair (word-record ws j)
 unfolding word-pair counts-of as-pair
-word-laid ws j = ap (λ (c : ℕ). record { a = getD ws (2 * j) 0; b = getD ws (2 * j + 1) 0; w = c }) (getD-drop 8192 ws j 0)
+pair-read ws j = ap (λ (c : ℕ). record { a = getD ws (2 * j) 0; b = getD ws (2 * j + 1) 0; w = c }) (getD-drop 8192 ws j 0)
 
 -- and so at the first m places
-pub records-laid : (m : ℕ) (ws : List ℕ) → laid-pairs m ws ≡ as-pairs (records-in m ws)
+pub pairs-read : (m : ℕ) (ws : List ℕ) → laid-pairs m ws ≡ as-pairs (records-in m ws)
 unfolding laid-pairs pairs-in records-in as-pairs
-records-laid m ws = table-ext m _ (λ j. as-pair (word-record ws j)) (λ j _. word-laid ws j) ∙ table-map (word-record ws) as-pair m
+pairs-read m ws = table-ext m _ (λ j. as-pair (word-record ws j)) (λ j _. pair-read ws j) ∙ table-map (word-record ws) as-pair m
 
 module _ (ps : List Pair) (ws : List ℕ) (m : ℕ) (r : Room-out ps ws m) where
   -- the record at place j
@@ -263,7 +263,7 @@ module _ (ps : List Pair) (ws : List ℕ) (m : ℕ) (r : Room-out ps ws m) where
 
   -- words stand for the pairs that the records stand for
   pub copied-out-pairs : laid-pairs m (copied-out ps ws m) ≡ as-pairs (take m ps)
-  copied-out-pairs = records-laid m (copied-out ps ws m) ∙ ap as-pairs records-copied-out
+  copied-out-pairs = pairs-read m (copied-out ps ws m) ∙ ap as-pairs records-copied-out
 
 -- ---- where head and list agree, words that are long enough then hold the list
 module _ (h : Head) (ps : List Pair) (ws : List ℕ) where

@@ -1,4 +1,4 @@
--- `peel_in` meets its contract: peel on the words cut in two, narrowed. Assumes nothing.
+-- `peel_in` meets its contract: peel on the words cut in two, its order narrowed. Assumes nothing.
 use mathlib.Core.Path.{_≡_, _∙_}
 use Prim.Native.Nat.{_≤_}
 use native.Mathlib.Omega.{arith}
@@ -13,7 +13,7 @@ use Rattle.theory.proofs.Lists.{listed}
 use Rattle.theory.proofs.Words.{holds-few, cut-list, cut-held}
 use Rattle.theory.proofs.Leaving.{leaving-steps}
 use Rattle.theory.proofs.Bounds.{leaving-below}
-use Rattle.kandurzo.proofs.Peels.{narrowed, narrow-long, narrow-fits, cores-long, cores-fit, cores-narrowed}
+use Rattle.kandurzo.proofs.Peels.{narrowed, narrow-long, narrow-fits, cores-in-front}
 use Rattle.kandurzo.proofs.peeling.peel_in.Statement.{statement}
 use Rattle.kandurzo.proofs.peeling.peel_in.Tie as tie
 
@@ -23,6 +23,11 @@ begin c = c .before .before .before .before .before .before .before .before .bef
 
 abbrev list-of : tie.Start → Pairs
 list-of s = laid-list (s .args .n) (s .args .m) (now (s .args .work))
+
+-- its leaving order has n entries
+order-long : (s : tie.Start) → length (leaving (list-of s)) ≡ s .args .n
+unfolding Leaving-steps laid-list
+order-long s = leaving-steps (list-of s) .0
 
 -- n is at most 512, m at most 4,096
 few : (s : tie.Start) → (s .args .n ≤ 512) × (s .args .m ≤ 4096)
@@ -47,18 +52,18 @@ peel-requires c κs =
     let some : 1 ≤ s .args .n = unfold laid-list in (l .some) in
     let low = few s .0 in (
       cut-held (s .args .n) (s .args .m) (now (s .args .work)) (s .pre .0),
-      record { some = omega arith; few = some; order-long = low; cores-long = low; place-long = low },
+      record { some = omega arith; few = some; order-long = low; cores-long = s .pre .1 .1; place-long = low },
     )
 
 narrow-requires : tie.Need-narrow-requires
 unfolding laid-list
 narrow-requires c κs =
-    let v = c .before .before .before .before .before in
+    let v = c .before .before .before .before .before .before in
     let a = begin v .args in
     let done = rw (cut-list (a .n) (a .m) (now (a .work))) at (v .peel .ensures) in
     let g = list-of (begin v) in
     let l = listed g (begin v .pre .0 .listed) in
-    let long : length (leaving g) ≡ a .n = unfold Leaving-steps in (leaving-steps g .0) in (
+    let long = order-long (begin v) in (
       narrow-long _ (leaving g) _ _ long (done .order-is),
       (
         begin v .pre .1 .0,
@@ -66,26 +71,15 @@ narrow-requires c κs =
       ),
     )
 
-narrow-requires-2 : tie.Need-narrow-requires-2
-unfolding laid-list
-narrow-requires-2 c κs =
-    let v = c .before .before .before .before .before .before .before .before .before .before in
-    let a = begin v .args in
-    let done = rw (cut-list (a .n) (a .m) (now (a .work))) at (v .peel .ensures) in
-    let h = begin v .pre in
-    (cores-long (list-of (begin v)) _ _ (done .cores-are), (h .1 .1 .0, cores-fit (list-of (begin v)) _ _ (done .cores-are) (h .1 .1 .1)))
-
 returns : tie.Need-returns
 unfolding laid-list
 returns c =
-    let v = c .before .before .before .before .before .before .before .before .before .before .before .before .before in
+    let v = c .before .before .before .before .before .before .before .before .before in
     let a = begin v .args in
     let done = rw (cut-list (a .n) (a .m) (now (a .work))) at (v .peel .ensures) in
-    let g = list-of (begin v) in
-    let cores = now (a .cores) in
-    let long : length (leaving g) ≡ a .n = unfold Leaving-steps in (leaving-steps g .0) in (
-      c .before .before .before .before .before .before .before .narrow .ensures ∙ narrowed (a .n) (leaving g) _ _ long (done .order-is) (now (a .order)),
-      c .before .before .narrow2 .ensures ∙ cores-narrowed g _ _ (done .cores-are) cores,
+    let g = list-of (begin v) in (
+      c .before .before .narrow .ensures ∙ narrowed (a .n) (leaving g) _ _ (order-long (begin v)) (done .order-is) (now (a .order)),
+      done .cores-are ∙ cores-in-front g (now (a .cores)),
     )
 
 pub peel-in-spec : {M : Type 1} → statement M
@@ -102,12 +96,9 @@ peel-in-spec =
     part-peel-end-2
     (λ c. search needs)
     (λ c. search needs)
-    (λ c. search needs)
     peel-requires
     (λ c. search needs)
     narrow-requires
-    (λ c. search needs)
-    narrow-requires-2
     (λ c. search needs)
     (λ c. search needs)
     returns)

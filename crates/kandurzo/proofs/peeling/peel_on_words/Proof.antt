@@ -29,7 +29,7 @@ peel-in-requires c κs =
     let z = opened c .if1 .left in
     let h = begin (opened c) .pre in
     let e = peel-enough _ _ _ _ (h .long z) in
-    (h .holds z, (e .0, (e .1, h .fits z .cores)))
+    (h .holds z, (e .0, e .1))
 
 clear-requires : tie.Need-clear-requires
 clear-requires c κs = let o = opened (peeled c) in peel-enough _ _ _ _ (begin o .pre .long (o .if1 .left)) .2

@@ -39,7 +39,7 @@ sheet-in-requires c κs =
     let z = opened c .if1 .left in
     let h = begin (opened c) .pre in
     let e = solve-enough _ _ _ _ _ (h .long z) in
-    (h .holds z, (e .0, (e .1, (e .2, h .fits z))))
+    (h .holds z, (e .0, (e .1, e .2)))
 
 clear-requires : tie.Need-clear-requires
 clear-requires c κs = let o = opened (solved c .before) in solve-enough _ _ _ _ _ (begin o .pre .long (o .if1 .left)) .3
@@ -47,8 +47,7 @@ clear-requires c κs = let o = opened (solved c .before) in solve-enough _ _ _ _
 record-of-requires : tie.Need-record-of-requires
 record-of-requires c κs =
     let v = solved (cleared c) in
-    let o = opened (v .before) in
-    some-modules _ (begin o .pre .holds (o .if1 .left) .listed) _ refl _ _ _ _ _ _ _ (v .sheet-in .ensures)
+    some-modules _ _ _ _ _ _ _ _ (v .sheet-in .ensures)
 
 returns-2 : tie.Need-returns-2
 returns-2 c =
