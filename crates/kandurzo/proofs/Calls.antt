@@ -6,8 +6,8 @@
 -- Assumes nothing.
 use mathlib.Core.Path.{_≡_, refl, sym, ap, subst, _∙_}
 use mathlib.Core.Bool.{Bool, true, false, not, cond}
-use mathlib.Core.List.{List, [], _∷_, _++_, map}
-use Prim.Native.Nat.{ℕ, zero, suc, _+_, _-_}
+use mathlib.Core.List.{List, [], _∷_, _++_}
+use Prim.Native.Nat.{ℕ, _+_, _-_}
 use native.Mathlib.Omega.{arith}
 use lib.Dec.{eqb}
 use lib.ListN.{length, drop}
@@ -16,8 +16,7 @@ use Rattle.theory.specs.Basics.{table}
 use Rattle.theory.specs.Lists as Lists
 use Rattle.theory.specs.Lists.{Pairs}
 use Rattle.theory.specs.Refusals.{refusal, if-taken}
-use Rattle.theory.specs.Words.{word-pair, pairs-in, counts-of, laid-pairs, laid-list}
-use Rattle.theory.proofs.Lists.{listed}
+use Rattle.theory.specs.Words.{laid-pairs, laid-list}
 use Rattle.theory.proofs.Tests.{by-test}
 use Rattle.pairs.specs.Held.{is-held, raise-pair, remove-pair, smaller-first-pair, stops-of}
 use Rattle.pairs.specs.Causes.{add-causes, remove-causes}
@@ -25,8 +24,8 @@ use Rattle.pairs.specs.Located.{located}
 use Rattle.pairs.specs.Counts.{pairs-raised}
 use Rattle.records.specs.declared.Pair.{Pair}
 use Rattle.records.specs.declared.Head.{Head}
-use Rattle.records.specs.Records.{as-pair, held-list, agrees, blank, copied-out, word-record, records-in, put-back, Room-out, Room-back}
-use Rattle.records.proofs.Copies.{length-copied-out, copied-out-pairs, word-laid}
+use Rattle.records.specs.Records.{held-list, agrees, blank, copied-out, records-in, put-back, Room-out, Room-back}
+use Rattle.records.proofs.Copies.{length-copied-out, pairs-read, agrees-room, copied-out-list}
 use Rattle.kandurzo.specs.declared.Edit.{Edit}
 use Rattle.kandurzo.specs.Listing.{head-of, as-record, as-records, is-full, add-number, pairs-then, added, Add-says}
 use Rattle.kandurzo.specs.Listing.{remove-number, removed, Remove-says}
@@ -35,34 +34,24 @@ use Rattle.kandurzo.specs.Edits.{remove-on-number, remove-edit, remove-w
 use Rattle.kandurzo.proofs.Orders.{add-13, remove-13}
 use Rattle.kandurzo.proofs.Outcomes.{Call, answer}
 use Rattle.kandurzo.proofs.Changes.{Edited, freed-pair, add-edited, remove-edited}
-use Rattle.kandurzo.proofs.Taken.{held-few, held-is-list, length-held}
+use Rattle.kandurzo.proofs.Taken.{as-records-back, held-few, held-is-list}
 
 -- the words zs after the records went out to them
 abbrev pub out : List ℕ → Head → List Pair → List ℕ
 out zs h ps = copied-out ps zs (records-out h (agrees h ps))
 
 -- the records that lie in words are those of the pairs
-table-map : (m : ℕ) (f : ℕ → Lists.Pair) (g : ℕ → Pair) → ((j : ℕ) → as-record (f j) ≡ g j) → table m g ≡ map as-record (table m f)
-unfolding table
-table-map zero f g e = refl
-table-map (suc m) f g e = cc (e 0, table-map m (λ j. f (suc j)) (λ j. g (suc j)) (λ j. e (suc j)))
-
 pub records-laid : (m : ℕ) (ws : List ℕ) → records-in m ws ≡ as-records (laid-pairs m ws)
-unfolding records-in as-records laid-pairs pairs-in
-records-laid m ws = table-map m (word-pair ws (counts-of ws)) (word-record ws) (λ j. unfold as-record as-pair in (ap as-record (word-laid ws j)))
+records-laid m ws = sym (ap as-records (pairs-read m ws) ∙ as-records-back (records-in m ws))
 
 module _ (zs : List ℕ) (long : length zs ≡ 12288) (h : Head) (ps : List Pair) where
   agreed-room : agrees h ps ≡ true → Room-out ps zs (h .m)
-  agreed-room e = record {
-    enough = held-few h ps e;
-    few = omega (arith, listed (held-list h ps) (held-is-list h ps e) .short, length-held h ps e);
-    long = λ _. omega (arith, long);
-  }
+  agreed-room e = agrees-room h ps zs e (omega (arith, long))
 
   -- where head and list agree, the words hold the list
   out-list : agrees h ps ≡ true → laid-list (h .n) (h .m) (out zs h ps) ≡ held-list h ps
-  unfolding laid-list held-list records-out
-  out-list e = rw e (ap (λ (qs : List Lists.Pair). record { n = h .n; pairs = qs }) (copied-out-pairs ps zs (h .m) (agreed-room e)))
+  unfolding records-out
+  out-list e = rw e (copied-out-list h ps zs (agreed-room e))
 
   -- there is room for the records that go out
   pub out-room : Room-out ps zs (records-out h (agrees h ps))

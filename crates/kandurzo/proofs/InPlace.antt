@@ -144,8 +144,8 @@ module _ (called : Name) {M : Type 1} (𝓤 : URA M) (H : Heap 𝓤) (A : Atoms 
   pub adds-in-place : Triple 𝓤 (𝓣 .C called) (tripleOf 𝓤 H A add.signature (closing 𝓤 H A add.ended added-call)) →
       Meets 𝓤 H A add-to.signature (WpFn 𝓤 H (𝓣 .C) (𝓣 .Λ) (made 3 called)) (closing 𝓤 H A add-to.ended added-clauses)
   adds-in-place known = meets-by add-to.ended added-kinds 𝓤 H A W added-clauses 𝓣 (made 3 called)
-      (λ κs qs bounds a g are. via 𝓤 _ (fst∗ 𝓤 _ (emp 𝓤)) (added-walk known (κs .0) (κs .1 .0) (qs .0) (qs .1 .0) (a .0 .ptr .0) (a .0 .ptr .1) (a .0 .name) (a .0 .now) (a .1 .0 .ptr .0)
-      (a .1 .0 .ptr .1) (a .1 .0 .name) (a .1 .0 .now) (a .1 .1 .0) (a .1 .1 .1 .0) (a .1 .1 .1 .1 .0)
+      (λ κs qs bounds a g are. via 𝓤 _ (fst∗ 𝓤 _ (emp 𝓤)) (added-walk known (κs .0) (κs .1 .0) (qs .0) (qs .1 .0)
+      (a .0 .ptr .0) (a .0 .ptr .1) (a .0 .name) (a .0 .now) (a .1 .0 .ptr .0) (a .1 .0 .ptr .1) (a .1 .0 .name) (a .1 .0 .now) (a .1 .1 .0) (a .1 .1 .1 .0) (a .1 .1 .1 .1 .0)
       (are .1 .0 .0 .1) (are .1 .1 .0 .1) (are .1 .1 .1 .0 .1) (are .1 .1 .1 .1 .0 .1)))
 
 -- ---- remove, with two
@@ -211,6 +211,6 @@ module _ (called : Name) {M : Type 1} (𝓤 : URA M) (H : Heap 𝓤) (A : Atoms 
   pub removes-in-place : Triple 𝓤 (𝓣 .C called) (tripleOf 𝓤 H A remove.signature (closing 𝓤 H A remove.ended removed-call)) →
       Meets 𝓤 H A remove-from.signature (WpFn 𝓤 H (𝓣 .C) (𝓣 .Λ) (made 2 called)) (closing 𝓤 H A remove-from.ended removed-clauses)
   removes-in-place known = meets-by remove-from.ended removed-kinds 𝓤 H A W removed-clauses 𝓣 (made 2 called)
-      (λ κs qs bounds a g are. via 𝓤 _ (fst∗ 𝓤 _ (emp 𝓤)) (removed-walk known (κs .0) (κs .1 .0) (qs .0) (qs .1 .0) (a .0 .ptr .0) (a .0 .ptr .1) (a .0 .name) (a .0 .now) (a .1 .0 .ptr .0)
-      (a .1 .0 .ptr .1) (a .1 .0 .name) (a .1 .0 .now) (a .1 .1 .0) (a .1 .1 .1 .0)
+      (λ κs qs bounds a g are. via 𝓤 _ (fst∗ 𝓤 _ (emp 𝓤)) (removed-walk known (κs .0) (κs .1 .0) (qs .0) (qs .1 .0)
+      (a .0 .ptr .0) (a .0 .ptr .1) (a .0 .name) (a .0 .now) (a .1 .0 .ptr .0) (a .1 .0 .ptr .1) (a .1 .0 .name) (a .1 .0 .now) (a .1 .1 .0) (a .1 .1 .1 .0)
       (are .1 .0 .0 .1) (are .1 .1 .0 .1) (are .1 .1 .1 .0 .1)))

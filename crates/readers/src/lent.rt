@@ -47,6 +47,16 @@ pub(crate) fn read_100(words: &mut [u32], bytes: &[u8], work: &mut [u32]) -> Cha
     answer
 }
 
+// read into 4,096 records.
+pub(crate) fn read_4096(words: &mut [u32], bytes: &[u8], work: &mut [u32]) -> Changed {
+    let mut list = [Pair { a: 0, b: 0, w: 0 }; 4096];
+    let k = held(words, 4096);
+    copy_in(&mut list, words, k);
+    let answer = read(bytes, &mut list, work);
+    copy_out(&list, words, k);
+    answer
+}
+
 // read_dimacs into 100 records.
 pub(crate) fn read_dimacs_100(words: &mut [u32], bytes: &[u8], work: &mut [u32]) -> Changed {
     let mut list = [Pair { a: 0, b: 0, w: 0 }; 100];
