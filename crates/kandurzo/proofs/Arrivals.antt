@@ -5,7 +5,7 @@
 --   any-order-taken, arrival-traceless, one-at-a-time    so order and steps make no difference
 --   every-list-added               different pairs added in a row are taken
 -- Assumes nothing.
-use mathlib.Core.Path.{_≡_, refl, sym, ap, _∙_}
+use mathlib.Core.Path.{_≡_, refl, sym, _∙_}
 use mathlib.Core.Bool.{true, false}
 use mathlib.Core.List.{List, [], _∷_, _++_}
 use Prim.Native.Nat.{ℕ, _+_, _≤_, _<_}
@@ -22,9 +22,9 @@ use Rattle.theory.proofs.Lists.{listed}
 use Rattle.pairs.specs.Held.{is-held, weight-of, raise-pair, smaller-first-pair, stops-of}
 use Rattle.pairs.proofs.Order.{same-refl}
 use Rattle.pairs.proofs.General.{all-weaker, drop-more}
-use Rattle.pairs.proofs.Ends.{same-stops, stops-held}
-use Rattle.pairs.proofs.Counts.{raise-weight, raise-rising, raise-counted}
-use Rattle.pairs.proofs.Raised.{raise-more, weight-held}
+use Rattle.pairs.proofs.Ends.{stops-held}
+use Rattle.pairs.proofs.Counts.{raise-rising, raise-counted}
+use Rattle.pairs.proofs.Raised.{raise-more, stops-counted, weight-held}
 use Rattle.pairfile.specs.Promise.{stops-named, Names-stops, names-stops}
 use Rattle.pairfile.proofs.Names.{kept-list, weight-range}
 use Rattle.pairfile.proofs.Judged.{modules-fit}
@@ -197,7 +197,7 @@ module _ (h : Head) (ps : List Pair) (c : Lists.Pair) (cs : List Lists.Pair) (i 
       let l = listed (held-list h ps) (held-is-list h ps agreed) in
       let more = raise-more q gs (stops-held (c .a) (c .b) (c .w) gs ∙ new) in
       let most = pairs-at-most (raise-pair q gs) i qs (goal .agreed) (raise-rising q gs (l .rises)) (raise-counted q gs some (weights-some gs (l .weights)))
-      (λ r. omega (arith, rw (same-stops (c .a) (c .b) (c .w) r) at (raise-weight r q gs (l .rises)), goal .stops r)) in
+      (λ r. omega (arith, stops-counted r (c .a) (c .b) (c .w) gs (l .rises), goal .stops r)) in
       omega (arith, more, most, length-held h ps agreed)
 
   -- whichever comes first is taken

@@ -34,9 +34,8 @@ use Rattle.pairs.proofs.General.{all-at}
 use Rattle.pairs.proofs.Rising.{rising-at}
 use Rattle.pairs.proofs.Changes.{remove-held, insert-remove}
 use Rattle.pairs.proofs.Ends.{stops-ends, stops-held}
-use Rattle.pairs.proofs.Counts.{raise-held, raise-weight}
 use Rattle.pairs.proofs.Places.{raise-new}
-use Rattle.pairs.proofs.Raised.{remove-weight, weights-alone}
+use Rattle.pairs.proofs.Raised.{stops-raised, stops-counted, remove-weight, weights-alone}
 use Rattle.pairfile.specs.File.{modules-causes}
 use Rattle.pairfile.proofs.Taken.{modules-unmet}
 use Rattle.records.specs.declared.Pair.{Pair}
@@ -214,7 +213,7 @@ then-room h ps a b w e =
 -- the list of a taken add
 pub pair-added : (h : Head) (ps : List Pair) (a b w : ℕ) → add-number h ps a b w ≡ 0 →
     Pair-added h ps a b w (head-of (h .n) (pairs-then h ps a b)) (added h ps a b w)
-unfolding head-of added stops-of smaller-first-pair pair same-ends
+unfolding head-of added
 pair-added h ps a b w e =
     let before : List Lists.Pair = held-list h ps .pairs in
     let new : List Lists.Pair = raise-pair (stops-of a b w) before in
@@ -224,8 +223,8 @@ pair-added h ps a b w e =
     record {
       modules = refl;
       pairs = refl;
-      stops = λ p. ap (λ (g : Pairs). weight-of p (g .pairs)) (held-added h ps a b w e) ∙ raise-weight p (stops-of a b w) before rises;
-      held = λ p. ap (λ (g : Pairs). is-held p (g .pairs)) (held-added h ps a b w e) ∙ raise-held p (stops-of a b w) before;
+      stops = λ p. ap (λ (g : Pairs). weight-of p (g .pairs)) (held-added h ps a b w e) ∙ stops-counted p a b w before rises;
+      held = λ p. ap (λ (g : Pairs). is-held p (g .pairs)) (held-added h ps a b w e) ∙ stops-raised p a b w before;
       same-length = omega (arith, length-append (as-records new) (drop m ps), long, length-drop m ps, then-room h ps a b w e);
       past = drop-at (as-records new) (drop m ps) m long;
     }
