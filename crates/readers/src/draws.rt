@@ -25,6 +25,13 @@ struct Two {
     state: u32,
 }
 
+// Two modules and a count.
+struct Stops {
+    a: u32,
+    b: u32,
+    w: u32,
+}
+
 // A file's length so far, how many comments it has, and the pair of its last line.
 pub(crate) struct Text {
     pub(crate) end: usize,
@@ -185,38 +192,52 @@ fn put_edge_end(file: &mut [u8], text: Text, way: u32) -> usize {
     }
 }
 
-// What stands behind the lines of a pair file: a line too many in way 2, no pair line in way 3, the last LF missing in way 4, a line with a module unknown in
-// way 7, with a module twice in way 8, the last pair again, turned, in way 9, a module unknown twice in way 12.
-fn put_pair_end(file: &mut [u8], text: Text, way: u32) -> usize {
-    let end = text.end;
+// A line that is damaged or too many: a module unknown in way 7, a module twice in way 8, the last pair again, turned, in way 9, a module unknown twice in
+// way 12; a count outside 1 to 1,000 in ways 13 to 15, of five digits in way 16, and outside beside a module unknown, a module twice, and the last pair again,
+// turned, in ways 20 to 22.
+fn last_line(text: Text, way: u32) -> Stops {
+    let s = Stops { a: 0, b: 1, w: 1 };
     match way {
-        2 => reads::put_text(file, end, b"0,1,1\n"),
-        3 => reads::put_text(file, end, b"cx\n"),
-        4 => std::num::wrapping_sub_usize(end, 1),
-        7 => reads::put_text(file, end, b"512,0,1\n"),
-        8 => reads::put_text(file, end, b"1,1,1\n"),
-        9 => reads::put_counted(file, end, text.b, text.a, 1000),
-        12 => reads::put_text(file, end, b"512,512,1\n"),
-        _ => put_count_end(file, text, way),
+        7 => Stops { a: 512, ..s },
+        8 => Stops { a: 1, ..s },
+        9 => Stops {
+            a: text.b,
+            b: text.a,
+            w: 1000,
+        },
+        12 => Stops {
+            a: 512,
+            b: 512,
+            ..s
+        },
+        13 => Stops { w: 0, ..s },
+        14 => Stops { w: 1001, ..s },
+        15 => Stops { w: 9999, ..s },
+        16 => Stops { w: 10000, ..s },
+        20 => Stops { b: 512, w: 0, ..s },
+        21 => Stops { a: 1, w: 1001, ..s },
+        22 => Stops {
+            a: text.b,
+            b: text.a,
+            w: 1001,
+        },
+        _ => s,
     }
 }
 
-// A line whose count is outside 1 to 1,000 in ways 13 to 15, not spelled as a number is in ways 16 and 17, missing in ways 18 and 19; and such a count beside
-// a module unknown, a module twice, and the last pair again, turned, in ways 20 to 22.
-fn put_count_end(file: &mut [u8], text: Text, way: u32) -> usize {
+// What stands behind the lines of a pair file: no pair line in way 3, the last LF missing in way 4, a count with a leading zero in way 17, none in ways 18 and
+// 19, another line in ways 2, 7 to 9, 12 to 16 and from 20 on.
+fn put_pair_end(file: &mut [u8], text: Text, way: u32) -> usize {
     let end = text.end;
+    let line = last_line(text, way);
     match way {
-        13 => reads::put_text(file, end, b"0,1,0\n"),
-        14 => reads::put_text(file, end, b"1,0,1001\n"),
-        15 => reads::put_text(file, end, b"0,1,9999\n"),
-        16 => reads::put_text(file, end, b"0,1,10000\n"),
+        0 | 1 | 5 | 6 | 10 | 11 => end,
+        3 => reads::put_text(file, end, b"cx\n"),
+        4 => std::num::wrapping_sub_usize(end, 1),
         17 => reads::put_text(file, end, b"0,1,01\n"),
         18 => reads::put_text(file, end, b"pair=0,1\n"),
         19 => reads::put_text(file, end, b"0,1\n"),
-        20 => reads::put_text(file, end, b"0,512,0\n"),
-        21 => reads::put_text(file, end, b"1,1,1001\n"),
-        22 => reads::put_counted(file, end, text.b, text.a, 1001),
-        _ => end,
+        _ => reads::put_counted(file, end, line.a, line.b, line.w),
     }
 }
 

@@ -223,32 +223,37 @@ fn every_way(plan: Plan, state: u32, desk: &mut [u32]) {
 
 // ---- the lines
 
-fn answers(label: &[u8], number: u32, desk: &[u32]) {
-    print::field(
-        label,
-        desk::word_at(desk, desk::plus(COUNTS, desk::wide(number))),
-    );
+// What is counted under an entry.
+fn counted_in(desk: &[u32], entry: u32) -> u32 {
+    desk::word_at(desk, desk::plus(COUNTS, desk::wide(entry)))
+}
+
+// How often a number was the answer due, where it was.
+fn print_number(number: u32, desk: &[u32]) {
+    let found = counted_in(desk, number);
+    if found != 0 {
+        print::field(b" ", number);
+        print::field(b"=", found);
+    }
+}
+
+// The refusal numbers.
+fn print_numbers(desk: &[u32]) {
+    let mut number = 1;
+    while number < 20 {
+        print_number(number, desk);
+        number += 1;
+    }
 }
 
 fn line(name: &[u8], desk: &[u32]) {
     io::write_all(1, name);
-    answers(b": files=", 20, desk);
-    answers(b" comments=", 21, desk);
-    answers(b" taken=", 0, desk);
-    answers(b" pairs=", 23, desk);
-    answers(b" 1=", 1, desk);
-    answers(b" 2=", 2, desk);
-    answers(b" 3=", 3, desk);
-    answers(b" 4=", 4, desk);
-    answers(b" 5=", 5, desk);
-    answers(b" 6=", 6, desk);
-    answers(b" 10=", 10, desk);
-    answers(b" 11=", 11, desk);
-    answers(b" 12=", 12, desk);
-    answers(b" 16=", 16, desk);
-    answers(b" 17=", 17, desk);
-    answers(b" 18=", 18, desk);
-    answers(b" differ=", 22, desk);
+    print::field(b": files=", counted_in(desk, 20));
+    print::field(b" comments=", counted_in(desk, 21));
+    print::field(b" taken=", counted_in(desk, 0));
+    print::field(b" pairs=", counted_in(desk, 23));
+    print_numbers(desk);
+    print::field(b" differ=", counted_in(desk, 22));
     print::line_end();
 }
 
