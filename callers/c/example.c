@@ -8,8 +8,7 @@ int main(void) {
     static uint8_t bytes[65536]; /* an accepted file is at most 53,271 bytes */
     static kandurzo_pair_t list[KANDURZO_PAIRS];
     static uint8_t members[KANDURZO_MODULES];
-    static uint16_t cores[KANDURZO_MODULES], shares[KANDURZO_PAIRS];
-    static uint32_t work[KANDURZO_WORK];
+    static uint32_t cores[KANDURZO_MODULES], shares[KANDURZO_PAIRS], work[KANDURZO_WORK];
 
     size_t count = fread(bytes, 1, sizeof bytes, stdin);
     kandurzo_changed_t file = kandurzo_read(bytes, count, list, KANDURZO_PAIRS, work, KANDURZO_WORK);

@@ -2,7 +2,8 @@
  *
  * A thread's stack is lent and painted beforehand, and the pages below it cannot be touched: the lowest byte that lost its paint shows how deep the call
  * went, counted from the thread's own function, thus some bytes too many. What a thread needs to start comes on top, as the system states it. The lists
- * are one pair of two modules, and two of 512 modules and 4,096 pairs. Every number that a call can answer is met, 15 aside. */
+ * are one pair of two modules, and two of 512 modules and 4,096 pairs, with stop counts and with counts of 1. Every number that a call can answer is met, 15
+ * aside. */
 #define _DEFAULT_SOURCE
 #include <pthread.h>
 #include <signal.h>
@@ -20,20 +21,20 @@ enum { PAINT = 0xA5, ROOM = 8192, GUARD = 65536, FILE_BYTES = 65536 };
 static kandurzo_head_t head;
 static kandurzo_pair_t list[KANDURZO_PAIRS];
 static size_t room = KANDURZO_PAIRS, entries = KANDURZO_MODULES, words = KANDURZO_WORK, text_room = KANDURZO_TEXT, count;
-static uint32_t a, b, q;
+static uint32_t a, b, w, q;
 static uint8_t file[FILE_BYTES], text[KANDURZO_TEXT], members[KANDURZO_MODULES], others[KANDURZO_MODULES];
-static uint16_t order[KANDURZO_MODULES], cores[KANDURZO_MODULES], shares[KANDURZO_PAIRS];
-static uint32_t work[KANDURZO_WORK];
+static uint16_t order[KANDURZO_MODULES];
+static uint32_t cores[KANDURZO_MODULES], shares[KANDURZO_PAIRS], work[KANDURZO_WORK];
 
 static uint32_t start(void) { return kandurzo_start(head.n).number; }
 
 static uint32_t add(void) {
-    kandurzo_changed_t answer = kandurzo_add(head, list, room, a, b);
+    kandurzo_changed_t answer = kandurzo_add(head, list, room, a, b, w);
     head = answer.head;
     return answer.number;
 }
 
-static uint32_t add_to(void) { return kandurzo_add_to(&head, list, room, a, b); }
+static uint32_t add_to(void) { return kandurzo_add_to(&head, list, room, a, b, w); }
 
 static uint32_t remove_pair(void) {
     kandurzo_changed_t answer = kandurzo_remove(head, list, room, a, b);
@@ -165,32 +166,32 @@ static uint32_t below(uint32_t bound) {
     return state % bound;
 }
 
-/* One pair more, unless it is held. */
-static void put(uint32_t x, uint32_t y) {
-    uint32_t answer = kandurzo_add_to(&head, list, KANDURZO_PAIRS, x, y);
-    if (answer != 0 && answer != 10) fail("a list could not be made");
+/* Stops of a pair more, unless there would be too many. */
+static void put(uint32_t x, uint32_t y, uint32_t stops) {
+    uint32_t answer = kandurzo_add_to(&head, list, KANDURZO_PAIRS, x, y, stops);
+    if (answer != 0 && answer != 19) fail("a list could not be made");
 }
 
 static void one_pair(void) {
     head = kandurzo_start(2).head;
-    put(0, 1);
+    put(0, 1, 7);
 }
 
-/* Half of the pairs among the first 80 modules, the others anywhere. */
+/* Half of the pairs among the first 80 modules, the others anywhere; any counts. */
 static void dense(void) {
     head = kandurzo_start(KANDURZO_MODULES).head;
     while (head.m < KANDURZO_PAIRS) {
         uint32_t among = head.m < KANDURZO_PAIRS / 2 ? 80 : KANDURZO_MODULES, x = below(among), y = below(among);
-        if (x != y) put(x, y);
+        if (x != y) put(x, y, 1 + below(KANDURZO_STOPS));
     }
 }
 
-/* A ring with chords of seven lengths. */
+/* A ring with chords of seven lengths, each pair with as many stops as there can be. */
 static void ring(void) {
     static const uint32_t lengths[] = {1, 2, 3, 5, 8, 13, 21, 34};
     head = kandurzo_start(KANDURZO_MODULES).head;
     for (size_t i = 0; i < sizeof lengths / sizeof *lengths; i++)
-        for (uint32_t v = 0; v < KANDURZO_MODULES; v++) put(v, (v + lengths[i]) % KANDURZO_MODULES);
+        for (uint32_t v = 0; v < KANDURZO_MODULES; v++) put(v, (v + lengths[i]) % KANDURZO_MODULES, KANDURZO_STOPS);
 }
 
 /* Place of the pair a,b: 1 if it is held, else 0, and at which record. */
@@ -198,8 +199,7 @@ static void stands(uint32_t held, uint32_t at) {
     static kandurzo_pair_t before[KANDURZO_PAIRS];
     memcpy(before, list, sizeof before);
     run(PLACE, 0);
-    if (placed.held != held || placed.at != at) fail("another place");
-    if (memcmp(before, list, sizeof before) != 0) fail("the list changed");
+    if (placed.held != held || placed.at != at || memcmp(before, list, sizeof before) != 0) fail("another place, or the list changed");
 }
 
 /* Place, and the calls that change a list, all refuse by the number wanted. */
@@ -210,24 +210,46 @@ static void refused(enum call adds, enum call removes, uint32_t wanted) {
     if (placed.held != 0 || placed.at != 0) fail("a place beside a refusal");
 }
 
-/* Place, and the calls that change a list: a held pair out and in again, and their refusals. The list is then as before. */
+/* Counts that add refuses in a full list for the pair a,b: 18 and, where it is held, with this count, 19. */
+static void counts_refused(enum call adds, uint32_t count) {
+    static const uint32_t outside[] = {0, KANDURZO_STOPS + 1, UINT32_MAX};
+    for (size_t i = 0; i < sizeof outside / sizeof *outside; i++) w = outside[i], run(adds, 18);
+    w = KANDURZO_STOPS + 1 - count;
+    if (count != 0) run(adds, 19);
+}
+
+/* Place, and the calls that change a list: a held pair gets all the stops that it can have, also in a full list, and is taken out and put in again. The list
+ * is then as before. */
 static void edits(enum call adds, enum call removes) {
+    static kandurzo_pair_t records[KANDURZO_PAIRS];
+    memcpy(records, list, sizeof records);
     kandurzo_head_t before = head;
-    uint32_t at = head.m / 2;
-    a = list[at].b;
-    b = list[at].a;
+    uint32_t at = head.m / 2, count = list[at].w;
+    a = list[at].b, b = list[at].a;
     stands(1, at);
-    run(adds, 10);
+    room = head.m;
+    counts_refused(adds, count);
+    w = KANDURZO_STOPS - count;
+    run(adds, w > 0 ? 0 : 18);
+    if (list[at].w != KANDURZO_STOPS) fail("another count");
     run(removes, 0);
     stands(0, at);
     run(removes, 14);
     room = head.m;
+    counts_refused(adds, 0);
+    w = count;
     run(adds, 11);
     stands(0, at);
     room = KANDURZO_PAIRS;
     run(adds, 0);
-    if (head.n != before.n || head.m != before.m) fail("another head than before");
-    a = b;
+    if (head.n != before.n || head.m != before.m || memcmp(records, list, sizeof records) != 0) fail("another list than before");
+}
+
+/* What place, and the calls that change a list, all refuse; a count of 0 comes after it. */
+static void pairs_refused(enum call adds, enum call removes) {
+    kandurzo_head_t before = head;
+    kandurzo_pair_t first = list[0];
+    w = 0, a = b = first.a;
     refused(adds, removes, 5);
     a = head.n;
     refused(adds, removes, 4);
@@ -236,6 +258,9 @@ static void edits(enum call adds, enum call removes) {
     head.n = 0;
     refused(adds, removes, 13);
     head = before;
+    list[0].w = 0;
+    refused(adds, removes, 13);
+    list[0] = first;
 }
 
 /* The list's pair file, or its DIMACS file with a comment before each `e` line: its lines in any order, and each pair's modules too. */
@@ -246,8 +271,8 @@ static void write_file(int dimacs) {
     for (uint32_t m = head.m; m > 0; m--) {
         uint32_t i = below(m), turned = below(2);
         unsigned x = turned ? left[i].b : left[i].a, y = turned ? left[i].a : left[i].b;
-        if (dimacs) x++, y++;
-        count += (size_t)sprintf((char *)file + count, dimacs ? "c\ne %u %u\n" : "pair=%u,%u\n", x, y);
+        char *end = (char *)file + count;
+        count += (size_t)(dimacs ? sprintf(end, "c\ne %u %u\n", x + 1, y + 1) : sprintf(end, "%u,%u,%u\n", x, y, (unsigned)left[i].w));
         left[i] = left[m - 1];
     }
 }
@@ -282,32 +307,30 @@ static void reads(enum call call, uint32_t cut, uint32_t longer, const struct wr
     }
 }
 
+#define ONE "modules=2\npairs=1\n"
+#define TWO "modules=2\npairs=2\n0,1,1\n"
+
 static void pair_files(void) {
-    static const struct wrong wrong[] = {{"modules=0\npairs=0\n", 2},
-                                         {"modules=2\npairs=4097\n", 3},
-                                         {"modules=2\npairs=1\npair=0,2\n", 4},
-                                         {"modules=2\npairs=1\npair=1,1\n", 5},
-                                         {"modules=2\npairs=1\npair=2,2\n", 5},
-                                         {"modules=2\npairs=2\npair=0,1\npair=1,0\n", 10}};
+    static const struct wrong wrong[] = {
+        {"modules=0\npairs=0\n", 2}, {"modules=2\npairs=4097\n", 3}, {ONE "pair=0,1\n", 1}, {ONE "0,1\n", 1}, {ONE "0,2,0\n", 4}, {ONE "1,1,0\n", 5},
+        {ONE "2,2,1\n", 5}, {ONE "0,1,0\n", 18}, {TWO "1,0,1001\n", 18}, {TWO "1,0,2\n", 10},
+    };
     write_file(0);
     reads(READ, 1, 6, wrong, sizeof wrong / sizeof *wrong);
 }
 
-/* The list written, also where that is refused; what was written is read, and then the list's lines in any order. */
+/* The list written, also where that is refused; what was written is read, and then the list's lines in any order. Its counts are then 1. */
 static void dimacs_files(void) {
-    static const struct wrong wrong[] = {{"", 16},
-                                         {"c\n", 16},
-                                         {"p col 2 0\n", 16},
-                                         {"p edge 0 0\n", 2},
-                                         {"p edge 2 4097\n", 3},
-                                         {"p edge 2 1\n", 17},
-                                         {"p edge 2 0\ne 1 2\n", 17},
-                                         {"p edge 2 1\ne 1 3\n", 4},
-                                         {"p edge 2 1\ne 1 1\n", 5},
-                                         {"p edge 2 1\ne 0 0\n", 5},
-                                         {"p edge 2 2\ne 1 2\ne 2 1\n", 10}};
+    static const struct wrong wrong[] = {
+        {"", 16}, {"c\n", 16}, {"p col 2 0\n", 16}, {"p edge 0 0\n", 2}, {"p edge 2 4097\n", 3}, {"p edge 2 1\n", 17},
+        {"p edge 2 0\ne 1 2\n", 17}, {"p edge 2 1\ne 1 3\n", 4}, {"p edge 2 1\ne 1 1\n", 5}, {"p edge 2 1\ne 0 0\n", 5},
+        {"p edge 2 2\ne 1 2\ne 2 1\n", 10},
+    };
     run(WRITE_DIMACS, 0);
     memcpy(file, text, count);
+    for (uint32_t j = 0; j < head.m; j++) list[j].w = 1;
+    run(WRITE_DIMACS, 0);
+    if (memcmp(file, text, count) != 0) fail("counts in the file");
     reads(READ_DIMACS, 16, 16, NULL, 0);
     text_room--;
     run(WRITE_DIMACS, 12);
@@ -334,7 +357,7 @@ static void searches(void) {
     head.n = 0;
     for (enum call call = PEEL; call <= SURPLUS; call++) run(call, 13);
     head.n = n;
-    shares[0] = (uint16_t)(q + 1);
+    shares[0] = list[0].w * q + 1;
     run(CHECK, 8);
     memset(members, 0, sizeof members);
     run(CHECK, 7);
@@ -357,7 +380,10 @@ int main(void) {
         run(START, 0);
         edits(ADD, REMOVE);
         edits(ADD_TO, REMOVE_FROM);
+        pairs_refused(ADD, REMOVE);
+        pairs_refused(ADD_TO, REMOVE_FROM);
         pair_files();
+        searches();
         dimacs_files();
         searches();
     }

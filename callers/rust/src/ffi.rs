@@ -30,7 +30,7 @@ pub mod stack {
     pub const SURPLUS: usize = 65536;
 }
 
-/// A record: the pair's smaller module and its larger.
+/// A record: the pair's smaller module, its larger, and its stop count. A list is in rising order by its modules, whatever the counts.
 #[repr(C)]
 #[derive(Clone, Copy, Debug, Default, PartialEq, Eq, PartialOrd, Ord)]
 pub struct Pair {
@@ -38,6 +38,15 @@ pub struct Pair {
     pub a: u16,
     /// The larger module.
     pub b: u16,
+    /// The stop count, 1 to 1,000.
+    pub w: u16,
+}
+
+impl Pair {
+    /// The two modules, without the count.
+    pub fn ends(self) -> (u16, u16) {
+        (self.a, self.b)
+    }
 }
 
 /// A head: the number of modules, and of pairs held.
@@ -88,7 +97,7 @@ pub struct Written {
 pub struct Solved {
     /// The refusal number or 0.
     pub number: u32,
-    /// P, the found group's inside count.
+    /// P, the found group's inside count: the sum of the stop counts of its pairs.
     pub p: u32,
     /// Q, its number of modules.
     pub q: u32,
@@ -127,9 +136,9 @@ mod library {
 
     extern "C" {
         pub fn kandurzo_start(n: u32) -> Changed;
-        pub fn kandurzo_add(head: Head, list: *mut Pair, length: usize, a: u32, b: u32) -> Changed;
+        pub fn kandurzo_add(head: Head, list: *mut Pair, length: usize, a: u32, b: u32, w: u32) -> Changed;
         pub fn kandurzo_remove(head: Head, list: *mut Pair, length: usize, a: u32, b: u32) -> Changed;
-        pub fn kandurzo_add_to(head: *mut Head, list: *mut Pair, length: usize, a: u32, b: u32) -> u32;
+        pub fn kandurzo_add_to(head: *mut Head, list: *mut Pair, length: usize, a: u32, b: u32, w: u32) -> u32;
         pub fn kandurzo_remove_from(head: *mut Head, list: *mut Pair, length: usize, a: u32, b: u32) -> u32;
         pub fn kandurzo_place(head: Head, list: *const Pair, length: usize, a: u32, b: u32) -> Placed;
         pub fn kandurzo_read(
@@ -161,7 +170,7 @@ mod library {
             length: usize,
             order: *mut u16,
             order_length: usize,
-            cores: *mut u16,
+            cores: *mut u32,
             cores_length: usize,
             work: *mut u32,
             work_length: usize,
@@ -172,9 +181,9 @@ mod library {
             length: usize,
             members: *mut u8,
             members_length: usize,
-            cores: *mut u16,
+            cores: *mut u32,
             cores_length: usize,
-            shares: *mut u16,
+            shares: *mut u32,
             shares_length: usize,
             work: *mut u32,
             work_length: usize,
@@ -185,7 +194,7 @@ mod library {
             length: usize,
             members: *const u8,
             members_length: usize,
-            shares: *const u16,
+            shares: *const u32,
             shares_length: usize,
             work: *mut u32,
             work_length: usize,
@@ -207,19 +216,19 @@ pub fn start(n: u32) -> Changed {
     unsafe { library::kandurzo_start(n) }
 }
 
-/// Adds the pair of a and b, in either order. Refuses by 13, 5, 4, 10, 11.
-pub fn add(head: Head, list: &mut [Pair], a: u32, b: u32) -> Changed {
-    unsafe { library::kandurzo_add(head, list.as_mut_ptr(), list.len(), a, b) }
+/// Adds w stops of the pair of a and b, in either order: a held pair's count is raised, a new pair goes to its place. Refuses by 13, 5, 4, 18, 19, 11.
+pub fn add(head: Head, list: &mut [Pair], a: u32, b: u32, w: u32) -> Changed {
+    unsafe { library::kandurzo_add(head, list.as_mut_ptr(), list.len(), a, b, w) }
 }
 
-/// Removes the pair of a and b, in either order. Refuses by 13, 5, 4, 14.
+/// Removes the pair of a and b, in either order, with its whole count; the record freed becomes 0,0,0. Refuses by 13, 5, 4, 14.
 pub fn remove(head: Head, list: &mut [Pair], a: u32, b: u32) -> Changed {
     unsafe { library::kandurzo_remove(head, list.as_mut_ptr(), list.len(), a, b) }
 }
 
 /// `add` on the caller's own head; answers the number.
-pub fn add_to(head: &mut Head, list: &mut [Pair], a: u32, b: u32) -> u32 {
-    unsafe { library::kandurzo_add_to(head, list.as_mut_ptr(), list.len(), a, b) }
+pub fn add_to(head: &mut Head, list: &mut [Pair], a: u32, b: u32, w: u32) -> u32 {
+    unsafe { library::kandurzo_add_to(head, list.as_mut_ptr(), list.len(), a, b, w) }
 }
 
 /// `remove` on the caller's own head; answers the number.
@@ -232,7 +241,7 @@ pub fn place(head: Head, list: &[Pair], a: u32, b: u32) -> Placed {
     unsafe { library::kandurzo_place(head, list.as_ptr(), list.len(), a, b) }
 }
 
-/// Reads a pair file into the list. Refuses by 12, then line by line 1, 2; 1, 3, 11; 1, 5, 4, 10; 6.
+/// Reads a pair file, with lines `A,B,W`, into the list. Refuses by 12, then line by line 1, 2; 1, 3, 11; 1, 5, 4, 18, 10; 6.
 pub fn read(bytes: &[u8], list: &mut [Pair], work: &mut [u32]) -> Changed {
     unsafe {
         library::kandurzo_read(
@@ -246,7 +255,8 @@ pub fn read(bytes: &[u8], list: &mut [Pair], work: &mut [u32]) -> Changed {
     }
 }
 
-/// Reads a DIMACS edge file into the list. Refuses by 12, then line by line 16, 2, 3, 11 (`p`); 16, 17, 5, 4, 10 (`e`); last 16, 17.
+/// Reads a DIMACS edge file into the list, each pair with the count 1. Refuses by 12, then line by line 16, 2, 3, 11 (`p`); 16, 17, 5, 4, 10 (`e`); last
+/// 16, 17.
 pub fn read_dimacs(bytes: &[u8], list: &mut [Pair], work: &mut [u32]) -> Changed {
     unsafe {
         library::kandurzo_read_dimacs(
@@ -260,13 +270,13 @@ pub fn read_dimacs(bytes: &[u8], list: &mut [Pair], work: &mut [u32]) -> Changed
     }
 }
 
-/// Writes the list's DIMACS edge file in front of the text. Refuses by 13, 12.
+/// Writes the list's DIMACS edge file, without the counts, in front of the text. Refuses by 13, 12.
 pub fn write_dimacs(head: Head, list: &[Pair], text: &mut [u8]) -> Written {
     unsafe { library::kandurzo_write_dimacs(head, list.as_ptr(), list.len(), text.as_mut_ptr(), text.len()) }
 }
 
 /// Writes leaving order and core numbers. Refuses by 13, 12.
-pub fn peel(head: Head, list: &[Pair], order: &mut [u16], cores: &mut [u16], work: &mut [u32]) -> u32 {
+pub fn peel(head: Head, list: &[Pair], order: &mut [u16], cores: &mut [u32], work: &mut [u32]) -> u32 {
     unsafe {
         library::kandurzo_peel(
             head,
@@ -287,8 +297,8 @@ pub fn solve(
     head: Head,
     list: &[Pair],
     members: &mut [u8],
-    cores: &mut [u16],
-    shares: &mut [u16],
+    cores: &mut [u32],
+    shares: &mut [u32],
     work: &mut [u32],
 ) -> Solved {
     unsafe {
@@ -309,7 +319,7 @@ pub fn solve(
 }
 
 /// Whether the shares are a split at the group's size with no load above its inside count. Refuses by 13, 12, 7, 8, 9.
-pub fn check(head: Head, list: &[Pair], members: &[u8], shares: &[u16], work: &mut [u32]) -> Verdict {
+pub fn check(head: Head, list: &[Pair], members: &[u8], shares: &[u32], work: &mut [u32]) -> Verdict {
     unsafe {
         library::kandurzo_check(
             head,

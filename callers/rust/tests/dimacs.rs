@@ -1,11 +1,11 @@
 //! DIMACS edge files: files whole and damaged, read by the library and by the plain reader, with every entry of every buffer compared; files tried by
-//! hand; lists written, and what is written read again.
+//! hand; lists written, and what is written read again. A file has no stop counts: each pair that is read counts 1.
 mod plain;
 
 use kandurzo::ffi::{self, Changed, Written};
 use kandurzo::{Head, Pair, TEXT};
 use plain::buffers::{bytes, from_4_to_5, in_front, pairs, work, work_after, Met, WORK};
-use plain::{dimacs, Plain, Random};
+use plain::{dimacs, lists, Plain, Random};
 
 /// Reads the file into a list of that length, with that work buffer, both full of anything; answer and buffers must be as the plain reader says.
 fn read(random: &mut Random, file: &[u8], length: usize, mut work: Vec<u32>) -> u32 {
@@ -29,7 +29,7 @@ fn read(random: &mut Random, file: &[u8], length: usize, mut work: Vec<u32>) -> 
 
 /// A generated file, in three of four draws with up to three things altered, and how many pairs it had.
 fn file(random: &mut Random) -> (Vec<u8>, usize) {
-    let list = plain::any(random);
+    let list = lists::any(random);
     let mut lines = dimacs::lines(&list, random);
     (0..random.below(4)).for_each(|_| dimacs::damage(random, &mut lines, &list));
     (lines.concat(), list.pairs.len())
@@ -259,7 +259,7 @@ fn long_files() {
         assert_eq!(read(&mut random, &file[..file.len() - 1], 1, vec![7; WORK]), 16);
     }
     for n in [92, 128, 512] {
-        let list = plain::uniform(&mut random, n, 4096);
+        let list = lists::uniform(&mut random, n, 4096);
         for _ in 0..20 {
             let mut lines = dimacs::lines(&list, &mut random);
             assert_eq!(read(&mut random, &lines.concat(), 4096, vec![7; WORK]), 0);
@@ -275,8 +275,8 @@ fn long_files() {
 fn write() {
     let (mut random, mut met) = (Random(18), Met::default());
     for _ in 0..8_000 {
-        let drawn = plain::any(&mut random);
-        let (head, list) = plain::lent(&mut random, &drawn);
+        let drawn = lists::any(&mut random);
+        let (head, list) = lists::lent(&mut random, &drawn);
         let length = random.length(TEXT);
         let mut text = bytes(&mut random, length);
         let number = if !plain::agree(head, &list) { 13 } else { 12 * (length < TEXT) as u32 };
@@ -294,7 +294,7 @@ fn write() {
 /// 13 comes before 12, an empty text is short and so is one of 65,535 bytes, and the longest file there is has room.
 #[test]
 fn writes_by_hand() {
-    let list = [Pair { a: 0, b: 1 }, Pair { a: 0, b: 511 }, Pair { a: 7, b: 8 }];
+    let list = [Pair { a: 0, b: 1, w: 1 }, Pair { a: 0, b: 511, w: 1000 }, Pair { a: 7, b: 8, w: 12 }];
     let (n, m) = (512, 3);
     assert_eq!(ffi::write_dimacs(Head { n: 511, m }, &list, &mut []), Written { number: 13, length: 0 });
     assert_eq!(ffi::write_dimacs(Head { n, m }, &list, &mut []), Written { number: 12, length: 0 });
@@ -307,7 +307,8 @@ fn writes_by_hand() {
         assert_eq!(answer, Written { number: 0, length: wanted.len() as u32 - 1 });
         assert_eq!(&text[..wanted.len()], wanted);
     }
-    let longest: Vec<Pair> = (99..512).flat_map(|a| (a + 1..512).map(move |b| Pair { a, b })).take(4096).collect();
+    let longest: Vec<Pair> =
+        (99..512).flat_map(|a| (a + 1..512).map(move |b| Pair { a, b, w: 1 })).take(4096).collect();
     let (head, length) = (Head { n, m: 4096 }, 16 + 4096 * 10);
     assert_eq!(ffi::write_dimacs(head, &longest, &mut text), Written { number: 0, length: length as u32 });
     assert!(text[..length] == dimacs::write(&Plain::of(head, &longest)));
@@ -329,17 +330,21 @@ fn written(head: Head, list: &[Pair]) -> Vec<u8> {
     text
 }
 
+/// What is written of a list says nothing of its counts: read again it gives the same pairs with the count 1, which is the same list if its counts are 1.
 #[test]
-fn written_and_read_is_the_same_list() {
-    let mut random = Random(19);
+fn written_and_read_is_the_same_list_of_ones() {
+    let (mut random, mut same) = (Random(19), 0);
     for _ in 0..4_000 {
-        let list = plain::any(&mut random);
-        let text = written(list.head(), &list.records());
+        let list = lists::any(&mut random);
+        let (text, ones) = (written(list.head(), &list.records()), list.ones().records());
+        assert_eq!(written(list.head(), &ones), text);
         let (answer, records) = read_in(&text);
         assert_eq!(answer, Changed { number: 0, head: list.head() });
-        assert_eq!(records, in_front(&list.records(), &[Pair::default(); 4096]));
+        assert_eq!(records, in_front(&ones, &[Pair::default(); 4096]));
         assert_eq!(written(answer.head, &records), text);
+        same += u32::from(list.records() == ones);
     }
+    assert!((1_000..3_500).contains(&same), "{same} lists of ones");
 }
 
 /// An accepted file is rewritten byte for byte exactly if it has no comments and its pairs are in list order, smaller module first.

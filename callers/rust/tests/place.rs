@@ -1,11 +1,11 @@
-//! Place (document 02, item 3): whether a pair is held, and its place or the one where it would go, against a count of the smaller pairs; and add and
-//! remove at that place.
+//! Place (document 02, item 3): whether a pair is held, and its place or the one where it would go, whatever the stop counts, against a count of the smaller
+//! pairs; and add and remove at that place.
 mod plain;
 
-use kandurzo::ffi::{self, Placed};
+use kandurzo::ffi::{self, Changed, Placed};
 use kandurzo::{Head, List, Pair, Place, PAIRS};
 use plain::buffers::{pairs, Met};
-use plain::{ends, Random};
+use plain::{ends, lists, Random};
 
 /// What place answers: whether one of the held records is the pair, and how many of them are smaller.
 fn placed(head: Head, list: &[Pair], a: u32, b: u32) -> Placed {
@@ -13,8 +13,8 @@ fn placed(head: Head, list: &[Pair], a: u32, b: u32) -> Placed {
     if number != 0 {
         return Placed { number, held: 0, at: 0 };
     }
-    let (held, pair) = (&list[..head.m as usize], ends::pair(a, b));
-    Placed { number, held: held.contains(&pair) as u32, at: held.iter().filter(|&&x| x < pair).count() as u32 }
+    let (held, pair) = (list[..head.m as usize].iter().map(|record| record.ends()), ends::ends(a, b));
+    Placed { number, held: held.clone().any(|x| x == pair) as u32, at: held.filter(|&x| x < pair).count() as u32 }
 }
 
 /// The library's answer, the same for the modules in either order; after each call the list is as before.
@@ -29,25 +29,26 @@ fn place(head: Head, list: &[Pair], a: u32, b: u32) -> Placed {
     answer
 }
 
-/// All pairs of n modules, rising.
+/// All pairs of n modules, rising, with counts from 1 to 1,000 that rise and fall.
 fn all(n: u16) -> Vec<Pair> {
-    (0..n).flat_map(|a| (a + 1..n).map(move |b| Pair { a, b })).collect()
+    (0..n).flat_map(|a| (a + 1..n).map(move |b| Pair { a, b, w: 1 + (999 + 371 * a + 113 * b) % 1000 })).collect()
 }
 
+/// Records with the counts 1, 2, and so on.
 fn records<const M: usize>(pairs: [(u16, u16); M]) -> Vec<Pair> {
-    pairs.map(|(a, b)| Pair { a, b }).to_vec()
+    pairs.into_iter().zip(1..).map(|((a, b), w)| Pair { a, b, w }).collect()
 }
 
 #[test]
 fn by_hand() {
-    let mut list = List::read(b"modules=5\npairs=4\npair=0,2\npair=1,2\npair=1,4\npair=2,3\n").unwrap();
+    let mut list = List::read(b"modules=5\npairs=4\n0,2,1\n1,2,1000\n1,4,7\n2,3,1\n").unwrap();
     let held = |at| Ok(Place { held: true, at });
     let free = |at| Ok(Place { held: false, at });
     assert_eq!([(0, 2), (1, 2), (1, 4), (2, 3)].map(|(a, b)| list.place(a, b)), [held(0), held(1), held(2), held(3)]);
     assert_eq!([(2, 0), (2, 1), (4, 1), (3, 2)].map(|(a, b)| list.place(a, b)), [held(0), held(1), held(2), held(3)]);
     assert_eq!([(0, 1), (0, 3), (0, 4)].map(|(a, b)| list.place(a, b)), [free(0), free(1), free(1)]);
     assert_eq!([(3, 1), (4, 2), (4, 3)].map(|(a, b)| list.place(a, b)), [free(2), free(4), free(4)]);
-    list.add(3, 4).unwrap();
+    list.add(3, 4, 5).unwrap();
     assert_eq!([(2, 4), (3, 4)].map(|(a, b)| list.place(a, b)), [free(4), held(4)]);
     list.remove(0, 2).unwrap();
     assert_eq!([(0, 2), (1, 2), (3, 4)].map(|(a, b)| list.place(a, b)), [free(0), held(0), held(3)]);
@@ -61,9 +62,8 @@ fn generated_lists() {
     let (mut random, mut met) = (Random(31), Met::default());
     let (mut held, mut between, mut last, mut unknown_twice) = (0, 0, 0, 0);
     for _ in 0..20_000 {
-        let full = random.once_in(200);
-        let drawn = if full { plain::uniform(&mut random, 200, 4096) } else { plain::any(&mut random) };
-        let (head, list) = plain::lent(&mut random, &drawn);
+        let drawn = lists::any_or_full(&mut random);
+        let (head, list) = lists::lent(&mut random, &drawn);
         let (a, b) = ends::two(&mut random, &drawn);
         let wanted = placed(head, &list, a, b);
         assert_eq!(place(head, &list, a, b), wanted, "{a},{b} of {head:?}");
@@ -95,13 +95,14 @@ fn every_small_list() {
                     assert_eq!(answer, Placed { number: if a == b { 5 } else { 4 }, held: 0, at: 0 });
                     continue;
                 }
-                let pair = ends::pair(a, b);
+                let pair = ends::ends(a, b);
                 let (before, from_there) = list.split_at(answer.at as usize);
                 assert!(
-                    before.iter().all(|x| *x < pair) && !from_there.iter().any(|x| *x < pair),
+                    before.iter().all(|x| x.ends() < pair) && !from_there.iter().any(|x| x.ends() < pair),
                     "{a},{b} of {list:?}"
                 );
-                assert_eq!((answer.number, answer.held), (0, list.contains(&pair) as u32), "{a},{b} of {list:?}");
+                let held = list.iter().any(|x| x.ends() == pair) as u32;
+                assert_eq!((answer.number, answer.held), (0, held), "{a},{b} of {list:?}");
             }
         }
     }
@@ -113,10 +114,17 @@ fn sound_and_others() -> (Vec<Pair>, Vec<(Head, Vec<Pair>)>) {
     let heads = [(0, 0), (3, 5), (513, 5), (u32::MAX, 5), (4, 6), (4, u32::MAX)];
     let mut others: Vec<_> = heads.into_iter().map(|(n, m)| (Head { n, m }, sound.clone())).collect();
     others.push((Head { n: 512, m: 4097 }, all(512)[..4097].to_vec()));
-    // a module twice, at the start and at the end; larger first; a module of number N; a pair twice; not rising, at the start and at the end
+    // a module twice, at the start and at the end; larger first; a module of number N; a pair twice, with a higher count; not rising, at the start and at
+    // the end
     for (j, a, b) in [(0, 0, 0), (4, 3, 3), (4, 3, 2), (4, 2, 4), (2, 0, 2), (0, 0, 3), (4, 0, 3)] {
         let mut list = sound.clone();
-        list[j] = Pair { a, b };
+        (list[j].a, list[j].b) = (a, b);
+        others.push((Head { n: 4, m: 5 }, list));
+    }
+    // a count outside 1 to 1,000
+    for (j, w) in [(0, 0), (2, 0), (4, 0), (0, 1001), (2, 1001), (4, 1001), (1, 0x8001), (4, u16::MAX)] {
+        let mut list = sound.clone();
+        list[j].w = w;
         others.push((Head { n: 4, m: 5 }, list));
     }
     (sound, others)
@@ -143,6 +151,11 @@ fn refusals_in_order() {
     }
     // a list that is one record short, with the record that it lacks behind it in memory
     assert_eq!(place(head, &sound[..4], 1, 3), refused(13));
+    // a count outside 1 to 1,000 past the held records is nobody's
+    for w in [0, 1001, u16::MAX] {
+        let longer = [&sound[..], &[Pair { a: 2, b: 3, w }]].concat();
+        assert_eq!(place(head, &longer, 1, 3), Placed { number: 0, held: 1, at: 3 });
+    }
     for (head, list) in others {
         // with N above 3: no other cause, 5, 4, and both
         for (a, b) in [(1, 3), (0, 3), (2, 2), (2, FAR), (FAR, FAR)] {
@@ -151,38 +164,47 @@ fn refusals_in_order() {
     }
 }
 
-/// Where the pair is held, remove takes the record at its place; where it is not, add puts it there, unless no record is free.
+/// Where the pair is held, add raises the count at its place, and remove takes the record there; where it is not, add puts it there, unless no record is
+/// free.
 #[test]
 fn add_and_remove_there() {
-    let (mut random, mut added, mut removed, mut full) = (Random(32), 0, 0, 0);
+    let (mut random, mut added, mut raised, mut removed, mut full) = (Random(32), 0, 0, 0, 0);
     for _ in 0..20_000 {
-        let drawn = plain::any(&mut random);
-        let (head, mut list) = plain::lent(&mut random, &drawn);
+        let drawn = lists::any(&mut random);
+        let (head, mut list) = lists::lent(&mut random, &drawn);
         let (a, b) = ends::two(&mut random, &drawn);
         let first = place(head, &list, a, b);
-        let (m, at, before) = (head.m as usize, first.at as usize, list.clone());
+        let (m, at, before, w) = (head.m as usize, first.at as usize, list.clone(), 1 + random.below(500) as u32);
         let (changed, after) = if first.number != 0 {
-            assert_eq!(ffi::add(head, &mut list, a, b).number, first.number);
+            assert_eq!(ffi::add(head, &mut list, a, b, w).number, first.number);
             assert_eq!(ffi::remove(head, &mut list, a, b).number, first.number);
             continue;
+        } else if first.held == 1 && random.once_in(2) {
+            let count = before[at].w as u32 + w;
+            raised += 1;
+            let new = if count > 1000 { before[at] } else { ends::pair(a, b, count) };
+            let answer = ffi::add(head, &mut list, a, b, w);
+            assert_eq!(answer, Changed { number: if count > 1000 { 19 } else { 0 }, head });
+            assert!(list == [&before[..at], &[new], &before[at + 1..]].concat(), "{a},{b},{w}");
+            continue;
         } else if first.held == 1 {
-            assert_eq!(before[at], ends::pair(a, b));
+            assert_eq!(before[at].ends(), ends::ends(a, b));
             removed += 1;
             let freed = &[Pair::default()];
             (ffi::remove(head, &mut list, a, b), [&before[..at], &before[at + 1..m], freed, &before[m..]].concat())
         } else if m == list.len() || m == 4096 {
-            assert_eq!(ffi::add(head, &mut list, a, b).number, 11);
+            assert_eq!(ffi::add(head, &mut list, a, b, w).number, 11);
             full += 1;
             continue;
         } else {
             added += 1;
-            let new = &[ends::pair(a, b)];
-            (ffi::add(head, &mut list, a, b), [&before[..at], new, &before[at..m], &before[m + 1..]].concat())
+            let new = &[ends::pair(a, b, w)];
+            (ffi::add(head, &mut list, a, b, w), [&before[..at], new, &before[at..m], &before[m + 1..]].concat())
         };
-        assert_eq!((changed.number, list.as_slice()), (0, after.as_slice()), "{a},{b}");
+        assert_eq!((changed.number, list.as_slice()), (0, after.as_slice()), "{a},{b},{w}");
         assert_eq!(place(changed.head, &list, a, b), Placed { number: 0, held: 1 - first.held, at: first.at });
     }
-    assert!(added >= 1_000 && removed >= 1_000 && full >= 100, "{added} added, {removed} removed, {full} full");
+    assert!(added >= 1_000 && raised >= 1_000 && removed >= 1_000 && full >= 100, "{added} {raised} {removed} {full}");
 }
 
 /// A list changed by add and remove, and beside it records that are put in and taken out at the places answered.
@@ -190,21 +212,26 @@ fn add_and_remove_there() {
 fn a_list_kept_by_its_places() {
     for (seed, n) in [(33, 2), (34, 7), (35, 60), (36, 512)] {
         let mut random = Random(seed);
-        let (mut list, mut kept, mut full) = (List::new(n as u32).unwrap(), vec![], 0);
+        let (mut list, mut kept, mut full) = (List::new(n as u32).unwrap(), Vec::<Pair>::new(), 0);
         for _ in 0..12_000 {
             let (a, b) = (random.below(n) as u32, random.below(n) as u32);
             if a == b {
                 continue;
             }
             let Place { held, at } = list.place(a, b).unwrap();
-            if held {
+            let w = 1 + random.below(400) as u16;
+            if held && random.once_in(3) {
                 list.remove(b, a).unwrap();
-                assert_eq!(kept.remove(at), ends::pair(a, b));
+                assert_eq!(kept.remove(at).ends(), ends::ends(a, b));
+            } else if held {
+                let raised = kept[at].w + w;
+                assert_eq!(list.add(b, a, w as u32).is_ok(), raised <= 1000);
+                kept[at].w = if raised <= 1000 { raised } else { kept[at].w };
             } else if kept.len() < PAIRS {
-                list.add(a, b).unwrap();
-                kept.insert(at, ends::pair(a, b));
+                list.add(a, b, w as u32).unwrap();
+                kept.insert(at, ends::pair(a, b, w as u32));
             } else {
-                assert_eq!(list.add(a, b).unwrap_err().number(), 11);
+                assert_eq!(list.add(a, b, w as u32).unwrap_err().number(), 11);
                 full += 1;
             }
             assert!(list.pairs() == kept, "after {a},{b} of {n} modules");
@@ -218,7 +245,7 @@ fn a_list_kept_by_its_places() {
 #[test]
 fn full_lists() {
     let mut random = Random(37);
-    let drawn = plain::uniform(&mut random, 512, PAIRS).records();
+    let drawn = lists::uniform(&mut random, 512, PAIRS).records();
     let (many, few) = (all(512), all(92));
     let lists = [
         (512, drawn),
@@ -231,7 +258,7 @@ fn full_lists() {
         let longer = [held.clone(), pairs(&mut random, 3)].concat();
         let mut at = 0;
         for (j, pair) in all(n as u16).into_iter().enumerate() {
-            let here = held.get(at) == Some(&pair);
+            let here = held.get(at).is_some_and(|record| record.ends() == pair.ends());
             let list = if j % 2 == 0 { &held } else { &longer };
             let wanted = Placed { number: 0, held: here as u32, at: at as u32 };
             if here || j % 5 == 0 {
@@ -251,7 +278,7 @@ fn empty_lists() {
         assert_eq!(place(none(1), &list, 0, 0), Placed { number: 5, held: 0, at: 0 });
         assert_eq!(place(none(1), &list, 0, 1), Placed { number: 4, held: 0, at: 0 });
         for n in [2, 3, 40, 512] {
-            for Pair { a, b } in all(n) {
+            for Pair { a, b, .. } in all(n) {
                 assert_eq!(place(none(n as u32), &list, a as u32, b as u32), Placed { number: 0, held: 0, at: 0 });
             }
         }
@@ -261,7 +288,7 @@ fn empty_lists() {
 /// Each record of a list, with each M: those past M count for nothing, be they the list's own, the pair itself, or below or above every pair.
 #[test]
 fn records_past_those_held() {
-    let drawn = plain::uniform(&mut Random(38), 12, 40).records();
+    let drawn = lists::uniform(&mut Random(38), 12, 40).records();
     for (j, &pair) in drawn.iter().enumerate() {
         for m in 0..=drawn.len() {
             let wanted = Placed { number: 0, held: (j < m) as u32, at: j.min(m) as u32 };

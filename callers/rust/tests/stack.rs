@@ -2,8 +2,8 @@
 mod plain;
 
 use kandurzo::ffi::stack;
-use kandurzo::{List, Place};
-use plain::Random;
+use kandurzo::{List, Place, Refusal};
+use plain::{dimacs, files, lists, Random};
 use std::thread;
 
 /// For the thread itself and the wrapper: less than the 65,536 bytes of a work buffer, which would be noticed on the stack.
@@ -18,20 +18,22 @@ fn within<T: Send>(bytes: usize, call: impl FnOnce() -> T + Send) -> T {
 fn each_method_in_a_small_thread() {
     let mut random = Random(1);
     for (n, m) in [(2, 1), (100, 4096), (512, 4096)] {
-        let drawn = plain::uniform(&mut random, n, m);
-        let file = drawn.file(&mut random);
-        let (a, b) = drawn.pairs[m / 2];
-        let (a, b) = (a as u32, b as u32);
+        let drawn = lists::uniform(&mut random, n, m);
+        let file = files::scattered(&drawn, &mut random);
+        let (a, b, w) = drawn.pairs[m / 2];
+        let (a, b, w) = (a as u32, b as u32, w as u32);
         assert!(within(stack::START, || List::new(n as u32)).is_ok());
         let mut list = within(stack::READ, || List::read(&file)).unwrap();
         assert_eq!(within(stack::PLACE, || list.place(b, a)), Ok(Place { held: true, at: m / 2 }));
         assert_eq!(within(stack::REMOVE, || list.remove(a, b)), Ok(()));
         assert_eq!(within(stack::PLACE, || list.place(a, b)), Ok(Place { held: false, at: m / 2 }));
-        assert_eq!(within(stack::ADD, || list.add(b, a)), Ok(()));
+        assert_eq!(within(stack::ADD, || list.add(b, a, w)), Ok(()));
         assert_eq!(list.pairs(), drawn.records());
-        let scattered = plain::dimacs::lines(&drawn, &mut random).concat();
-        assert_eq!(within(stack::WRITE_DIMACS, || list.write_dimacs()), Ok(plain::dimacs::write(&drawn)));
-        assert_eq!(within(stack::READ_DIMACS, || List::read_dimacs(&scattered)).unwrap().pairs(), list.pairs());
+        assert_eq!(within(stack::ADD, || list.add(a, b, 1001 - w)).map_err(Refusal::number), Err(19));
+        let scattered = dimacs::lines(&drawn, &mut random).concat();
+        assert_eq!(within(stack::WRITE_DIMACS, || list.write_dimacs()), Ok(dimacs::write(&drawn)));
+        let read = within(stack::READ_DIMACS, || List::read_dimacs(&scattered)).unwrap();
+        assert_eq!(read.pairs(), drawn.ones().records());
         assert_eq!(within(stack::PEEL, || list.peel()).unwrap().order, drawn.leaving());
         let found = within(stack::SOLVE, || list.solve()).unwrap();
         assert_eq!(within(stack::CHECK, || list.check(&found.members, &found.shares)), Ok((found.p, found.q)));

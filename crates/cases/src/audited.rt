@@ -164,7 +164,7 @@ fn put_within(
 // A sheet beside a pair file, each as far as its buffer holds it.
 pub(crate) fn try_limits(line: &[u8], text: &mut [u8]) -> Given {
     let mut file = [0u8; 65537];
-    let mut sheet = [0u8; 100001];
+    let mut sheet = [0u8; 140001];
     let opened = open_both(line);
     if opened.first < 0 || opened.second < 0 {
         return no_file(text, opened.rest);

@@ -3,7 +3,8 @@
 // The run folder holds lists of cases, a case a line, and the files that they name. A line has what is tried, a space, and the answer due:
 //
 //   files    FILE                   the pair file is read and its list solved
-//   large    N M LINES AGAIN MORE   so is a file made here: `modules=N`, `pairs=M`, LINES pair lines, AGAIN of the first again, MORE line ends
+//   large    N M W EVERY LINES AGAIN MORE   so is a file made here: `modules=N`, `pairs=M`, LINES pair lines, AGAIN of the first again, MORE line ends;
+//                                   the first pair has the stop count W, and, where EVERY is not 0, a pair has one more every EVERY lines
 //   audited  FILE SHEET             the sheet is audited beside the pair file
 //   bytes    FILE SHEET             so is the sheet with each byte one more, and one less, in turn
 //   limits   FILE SHEET B C         so is what is read of the two into buffers of B and C bytes
@@ -16,15 +17,16 @@
 //   made     N M LINES AGAIN EVERY LENGTH    so is a file made here: `p edge N M`, LINES `e` lines, AGAIN of the first again, and, where EVERY is not 0,
 //                                   comments of LENGTH bytes behind the `c`: before every EVERY lines, before the `p` line and at the end
 //   written  FILE DIMACS            the list of the pair file is written, and the DIMACS file that is due is read back
-//   full     N M LINES AGAIN MORE   so is the list of a pair file made as for `large`; what is due is made here from the rule of its pairs
+//   full     N M W EVERY LINES AGAIN MORE   so is the list of a pair file made as for `large`; what is due is made here from the rule of its pairs
 //
 // Files of the folders `first`, `second`, `pair` and `end` break a rule on the first line, on the second, on a pair line, after the last; of those in
-// `order` several conditions hold; those in `taken` are accepted, the starred lists of document 01 among them. In `audits` are sheets that `sheet`
-// printed, NAME.sheet of the pair file NAME, and such sheets altered by hand. In `full` are the longest pair file that there is, 53,271 bytes, and its
-// sheet of 77,151, with line ends behind them up to 65,536 and 100,000 bytes: whether the last byte of a line is read, or one behind the last line,
-// turns the answer; and as long a file, `block`, of the 4,096 pairs of the modules 384 to 447 with 448 to 511, in list order. In `dimacs`, files of the
-// folders `before`, `problem`, `edge` and `end` break a rule before the `p` line, on it, on an `e` line, behind the last; `comments` has comments of every
-// kind in each place, and lines that are none; `order` and `taken` are as above. In `lists` are files due of lists that are written.
+// `order` several conditions hold; those in `taken` are accepted, the starred lists of document 01 among them, and lists with stop counts. In `audits` are
+// sheets that `sheet` printed, NAME.sheet of the pair file NAME, and sheets made or altered by hand; numbers pass 65,535 in `ring` (shares) and `clique` (core
+// numbers). In `full` are the longest pair file that there is, 53,271 bytes, and its sheet of 90,716, with line ends behind them up to 65,536 and 140,000
+// bytes: whether the last byte of a line is read, or one behind the last line, turns the answer; and as long a file, `block`, of the 4,096 pairs of the
+// modules 384 to 447 with 448 to 511, in list order. In `dimacs`, files of the folders `before`, `problem`, `edge` and `end` break a rule before the `p`
+// line, on it, on an `e` line, behind the last; `comments` has comments of every kind in each place, and lines that are none; `order` and `taken` are as
+// above. In `lists` are files due of lists that are written.
 //
 // An answer is the refusal number, or 0 and the values:
 //   files, large   P/Q; K and the size of the core of order K; the member bytes as runs, where 1x4 0x1 is 1, 1, 1, 1, 0. All 512 member bytes are 2
@@ -36,7 +38,7 @@
 //   dimacs/files, rooms      N,M and the pairs of the list, modules numbered from 0, with its count behind a pair where that is not 1
 //   dimacs/made    N,M and how many of the pairs are named by a line, smaller module first, behind the one before; before the number the file's length
 //   dimacs/written, full     in the place of the number: the length written, how many bytes are not those due (7 past the length, as before),
-//                            and how much of what is read back is not the list
+//                            and how much of what is read back is not the list with each count 1
 //
 // A line is printed for each list of cases, and one for each case that did not come out as due.
 mod asked;

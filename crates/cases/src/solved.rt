@@ -8,11 +8,18 @@ use crate::text::no_file;
 use crate::text::number_at;
 use crate::text::one_more;
 use crate::text::put;
+use crate::text::put_decimal;
 use crate::text::put_number;
 use crate::text::put_text;
 use crate::text::put_two;
 use answer::Answer;
 use answer::solve_file;
+
+// Empty lines, or lines of pairs: so many stops on the first, and one more every so many lines, unless that is 0.
+enum Lines {
+    Empty,
+    Pairs { first: u32, every: u32 },
+}
 
 // How many bytes the text has, and how many bytes the run has that is still to be put.
 struct Run {
@@ -90,24 +97,37 @@ pub(crate) fn try_file(line: &[u8], text: &mut [u8]) -> Given {
 
 // ---- made here
 
-// Line i: of a pair of two modules of 256 to 511, `i / 256 + 1` apart on the circle of these, or empty.
-fn put_line(file: &mut [u8], at: usize, i: u32, pair: bool) -> usize {
-    if !pair {
-        return put(file, at, b'\n');
+// How many stops the pair of line i has.
+fn stops_of(first: u32, every: u32, i: u32) -> u32 {
+    if every == 0 {
+        return first;
     }
-    let step = std::num::wrapping_add_u32(one_more(i), i / 256);
-    let name = put_text(file, at, b"pair");
-    let first = put_number(file, name, b'=', (256 + i % 256) as u64);
-    let second = put_number(file, first, b',', (256 + step % 256) as u64);
-    put(file, second, b'\n')
+    std::num::wrapping_add_u32(first, i / every)
 }
 
-// So many lines, of pairs or empty.
-fn put_lines(file: &mut [u8], at: usize, count: u32, pair: bool) -> usize {
+// Line i of a pair: of two modules of 256 to 511, `i / 256 + 1` apart on the circle of these.
+fn put_pair(file: &mut [u8], at: usize, i: u32, stops: u32) -> usize {
+    let step = std::num::wrapping_add_u32(one_more(i), i / 256);
+    let first = put_decimal(file, at, (256 + i % 256) as u64);
+    let second = put_number(file, first, b',', (256 + step % 256) as u64);
+    let count = put_number(file, second, b',', stops as u64);
+    put(file, count, b'\n')
+}
+
+// Line i.
+fn put_line(file: &mut [u8], at: usize, i: u32, lines: Lines) -> usize {
+    match lines {
+        Lines::Empty => put(file, at, b'\n'),
+        Lines::Pairs { first, every } => put_pair(file, at, i, stops_of(first, every, i)),
+    }
+}
+
+// So many lines.
+fn put_lines(file: &mut [u8], at: usize, count: u32, lines: Lines) -> usize {
     let mut end = at;
     let mut i = 0;
     while i < count {
-        end = put_line(file, end, i, pair);
+        end = put_line(file, end, i, lines);
         i += 1;
     }
     end
@@ -126,15 +146,21 @@ fn put_head(file: &mut [u8], n: u32, m: u32) -> usize {
 pub(crate) fn put_file(file: &mut [u8], line: &[u8]) -> Given {
     let n = number_at(line, 0);
     let m = number_at(line, n.next);
-    let lines = number_at(line, m.next);
-    let again = number_at(line, lines.next);
+    let first = number_at(line, m.next);
+    let every = number_at(line, first.next);
+    let count = number_at(line, every.next);
+    let again = number_at(line, count.next);
     let more = number_at(line, again.next);
+    let lines = Lines::Pairs {
+        first: first.value,
+        every: every.value,
+    };
     let head = put_head(file, n.value, m.value);
-    let pairs = put_lines(file, head, lines.value, true);
-    let twice = put_lines(file, pairs, again.value, true);
+    let pairs = put_lines(file, head, count.value, lines);
+    let twice = put_lines(file, pairs, again.value, lines);
     Given {
         due: more.next,
-        end: put_lines(file, twice, more.value, false),
+        end: put_lines(file, twice, more.value, Lines::Empty),
     }
 }
 

@@ -49,12 +49,17 @@ pub(crate) fn put_text(text: &mut [u8], at: usize, bytes: &[u8]) -> usize {
     end
 }
 
+// A number.
+pub(crate) fn put_decimal(text: &mut [u8], at: usize, value: u64) -> usize {
+    let mut digits = [0u8; 20];
+    let k = io::decimal(value, &mut digits);
+    put_text(text, at, &digits[..k])
+}
+
 // A byte, and behind it a number.
 pub(crate) fn put_number(text: &mut [u8], at: usize, byte: u8, value: u64) -> usize {
-    let mut digits = [0u8; 20];
     let end = put(text, at, byte);
-    let k = io::decimal(value, &mut digits);
-    put_text(text, end, &digits[..k])
+    put_decimal(text, end, value)
 }
 
 // A space and two numbers with a byte between them, unless both are 0.

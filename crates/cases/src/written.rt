@@ -38,18 +38,23 @@ fn differing_bytes(bytes: &[u8], file: &[u8]) -> u32 {
     count
 }
 
-// How many of the words differ, after so many before.
-fn differing_words(first: &[u32], second: &[u32], before: u32) -> u32 {
+// Word i of a list as it is read back: each count is 1.
+fn word_back(i: usize, word: u32) -> u32 {
+    if 8192 <= i && 1 < word { 1 } else { word }
+}
+
+// How many of the words read back are not as due, after so many before.
+fn differing_words(list: &[u32], again: &[u32], before: u32) -> u32 {
     let mut count = before;
     let mut i = 0;
-    while i < first.len() {
-        count = one_unless(first[i] == word_at(second, i), count);
+    while i < list.len() {
+        count = one_unless(word_back(i, list[i]) == word_at(again, i), count);
         i += 1;
     }
     count
 }
 
-// How much of what is read from the file is not the list: of the number, N, M and all words.
+// How much of what is read from the file is not the list with each count 1: of the number, N, M and all words.
 fn read_back(file: &[u8], list: Reading, words: &[u32]) -> u32 {
     let mut again = [0u32; 12288];
     let reading = dimacs::read_words(file, 4096, &mut again);
@@ -60,7 +65,7 @@ fn read_back(file: &[u8], list: Reading, words: &[u32]) -> u32 {
 }
 
 // The list of a pair file, written, beside the DIMACS file due: how many bytes are written, how many bytes of the buffer are not the file's, or past it
-// not as before, and how much of what is read from the file is not the list.
+// not as before, and how much of what is read from the file is not the list with each count 1.
 fn put_written(text: &mut [u8], pairs: &[u8], file: &[u8]) -> usize {
     let mut words = [0u32; 12288];
     let mut out = [7u8; 65600];

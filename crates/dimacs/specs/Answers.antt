@@ -12,7 +12,7 @@ use mathlib.Core.List.{List, [], _∷_}
 use Prim.Native.Nat.{ℕ, _≤_, _<_}
 use lib.Dec.{ltb}
 use lib.ListN.{length, drop}
-use Rattle.theory.specs.Lists.{Pair, pair}
+use Rattle.theory.specs.Lists.{Pair}
 use Rattle.theory.specs.Words.{laid-pairs}
 use Rattle.lines.specs.Lines.{Line}
 use Rattle.lines.specs.Outcomes.{Outcome, refused, taken}
@@ -53,7 +53,8 @@ pub record ProblemRead (bytes : List ℕ) (at room : ℕ) (r : ProblemLine) : Ty
   pub found : problem-line room (first-line (drop at bytes)) ≡ sizes-in r
   pub end : SizesEnd bytes at r
 
--- Refused: its number, 16, 17, 5, 4 or 10 by edge-line (specs/Edges.antt). Named: the pair a,b with its count w, which is 1; PairEnd has the bytes after its line, PlaceKnown its place
+-- Refused: its number, 16, 17, 5, 4 or 10 by edge-line (specs/Edges.antt). Named: the pair a,b with its count w, which is 1; PairEnd has the bytes after
+-- its line, PlaceKnown its place
 unfoldable pub pair-in : PairLine → Outcome Pair
 pair-in (line-refused k) = refused k
 pair-in (named a b w place i) = taken (record { a = a; b = b; w = w })

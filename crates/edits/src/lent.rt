@@ -34,24 +34,27 @@ fn held(words: &[u32], len: usize) -> usize
         if 65535 < words[2 * i + 1] {
             return i;
         }
+        if 65535 < words[8192 + i] {
+            return i;
+        }
         i += 1;
     }
     i
 }
 
 // add on 4,096 records.
-pub(crate) fn add_4096(words: &mut [u32], head: Head, a: u32, b: u32) -> Changed {
-    let mut list = [Pair { a: 0, b: 0 }; 4096];
+pub(crate) fn add_4096(words: &mut [u32], head: Head, a: u32, b: u32, w: u32) -> Changed {
+    let mut list = [Pair { a: 0, b: 0, w: 0 }; 4096];
     let k = held(words, 4096);
     copy_in(&mut list, words, k);
-    let answer = add(head, &mut list, a, b);
+    let answer = add(head, &mut list, a, b, w);
     copy_out(&list, words, k);
     answer
 }
 
 // remove on 4,096 records.
 pub(crate) fn remove_4096(words: &mut [u32], head: Head, a: u32, b: u32) -> Changed {
-    let mut list = [Pair { a: 0, b: 0 }; 4096];
+    let mut list = [Pair { a: 0, b: 0, w: 0 }; 4096];
     let k = held(words, 4096);
     copy_in(&mut list, words, k);
     let answer = remove(head, &mut list, a, b);
@@ -60,18 +63,18 @@ pub(crate) fn remove_4096(words: &mut [u32], head: Head, a: u32, b: u32) -> Chan
 }
 
 // add on 100 records.
-pub(crate) fn add_100(words: &mut [u32], head: Head, a: u32, b: u32) -> Changed {
-    let mut list = [Pair { a: 0, b: 0 }; 100];
+pub(crate) fn add_100(words: &mut [u32], head: Head, a: u32, b: u32, w: u32) -> Changed {
+    let mut list = [Pair { a: 0, b: 0, w: 0 }; 100];
     let k = held(words, 100);
     copy_in(&mut list, words, k);
-    let answer = add(head, &mut list, a, b);
+    let answer = add(head, &mut list, a, b, w);
     copy_out(&list, words, k);
     answer
 }
 
 // remove on 100 records.
 pub(crate) fn remove_100(words: &mut [u32], head: Head, a: u32, b: u32) -> Changed {
-    let mut list = [Pair { a: 0, b: 0 }; 100];
+    let mut list = [Pair { a: 0, b: 0, w: 0 }; 100];
     let k = held(words, 100);
     copy_in(&mut list, words, k);
     let answer = remove(head, &mut list, a, b);
@@ -81,7 +84,7 @@ pub(crate) fn remove_100(words: &mut [u32], head: Head, a: u32, b: u32) -> Chang
 
 // place on 4,096 records.
 pub(crate) fn place_4096(words: &mut [u32], head: Head, a: u32, b: u32) -> Placed {
-    let mut list = [Pair { a: 0, b: 0 }; 4096];
+    let mut list = [Pair { a: 0, b: 0, w: 0 }; 4096];
     let k = held(words, 4096);
     copy_in(&mut list, words, k);
     let answer = place(head, &list, a, b);
@@ -91,7 +94,7 @@ pub(crate) fn place_4096(words: &mut [u32], head: Head, a: u32, b: u32) -> Place
 
 // place on 100 records.
 pub(crate) fn place_100(words: &mut [u32], head: Head, a: u32, b: u32) -> Placed {
-    let mut list = [Pair { a: 0, b: 0 }; 100];
+    let mut list = [Pair { a: 0, b: 0, w: 0 }; 100];
     let k = held(words, 100);
     copy_in(&mut list, words, k);
     let answer = place(head, &list, a, b);
@@ -100,11 +103,11 @@ pub(crate) fn place_100(words: &mut [u32], head: Head, a: u32, b: u32) -> Placed
 }
 
 // add_to, on a head of its own.
-fn add_own(head: Head, list: &mut [Pair], a: u32, b: u32) -> Changed
+fn add_own(head: Head, list: &mut [Pair], a: u32, b: u32, w: u32) -> Changed
     ensures { λ r. ⌜ r ≡ r ⌝ }
 {
     let mut own = head;
-    let number = add_to(&mut own, list, a, b);
+    let number = add_to(&mut own, list, a, b, w);
     Changed { number, head: own }
 }
 
@@ -118,18 +121,18 @@ fn remove_own(head: Head, list: &mut [Pair], a: u32, b: u32) -> Changed
 }
 
 // add_to on 100 records.
-pub(crate) fn add_to_100(words: &mut [u32], head: Head, a: u32, b: u32) -> Changed {
-    let mut list = [Pair { a: 0, b: 0 }; 100];
+pub(crate) fn add_to_100(words: &mut [u32], head: Head, a: u32, b: u32, w: u32) -> Changed {
+    let mut list = [Pair { a: 0, b: 0, w: 0 }; 100];
     let k = held(words, 100);
     copy_in(&mut list, words, k);
-    let answer = add_own(head, &mut list, a, b);
+    let answer = add_own(head, &mut list, a, b, w);
     copy_out(&list, words, k);
     answer
 }
 
 // remove_from on 100 records.
 pub(crate) fn remove_from_100(words: &mut [u32], head: Head, a: u32, b: u32) -> Changed {
-    let mut list = [Pair { a: 0, b: 0 }; 100];
+    let mut list = [Pair { a: 0, b: 0, w: 0 }; 100];
     let k = held(words, 100);
     copy_in(&mut list, words, k);
     let answer = remove_own(head, &mut list, a, b);

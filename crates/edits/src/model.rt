@@ -1,4 +1,4 @@
-// The plain model of a list: a table of 512 by 512 modules on the desk, 1 where the pair is in the list, in both orders.
+// The plain model of a list: a table of 512 by 512 modules on the desk, which has the stop count of each pair, in both orders; 0 where the pair is not in the list.
 use crate::desk;
 use crate::desk::TABLE;
 
@@ -13,16 +13,17 @@ fn entry(a: u32, b: u32) -> usize {
     desk::plus(TABLE, desk::wide(512 * a + b))
 }
 
-fn held(desk: &[u32], a: u32, b: u32) -> bool {
-    desk::word_at(desk, entry(a, b)) == 1
+// The pair's count.
+pub(crate) fn count_of(desk: &[u32], a: u32, b: u32) -> u32 {
+    desk::word_at(desk, entry(a, b))
 }
 
 // 1 where the pair is in the list, else 0.
 pub(crate) fn held_mark(desk: &[u32], a: u32, b: u32) -> u32 {
-    if held(desk, a, b) { 1 } else { 0 }
+    if count_of(desk, a, b) == 0 { 0 } else { 1 }
 }
 
-// Puts a pair in (1) or takes it out (0).
+// Gives a pair the count x; 0 takes it out.
 pub(crate) fn put_pair(desk: &mut [u32], a: u32, b: u32, x: u32) {
     desk::put_word(desk, entry(a, b), x);
     desk::put_word(desk, entry(b, a), x);
@@ -39,16 +40,47 @@ pub(crate) fn pair_number(n: u32, a: u32, b: u32) -> u32 {
     if n <= b { 4 } else { 0 }
 }
 
+// 18: not 1 to 1,000 stops.
+pub(crate) fn outside(w: u32) -> bool {
+    w < 1 || 1000 < w
+}
+
+// 19: a count of x is more than 1,000 with w more.
+pub(crate) fn passes(x: u32, w: u32) -> bool {
+    std::num::wrapping_sub_u32(1000, x) < w
+}
+
+// 11: the pair, whose count is x, is not in the list, and its `count` pairs have all of its `len` records.
+pub(crate) fn no_record(x: u32, count: u32, len: u32) -> bool {
+    x == 0 && count == len
+}
+
+// What add answers for w stops of a pair, whose count is x, where nothing is wrong with its modules.
+fn stops_number(x: u32, count: u32, len: u32, w: u32) -> u32 {
+    if outside(w) {
+        return 18;
+    }
+    if passes(x, w) {
+        return 19;
+    }
+    if no_record(x, count, len) { 11 } else { 0 }
+}
+
 // What add answers on a list of n modules and `count` pairs that has room for `len`.
-pub(crate) fn add_number(desk: &[u32], n: u32, count: u32, len: u32, a: u32, b: u32) -> u32 {
+pub(crate) fn add_number(
+    desk: &[u32],
+    n: u32,
+    count: u32,
+    len: u32,
+    a: u32,
+    b: u32,
+    w: u32,
+) -> u32 {
     let number = pair_number(n, a, b);
     if number != 0 {
         return number;
     }
-    if held(desk, a, b) {
-        return 10;
-    }
-    if count == len { 11 } else { 0 }
+    stops_number(count_of(desk, a, b), count, len, w)
 }
 
 // What remove answers.
@@ -57,15 +89,16 @@ pub(crate) fn remove_number(desk: &[u32], n: u32, a: u32, b: u32) -> u32 {
     if number != 0 {
         return number;
     }
-    if held(desk, a, b) { 0 } else { 14 }
+    if count_of(desk, a, b) == 0 { 14 } else { 0 }
 }
 
 // Writes the pair as record j of the list at `at` where it is held; the record after it.
 fn put_held(desk: &mut [u32], at: usize, a: u32, b: u32, j: u32) -> u32 {
-    if !held(desk, a, b) {
+    let w = count_of(desk, a, b);
+    if w == 0 {
         return j;
     }
-    desk::put_record(desk, at, j, a, b);
+    desk::put_record(desk, at, j, a, b, w);
     std::num::wrapping_add_u32(j, 1)
 }
 

@@ -1,29 +1,32 @@
-// A step of add or remove, on the plain model and on the list. Steps are drawn: pairs of the list and others, in either order, some with numbers out of range
-// or a module with itself. The answer must be the model's number and head; the records are compared with the model's in rising order, and those past them with
-// what they were before (0,0 for one that remove has freed). On lists of 100 records the step is made by add_to or remove_from too, on a second list.
+// A step of add or remove, on the plain model and on the list. The answer must be the model's number and head; the records, with their counts, are compared
+// with the model's in rising order, and those past them with what they were before (0,0,0 for one that remove has freed). On lists of 100 records the step is
+// made by add_to or remove_from too, on a second list.
 use crate::desk;
 use crate::desk::DUE;
 use crate::desk::OWN;
 use crate::desk::TALLY;
+use crate::draws;
+use crate::draws::Ask;
 use crate::lent;
 use crate::model;
 use crate::places;
 use kandurzo::Changed;
 use records::Head;
 
-// How a run goes: modules, records of the list, steps of adds alone, steps of both, every how many steps the records are compared, and what is altered
-// before it is compared (1 the number, 2 the count of pairs, 3 the records, 4 the number of add_to and remove_from; of place 5 the number, 6 whether held,
-// 7 the place; 0 nothing).
+// How a run goes: modules, records of the list, steps of adds alone, steps of both, every how many steps the records are compared, how many steps are drawn
+// when the same stops are added again in other steps (0: they are not), and what is altered before it is compared (1 the number, 2 the number of pairs, 3 the
+// records, 4 the number of add_to and remove_from; of place 5 the number, 6 whether held, 7 the place; 8 a stop count, 9 one of those added again; 0 nothing).
 pub(crate) struct Plan {
     pub(crate) n: u32,
     pub(crate) len: u32,
     pub(crate) adds: u32,
     pub(crate) mixed: u32,
     pub(crate) every: u32,
+    pub(crate) again: u32,
     pub(crate) altered: u32,
 }
 
-// Where a run stands: the head, that of the second list, the model's count of pairs, and the random state.
+// Where a run stands: the head, that of the second list, the model's number of pairs, and the random state.
 pub(crate) struct Run {
     pub(crate) head: Head,
     pub(crate) own: Head,
@@ -31,80 +34,32 @@ pub(crate) struct Run {
     pub(crate) state: u32,
 }
 
-// A step: add or remove, the pair, and the random state after the draw.
-pub(crate) struct Ask {
-    pub(crate) adds: bool,
-    pub(crate) a: u32,
-    pub(crate) b: u32,
-    pub(crate) state: u32,
-}
-
-// A number below k, by chance; 0 where k is 0.
-fn below(state: u32, k: u32) -> u32 {
-    if k == 0 { 0 } else { (state / 65536) % k }
-}
-
-// A module number, or n, or one time in 64 any number.
-fn drawn_end(n: u32, state: u32) -> u32 {
-    if state % 64 == 0 {
-        return state;
-    }
-    below(state, std::num::wrapping_add_u32(n, 1))
-}
-
-// A pair of the list one time in two, else any; in either order.
-fn drawn(n: u32, adds: bool, m: u32, state: u32, desk: &[u32]) -> Ask {
-    let first = desk::next(state);
-    let second = desk::next(first);
-    let third = desk::next(second);
-    let j = desk::place(0, below(second, m));
-    let mut a = drawn_end(n, second);
-    let mut b = drawn_end(n, third);
-    if first % 2 == 0 {
-        a = desk::word_at(desk, j);
-        b = desk::word_at(desk, desk::plus(j, 1));
-    }
-    if third % 2 == 0 {
-        return Ask {
-            adds,
-            a,
-            b,
-            state: third,
-        };
-    }
-    Ask {
-        adds,
-        a: b,
-        b: a,
-        state: third,
-    }
-}
-
 // The model's answer to a step.
-fn due(plan: Plan, ask: Ask, count: u32, desk: &[u32]) -> u32 {
+pub(crate) fn due(plan: Plan, ask: Ask, count: u32, desk: &[u32]) -> u32 {
     if ask.adds {
-        return model::add_number(desk, plan.n, count, plan.len, ask.a, ask.b);
+        return model::add_number(desk, plan.n, count, plan.len, ask.a, ask.b, ask.w);
     }
     model::remove_number(desk, plan.n, ask.a, ask.b)
 }
 
-// The model's step: its count after it. A record that remove frees is 0,0.
-fn modelled(number: u32, ask: Ask, count: u32, desk: &mut [u32]) -> u32 {
+// The model's step: its number of pairs after it. Stops are added to the count of a held pair; a record that remove frees is 0,0,0.
+pub(crate) fn modelled(number: u32, ask: Ask, count: u32, desk: &mut [u32]) -> u32 {
     if number != 0 {
         return count;
     }
+    let x = model::count_of(desk, ask.a, ask.b);
     if ask.adds {
-        model::put_pair(desk, ask.a, ask.b, 1);
-        return std::num::wrapping_add_u32(count, 1);
+        model::put_pair(desk, ask.a, ask.b, std::num::wrapping_add_u32(x, ask.w));
+        return desk::one_more(x != 0, count);
     }
     let less = std::num::wrapping_sub_u32(count, 1);
     model::put_pair(desk, ask.a, ask.b, 0);
-    desk::put_record(desk, DUE, less, 0, 0);
+    desk::put_record(desk, DUE, less, 0, 0, 0);
     less
 }
 
-// The tally's entries: 1 steps, 2 lists compared, 3 what differs, 6 steps by add_to and remove_from too, 7 calls of place, 8 those that say held, and each
-// number's answers under the number.
+// The tally's entries: 1 steps, 2 lists compared, 3 what differs, 6 steps by add_to and remove_from, 7 calls of place, 8 those that say held, each number's
+// answers under the number, and those of `shown`.
 pub(crate) fn count_in(desk: &mut [u32], entry: u32) {
     desk::bump(desk, desk::plus(TALLY, desk::wide(entry)));
 }
@@ -128,12 +83,12 @@ pub(crate) fn altered(plan: Plan, what: u32, x: u32) -> u32 {
 fn call(len: u32, ask: Ask, head: Head, desk: &mut [u32]) -> Changed {
     if len == 4096 {
         if ask.adds {
-            return lent::add_4096(desk, head, ask.a, ask.b);
+            return lent::add_4096(desk, head, ask.a, ask.b, ask.w);
         }
         return lent::remove_4096(desk, head, ask.a, ask.b);
     }
     if ask.adds {
-        return lent::add_100(desk, head, ask.a, ask.b);
+        return lent::add_100(desk, head, ask.a, ask.b, ask.w);
     }
     lent::remove_100(desk, head, ask.a, ask.b)
 }
@@ -144,13 +99,20 @@ fn own_call(ask: Ask, head: Head, desk: &mut [u32]) -> Changed {
         return Changed { number: 99, head };
     }
     if ask.adds {
-        return lent::add_to_100(&mut desk[OWN..], head, ask.a, ask.b);
+        return lent::add_to_100(&mut desk[OWN..], head, ask.a, ask.b, ask.w);
     }
     lent::remove_from_100(&mut desk[OWN..], head, ask.a, ask.b)
 }
 
 // The second call on lists of 100 records, whose answer must be this number with such a head; the head after it.
-fn own_step(plan: Plan, ask: Ask, own: Head, number: u32, due: Head, desk: &mut [u32]) -> Head {
+pub(crate) fn own_step(
+    plan: Plan,
+    ask: Ask,
+    own: Head,
+    number: u32,
+    due: Head,
+    desk: &mut [u32],
+) -> Head {
     if plan.len != 100 {
         return own;
     }
@@ -188,8 +150,7 @@ pub(crate) fn made(
 
 // Compares the list at `at` with the records due.
 fn compare(plan: Plan, at: usize, desk: &mut [u32]) {
-    let n = std::num::wrapping_add_u32(plan.len, plan.len);
-    note(desk::differing(desk, at, DUE, n) == 0, desk);
+    note(desk::same_records(desk, at, DUE, plan.len), desk);
     count_in(desk, 2);
 }
 
@@ -205,6 +166,9 @@ pub(crate) fn compare_all(plan: Plan, desk: &mut [u32]) {
 fn alter_records(plan: Plan, desk: &mut [u32]) {
     if plan.altered == 3 {
         desk::bump(desk, desk::plus(DUE, 199));
+    }
+    if plan.altered == 8 {
+        desk::bump(desk, desk::count_place(DUE, 99));
     }
 }
 
@@ -226,13 +190,56 @@ fn look_at(plan: Plan, i: u32, count: u32, desk: &mut [u32]) {
     }
 }
 
+// What an add that is taken shows, of a pair whose count is x: 9 the count comes to 1,000, 10 a held pair is raised where no record is free, 12 another is.
+fn taken_shows(x: u32, w: u32, full: bool) -> u32 {
+    if std::num::wrapping_add_u32(x, w) == 1000 {
+        return 9;
+    }
+    if x == 0 {
+        return 31;
+    }
+    if full { 10 } else { 12 }
+}
+
+// What a refused one shows: 15 a refusal by 5 or 4 where 18 is due too, 16 by 18 where 19 is, 17 by 18 where 11 is.
+fn refused_shows(number: u32, x: u32, w: u32, full: bool) -> u32 {
+    if !model::outside(w) {
+        return 31;
+    }
+    if number != 18 {
+        return 15;
+    }
+    if x == 0 && full {
+        return 17;
+    }
+    if x != 0 && model::passes(x, w) {
+        16
+    } else {
+        31
+    }
+}
+
+// The tally's entry for what a step shows besides its number; 31, which is not printed, where it shows nothing.
+fn shown(plan: Plan, ask: Ask, count: u32, number: u32, desk: &[u32]) -> u32 {
+    if !ask.adds {
+        return 31;
+    }
+    let x = model::count_of(desk, ask.a, ask.b);
+    let full = count == plan.len;
+    if number == 0 {
+        return taken_shows(x, ask.w, full);
+    }
+    refused_shows(number, x, ask.w, full)
+}
+
 // Step i, on the model and on the list.
 fn step(plan: Plan, i: u32, mixed: bool, run: Run, desk: &mut [u32]) -> Run {
     let state = desk::next(run.state);
     let adds = !mixed || state % 4 < 2;
-    let ask = drawn(plan.n, adds, run.count, state, desk);
+    let ask = draws::drawn(plan.n, adds, run.count, state, desk);
     places::before_step(plan, ask, run.head, desk);
     let number = due(plan, ask, run.count, desk);
+    count_in(desk, shown(plan, ask, run.count, number, desk));
     let m = modelled(number, ask, run.count, desk);
     let after = made(plan, ask, run, number, Head { n: plan.n, m }, desk);
     look_at(plan, i, m, desk);

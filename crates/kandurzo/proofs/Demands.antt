@@ -19,9 +19,7 @@ use Rattle.theory.specs.Check.{check-number}
 use Rattle.theory.specs.Surplus.{surplus-number}
 use Rattle.theory.proofs.Tests.{tests, no}
 use Rattle.theory.proofs.Refusals.{if-taken-old}
-use Rattle.pairs.proofs.Keeps.{counts-once}
 use Rattle.lines.specs.Outcomes.{Outcome, refused, taken}
-use Rattle.pairfile.specs.Promise.{all-once}
 use Rattle.pairfile.specs.Answers.{reading-of, pairs-of}
 use Rattle.verify.specs.declared.Verdict.{Verdict}
 use Rattle.records.specs.declared.Pair.{Pair}
@@ -39,7 +37,7 @@ use Rattle.kandurzo.specs.Promise.{Refusals-keep, Fifteen-never}
 use Rattle.kandurzo.proofs.Filling.{work-zeros, left-open}
 use Rattle.kandurzo.proofs.Gates.{Long-enough, all-long}
 use Rattle.kandurzo.proofs.Judgements.{check-few, gate-then}
-use Rattle.kandurzo.proofs.Taken.{as-pairs-back, length-as-records, held-is-list, length-held, held-ones, held-records}
+use Rattle.kandurzo.proofs.Taken.{as-pairs-back, length-as-records, held-is-list, length-held, held-records}
 
 -- ---- a list that is lent
 
@@ -63,9 +61,8 @@ module _ {g : Pairs} {h : Head} {ps : List Pair} (lent : Lent g h ps) where
 
   -- it is the list held
   pub lent-list : held-list h ps ≡ g
-  unfolding held-list all-once counts-once
-  lent-list =
-      rw (n-is, m-is, lent .records) (ap (λ (qs : List Lists.Pair). record { n = g .n; pairs = qs }) (as-pairs-back (g .pairs) (lent .once)))
+  unfolding held-list
+  lent-list = rw (n-is, m-is, lent .records) (ap (λ (qs : List Lists.Pair). record { n = g .n; pairs = qs }) (as-pairs-back (g .pairs)))
 
   -- and head and list agree
   pub lent-agrees : agrees h ps ≡ true
@@ -86,10 +83,8 @@ unfolding head-of held-list
 held-head h ps agreed i = record { n = h .n; m = sym (length-held h ps agreed) i }
 
 pub held-lent : (h : Head) (ps : List Pair) → agrees h ps ≡ true → Lent (held-list h ps) h ps
-unfolding all-once counts-once
 held-lent h ps agreed = record {
   list = held-is-list h ps agreed;
-  once = held-ones h ps agreed;
   head = held-head h ps agreed;
   records = rw (length-held h ps agreed) (sym (held-records h ps agreed));
 }
@@ -166,7 +161,7 @@ read-refused (taken g) ps n = absurd (n refl)
 
 pub refusals-keep : Refusals-keep
 refusals-keep = record {
-  add = λ h ps a b r ps′ call n.
+  add = λ h ps a b w r ps′ call n.
       (call .head ∙ if-taken-old _ _ h (λ z. n (call .number ∙ z)), call .list ∙ if-taken-old _ _ ps (λ z. n (call .number ∙ z)));
   remove = λ h ps a b r ps′ call n.
       (call .head ∙ if-taken-old _ _ h (λ z. n (call .number ∙ z)), call .list ∙ if-taken-old _ _ ps (λ z. n (call .number ∙ z)));

@@ -1,6 +1,6 @@
 -- Lists that are written and read as DIMACS files: theorems of specs/Exchange.antt.
 --   every-list-written     write_dimacs writes every list
---   written-read           a list that is written and read is the same list
+--   written-read           a list of ones that is written and read is the same list
 --   read-rewritten         an accepted file without comments, in list order and with the smaller module first, is rewritten byte for byte
 --   comments-unread        taking the comments out of a file changes neither its number nor its list
 -- Assumes nothing.
@@ -13,9 +13,7 @@ use lib.ListN.{length, take}
 use lib.Seq.{take-at}
 use Rattle.theory.specs.Lists.{Pairs}
 use Rattle.theory.specs.Refusals.{refusal, if-taken}
-use Rattle.pairs.proofs.Keeps.{counts-once}
 use Rattle.lines.specs.Outcomes.{taken}
-use Rattle.pairfile.specs.Promise.{all-once}
 use Rattle.dimacs.specs.Comments.{without-comments}
 use Rattle.dimacs.specs.Edges.{read-lines, read-dimacs, dimacs-of}
 use Rattle.dimacs.proofs.ReadsBack.{written-back}
@@ -32,7 +30,7 @@ use Rattle.kandurzo.specs.Reading.{read-outcome}
 use Rattle.kandurzo.specs.Writing.{text-bytes, write-buffers, write-call-causes, Write-call}
 use Rattle.kandurzo.specs.Exchange.{Every-list-written, Written-read, Read-rewritten, Comments-unread}
 use Rattle.kandurzo.proofs.Gates.{gate-open}
-use Rattle.kandurzo.proofs.Taken.{held-is-list, length-held, held-ones, held-records}
+use Rattle.kandurzo.proofs.Taken.{held-is-list, length-held, held-records}
 use Rattle.kandurzo.proofs.Demands.{lent-list, lent-passes, held-head, held-lent}
 use Rattle.kandurzo.proofs.Readings.{reads-dimacs}
 use Rattle.kandurzo.proofs.ReadKeeps.{read-agrees-after, read-holds, read-taken}
@@ -67,12 +65,12 @@ every-list-written g h ps text w text′ lent long call =
     (z, rw (lent-list lent) at (counted call z), rw (lent-list lent) at (in-text call z))
 
 pub written-read : Written-read
-unfolding Written-read all-once counts-once
-written-read h ps text w text′ qs work r qs′ work′ call z room long read =
+unfolding Written-read
+written-read h ps text w text′ qs work r qs′ work′ call z once room long read =
     let ok = agreed call z in
     let g = held-list h ps in
     let due : read-dimacs (length qs) (take (w .length) text′) ≡ taken g =
-    rw (front call z) (written-back (length qs) g (held-is-list h ps ok) (held-ones h ps ok) (omega (arith, length-held h ps ok, room))) in
+    rw (front call z) (written-back (length qs) g (held-is-list h ps ok) once (omega (arith, length-held h ps ok, room))) in
     let s = read-taken reads-dimacs read g long due in
     let same : r .head ≡ h = s .1 ∙ sym (held-head h ps ok) in
     (s .0, same, records same (s .2) (s .3) ok)

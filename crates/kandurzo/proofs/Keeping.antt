@@ -8,12 +8,12 @@
 --   pair-removed, remove-drops         and after a remove
 --   start-head                         a head without pairs
 --   start-agrees, add-agrees, remove-agrees    head and list agree after every taken call
---   same-pairs-same-records, add-undone    lists that hold the same pairs; a pair added and removed
+--   same-pairs-same-records, add-undone    lists that hold the same pairs with the same counts; a new pair added and removed
 -- Assumes nothing.
 use mathlib.Core.Path.{_≡_, refl, sym, ap, _∙_}
 use mathlib.Core.Bool.{true, false}
 use mathlib.Core.List.{List, [], _∷_}
-use Prim.Native.Nat.{ℕ, _+_, _-_, _<_, min, max}
+use Prim.Native.Nat.{ℕ, _+_, _-_, _≤_, _<_, min, max}
 use native.Mathlib.Omega.{arith}
 use lib.Dec.{ltb}
 use lib.ListN.{length, getD, take, drop, length-append, length-drop}
@@ -26,14 +26,16 @@ use Rattle.theory.specs.Refusals.{refusal, if-taken}
 use Rattle.theory.proofs.Tests.{tests, no, by-test}
 use Rattle.theory.proofs.Lists.{listed, is-listed}
 use Rattle.theory.proofs.Refusals.{if-taken-new}
-use Rattle.pairs.specs.Held.{same-ends, is-held, insert-pair, remove-pair, with-pair, without-pair, smaller-first-pair}
+use Rattle.pairs.specs.Held.{same-ends, is-held, weight-of, insert-pair, raise-pair, remove-pair, without-pair, smaller-first-pair, stops-of}
 use Rattle.pairs.specs.Causes.{add-causes, remove-causes}
 use Rattle.pairs.proofs.Order.{before-not-same, same-refl, same-sym}
-use Rattle.pairs.proofs.Causes.{pair-round, causes-round}
+use Rattle.pairs.proofs.Causes.{pair-round, stops-round, causes-round}
 use Rattle.pairs.proofs.General.{all-at}
 use Rattle.pairs.proofs.Rising.{rising-at}
-use Rattle.pairs.proofs.Changes.{insert-held, remove-held, insert-remove}
-use Rattle.pairs.proofs.Keeps.{ones-alone}
+use Rattle.pairs.proofs.Changes.{remove-held, insert-remove}
+use Rattle.pairs.proofs.Ends.{stops-ends, stops-held}
+use Rattle.pairs.proofs.Places.{raise-new}
+use Rattle.pairs.proofs.Raised.{stops-raised, stops-counted, remove-weight, weights-alone}
 use Rattle.pairfile.specs.File.{modules-causes}
 use Rattle.pairfile.proofs.Taken.{modules-unmet}
 use Rattle.records.specs.declared.Pair.{Pair}
@@ -41,11 +43,13 @@ use Rattle.records.specs.declared.Head.{Head}
 use Rattle.records.specs.Records.{as-pair, held-list, agrees, blank}
 use Rattle.kandurzo.specs.declared.Changed.{Changed}
 use Rattle.kandurzo.specs.declared.Placed.{Placed}
-use Rattle.kandurzo.specs.Listing.{head-of, changed-to, started, as-records, add-number, added, Add-says, remove-number, removed, Remove-says}
+use Rattle.kandurzo.specs.Listing.{head-of, changed-to, started, as-records, add-number, pairs-then, added, Add-says}
+use Rattle.kandurzo.specs.Listing.{remove-number, removed, Remove-says}
 use Rattle.kandurzo.specs.Keeping.{pair-at, Held-once, Either-way-round, Add-exactly, Remove-exactly, Pair-added, Add-holds, Pair-removed, Remove-drops}
 use Rattle.kandurzo.specs.Keeping.{Same-pairs-same-records, Add-undone}
 use Rattle.kandurzo.specs.Placing.{place-number, Place-says}
-use Rattle.kandurzo.proofs.Taken.{length-as-records, held-few, held-is-list, length-held, record-there, held-ones, held-records, agrees-front}
+use Rattle.kandurzo.proofs.Stopping.{weights-some, remove-same}
+use Rattle.kandurzo.proofs.Taken.{length-as-records, held-few, held-is-list, length-held, record-there, held-records, agrees-front}
 use Rattle.kandurzo.proofs.Taken.{taken-addable, addable-taken, held-removable, taken-removable, removable-taken}
 use Rattle.kandurzo.proofs.Taken.{added-length, held-added, added-agrees, removed-one, held-removed, removed-agrees}
 
@@ -61,8 +65,8 @@ ordered a b l =
 
 module _ (h : Head) (ps : List Pair) (agreed : agrees h ps ≡ true) where
   -- the record at a place stands for the held pair there
-  held-at-place : (i : ℕ) → i < h .m → pair-at ps i ≡ getD (held-list h ps .pairs) i (as-pair blank)
-  unfolding pair-at as-pair pair smaller-first
+  held-at-place : (i : ℕ) → i < h .m → let r = getD (held-list h ps .pairs) i (as-pair blank) in pair-at ps i ≡ pair (r .a) (r .b)
+  unfolding pair-at as-pair smaller-first
   held-at-place i l =
       let p : Pair = getD ps i blank in
       let there : getD (held-list h ps .pairs) i (as-pair blank) ≡ as-pair p = record-there h ps i l in
@@ -70,10 +74,11 @@ module _ (h : Head) (ps : List Pair) (agreed : agrees h ps ≡ true) where
       ap smaller-first (sym there)
       ∙ all-at smaller-first (held-list h ps .pairs) i (as-pair blank) (listed (held-list h ps) (held-is-list h ps agreed) .first)
       (omega (arith, length-held h ps agreed)) in
-      ordered (p .a) (p .b) (simp tests at first) ∙ sym there
+      ordered (p .a) (p .b) (simp tests at first) ∙ ap (λ (r : Lists.Pair). pair (r .a) (r .b)) (sym there)
 
   -- two places have two pairs
   places-differ : (i j : ℕ) → i < j → j < h .m → same-ends (pair-at ps i) (pair-at ps j) ≡ false
+  unfolding same-ends pair
   places-differ i j l k =
       rw (held-at-place i (omega arith), held-at-place j k)
       (before-not-same _ _
@@ -87,13 +92,14 @@ held-once h ps i j agreed l k same =
     (λ t. by-test (ltb j i) (λ u. no (sym (places-differ h ps agreed j i (ltb-true j i u) l) ∙ same-sym (pair-at ps i) (pair-at ps j) same))
     (λ u. omega (arith, ltb-false i j t, ltb-false j i u)))
 
--- lists that hold the same pairs have the same held records, whatever calls made them
+-- lists that hold the same pairs with the same counts have the same held records, whatever calls made them
 pub same-pairs-same-records : Same-pairs-same-records
 unfolding Same-pairs-same-records
 same-pairs-same-records h k ps qs x y same =
+    let l = listed (held-list h ps) (held-is-list h ps x) in
+    let j = listed (held-list k qs) (held-is-list k qs y) in
     let pairs : held-list h ps .pairs ≡ held-list k qs .pairs =
-    ones-alone (held-list h ps .pairs) (held-list k qs .pairs) (listed _ (held-is-list h ps x) .rises) (listed _ (held-is-list k qs y) .rises)
-    (held-ones h ps x) (held-ones k qs y) same in
+    weights-alone (held-list h ps .pairs) (held-list k qs .pairs) (l .rises) (j .rises) (weights-some _ (l .weights)) (weights-some _ (j .weights)) same in
     (sym (length-held h ps x) ∙ ap length pairs ∙ length-held k qs y, sym (held-records h ps x) ∙ ap as-records pairs ∙ held-records k qs y)
 
 -- ---- a call that is taken
@@ -117,27 +123,33 @@ module _ {k : ℕ} {new : Head} {after : List Pair} {r : Changed} {ps′ : List 
 
 module _ {h : Head} {ps : List Pair} {a b : ℕ} {r : Changed} {ps′ : List Pair} where
   -- from what add says, and from what remove says
-  pub add-passed : Add-says h ps a b r ps′ → r .number ≡ 0 → Passed (add-number h ps a b) (head-of (h .n) (h .m + 1)) (added h ps a b) r ps′
+  pub add-passed : {w : ℕ} → Add-says h ps a b w r ps′ → r .number ≡ 0 →
+      Passed (add-number h ps a b w) (head-of (h .n) (pairs-then h ps a b)) (added h ps a b w) r ps′
   add-passed says none = passed h ps (says .number) (says .head) (says .list) none
 
   pub remove-passed : Remove-says h ps a b r ps′ → r .number ≡ 0 → Passed (remove-number h ps a b) (head-of (h .n) (h .m - 1)) (removed h ps a b) r ps′
   remove-passed says none = passed h ps (says .number) (says .head) (says .list) none
 
 -- an add whose number is 0 says that it is taken
-pub add-says : (h : Head) (ps : List Pair) (a b : ℕ) → add-number h ps a b ≡ 0 →
-    Add-says h ps a b (changed-to 0 (head-of (h .n) (h .m + 1))) (added h ps a b)
+pub add-says : (h : Head) (ps : List Pair) (a b w : ℕ) → add-number h ps a b w ≡ 0 →
+    Add-says h ps a b w (changed-to 0 (head-of (h .n) (pairs-then h ps a b))) (added h ps a b w)
 unfolding changed-to
-add-says h ps a b e = record { number = sym e; head = sym (if-taken-new _ _ _ e); list = sym (if-taken-new _ _ _ e) }
+add-says h ps a b w e = record { number = sym e; head = sym (if-taken-new _ _ _ e); list = sym (if-taken-new _ _ _ e) }
 
 -- ---- either way round
 
 module _ (h : Head) (ps : List Pair) (a b : ℕ) (r : Changed) (ps′ : List Pair) where
   -- what add says of a and b it says of b and a
-  add-round : Add-says h ps a b r ps′ → Add-says h ps b a r ps′
-  unfolding added
-  add-round says =
-      let k : add-number h ps a b ≡ add-number h ps b a = unfold add-number add-causes in (rw (causes-round a b 0 (held-list h ps .n), pair-round a b)) in
-      record { number = says .number ∙ k; head = rw k at (says .head); list = rw (k, pair-round a b) at (says .list) }
+  add-round : (w : ℕ) → Add-says h ps a b w r ps′ → Add-says h ps b a w r ps′
+  unfolding added pairs-then
+  add-round w says =
+      let k : add-number h ps a b w ≡ add-number h ps b a w =
+      unfold add-number add-causes in (rw (causes-round a b 0 (held-list h ps .n), pair-round a b)) in
+      record {
+        number = says .number ∙ k;
+        head = rw (k, pair-round a b) at (says .head);
+        list = rw (k, pair-round a b, stops-round a b w) at (says .list);
+      }
 
   -- and so does remove
   remove-round : Remove-says h ps a b r ps′ → Remove-says h ps b a r ps′
@@ -159,15 +171,15 @@ place-round h ps a b r says = record {
 
 -- 2,5 is the same pair as 5,2: they answer and leave the same, whichever module is named first
 pub either-way-round : Either-way-round
-either-way-round = record { add = add-round; remove = remove-round; place = place-round }
+either-way-round = record { add = λ h ps a b w r ps′. add-round h ps a b r ps′ w; remove = remove-round; place = place-round }
 
 -- ---- which calls are taken
 
--- an add is taken where its pair is new, of two different modules, and a record is free; no other is
+-- an add is taken where it is of two different modules, the pair's count stays at 1,000 or less, and a record is free for a new pair; no other is
 pub add-exactly : Add-exactly
 unfolding Add-exactly
-add-exactly h ps a b r ps′ says =
-    (λ none. taken-addable h ps a b (sym (says .number) ∙ none), λ x. says .number ∙ addable-taken h ps a b x)
+add-exactly h ps a b w r ps′ says =
+    (λ none. taken-addable h ps a b w (sym (says .number) ∙ none), λ x. says .number ∙ addable-taken h ps a b w x)
 
 -- a remove is taken where its pair is held; no other is
 pub remove-exactly : Remove-exactly
@@ -189,35 +201,45 @@ start-agrees n ps e =
     let k = modules-unmet n e in
     let none : is-list (record { n = n; pairs = [] }) ≡ true =
     is-listed _ record { some = k .0; few = k .1; short = omega arith; ends = refl; first = refl; weights = refl; rises = refl } in
-    rw (start-head n e) (agrees-front n 0 [] ps refl refl none)
+    rw (start-head n e) (agrees-front n 0 [] ps refl none)
+
+-- there is room for the pairs held after a taken add
+then-room : (h : Head) (ps : List Pair) (a b w : ℕ) → add-number h ps a b w ≡ 0 → pairs-then h ps a b ≤ length ps
+unfolding pairs-then
+then-room h ps a b w e =
+    let x = taken-addable h ps a b w e in
+    by-test (is-held (smaller-first-pair a b) (held-list h ps .pairs)) (λ t. rw t (held-few h ps (x .agreed))) (λ t. rw t (omega (arith, x .room t .1)))
 
 -- the list of a taken add
-pub pair-added : (h : Head) (ps : List Pair) (a b : ℕ) → add-number h ps a b ≡ 0 →
-    Pair-added h ps a b (head-of (h .n) (h .m + 1)) (added h ps a b)
-unfolding head-of added with-pair
-pair-added h ps a b e =
-    let new : List Lists.Pair = insert-pair (smaller-first-pair a b) (held-list h ps .pairs) in
-    let long : length (as-records new) ≡ h .m + 1 = length-as-records new ∙ added-length h ps a b e in
+pub pair-added : (h : Head) (ps : List Pair) (a b w : ℕ) → add-number h ps a b w ≡ 0 →
+    Pair-added h ps a b w (head-of (h .n) (pairs-then h ps a b)) (added h ps a b w)
+unfolding head-of added
+pair-added h ps a b w e =
+    let before : List Lists.Pair = held-list h ps .pairs in
+    let new : List Lists.Pair = raise-pair (stops-of a b w) before in
+    let m : ℕ = pairs-then h ps a b in
+    let long : length (as-records new) ≡ m = length-as-records new ∙ added-length h ps a b w e in
+    let rises : rising before ≡ true = listed _ (held-is-list h ps (taken-addable h ps a b w e .agreed)) .rises in
     record {
       modules = refl;
       pairs = refl;
-      held = λ p. ap (λ (g : Pairs). is-held p (g .pairs)) (held-added h ps a b e) ∙ insert-held p (smaller-first-pair a b) (held-list h ps .pairs);
-      same-length =
-          omega (arith, length-append (as-records new) (drop (h .m + 1) ps), long, length-drop (h .m + 1) ps, taken-addable h ps a b e .room);
-      past = drop-at (as-records new) (drop (h .m + 1) ps) (h .m + 1) long;
+      stops = λ p. ap (λ (g : Pairs). weight-of p (g .pairs)) (held-added h ps a b w e) ∙ stops-counted p a b w before rises;
+      held = λ p. ap (λ (g : Pairs). is-held p (g .pairs)) (held-added h ps a b w e) ∙ stops-raised p a b w before;
+      same-length = omega (arith, length-append (as-records new) (drop m ps), long, length-drop m ps, then-room h ps a b w e);
+      past = drop-at (as-records new) (drop m ps) m long;
     }
 
--- after an add that is taken its pair is held, and nothing else changed
+-- after an add that is taken its pair is held with so many stops more, and nothing else changed
 pub add-holds : Add-holds
 unfolding Add-holds
-add-holds h ps a b r ps′ says none =
-    passed-on (Pair-added h ps a b) (add-passed says none) (pair-added h ps a b)
+add-holds h ps a b w r ps′ says none =
+    passed-on (Pair-added h ps a b w) (add-passed says none) (pair-added h ps a b w)
 
 -- head and list agree after a taken add
-pub add-agrees : (h : Head) (ps : List Pair) (a b : ℕ) (r : Changed) (ps′ : List Pair) →
-    Add-says h ps a b r ps′ → r .number ≡ 0 → agrees (r .head) ps′ ≡ true
-add-agrees h ps a b r ps′ says none =
-    passed-on (λ k qs. agrees k qs ≡ true) (add-passed says none) (added-agrees h ps a b)
+pub add-agrees : (h : Head) (ps : List Pair) (a b w : ℕ) (r : Changed) (ps′ : List Pair) →
+    Add-says h ps a b w r ps′ → r .number ≡ 0 → agrees (r .head) ps′ ≡ true
+add-agrees h ps a b w r ps′ says none =
+    passed-on (λ k qs. agrees k qs ≡ true) (add-passed says none) (added-agrees h ps a b w)
 
 -- the list of a taken remove
 pub pair-removed : (h : Head) (ps : List Pair) (a b : ℕ) → remove-number h ps a b ≡ 0 →
@@ -225,6 +247,7 @@ pub pair-removed : (h : Head) (ps : List Pair) (a b : ℕ) → remove-number h p
 unfolding head-of removed without-pair
 pair-removed h ps a b e =
     let agreed = taken-removable h ps a b e .agreed in
+    let rises = listed (held-list h ps) (held-is-list h ps agreed) .rises in
     let rest : List Lists.Pair = remove-pair (smaller-first-pair a b) (held-list h ps .pairs) in
     let one : length (as-records rest) + 1 ≡ h .m = ap (λ (k : ℕ). k + 1) (length-as-records rest) ∙ removed-one h ps a b e in
     record {
@@ -232,12 +255,15 @@ pair-removed h ps a b e =
       pairs = omega arith;
       held =
           λ p. ap (λ (g : Pairs). is-held p (g .pairs)) (held-removed h ps a b e)
-          ∙ remove-held p (smaller-first-pair a b) (held-list h ps .pairs) (listed _ (held-is-list h ps agreed) .rises);
+          ∙ remove-held p (smaller-first-pair a b) (held-list h ps .pairs) rises;
+      stops =
+          λ p. ap (λ (g : Pairs). weight-of p (g .pairs)) (held-removed h ps a b e)
+          ∙ remove-weight p (smaller-first-pair a b) (held-list h ps .pairs) rises;
       same-length = omega (arith, length-append (as-records rest) (blank ∷ drop (h .m) ps), one, length-drop (h .m) ps, held-few h ps agreed);
       past = drop-at (as-records rest) (blank ∷ drop (h .m) ps) (h .m - 1) (omega (arith, one));
     }
 
--- after a remove that is taken its pair is no longer held, and nothing else changed
+-- after a remove that is taken its pair is gone with its whole count, and nothing else changed
 pub remove-drops : Remove-drops
 unfolding Remove-drops
 remove-drops h ps a b r ps′ says none =
@@ -249,36 +275,43 @@ pub remove-agrees : (h : Head) (ps : List Pair) (a b : ℕ) (r : Changed) (ps′
 remove-agrees h ps a b r ps′ says none =
     passed-on (λ k qs. agrees k qs ≡ true) (remove-passed says none) (removed-agrees h ps a b)
 
--- ---- a pair added and removed again
+-- ---- a new pair added and removed again
 
-module _ (h : Head) (ps : List Pair) (a b : ℕ) (taken : add-number h ps a b ≡ 0) where
+module _ (h : Head) (ps : List Pair) (a b w : ℕ) (taken : add-number h ps a b w ≡ 0)
+    (new : is-held (smaller-first-pair a b) (held-list h ps .pairs) ≡ false) where
   abbrev more : Head
-  more = head-of (h .n) (h .m + 1)
+  more = head-of (h .n) (pairs-then h ps a b)
 
   -- removing it is taken
-  undo-taken : remove-number more (added h ps a b) a b ≡ 0
+  undo-taken : remove-number more (added h ps a b w) a b ≡ 0
   undo-taken =
-      let new : Lists.Pair = smaller-first-pair a b in
-      let own : is-held new (held-list more (added h ps a b) .pairs) ≡ true = pair-added h ps a b taken .held new ∙ rw (same-refl new) in
-      removable-taken more (added h ps a b) a b (held-removable more (added h ps a b) a b (added-agrees h ps a b taken) own)
+      let p : Lists.Pair = smaller-first-pair a b in
+      let own : is-held p (held-list more (added h ps a b w) .pairs) ≡ true = pair-added h ps a b w taken .held p ∙ rw (same-refl p) in
+      removable-taken more (added h ps a b w) a b (held-removable more (added h ps a b w) a b (added-agrees h ps a b w taken) own)
 
-  -- and leaves the held records as they were
-  undo-records : take (h .m) (removed more (added h ps a b) a b) ≡ take (h .m) ps
-  unfolding removed with-pair
+  -- and leaves the held pairs as they were
+  undo-pairs : remove-pair (smaller-first-pair a b) (held-list more (added h ps a b w) .pairs) ≡ held-list h ps .pairs
+  undo-pairs =
+      let p : Lists.Pair = stops-of a b w in
+      let gs : List Lists.Pair = held-list h ps .pairs in
+      ap (λ (g : Pairs). remove-pair (smaller-first-pair a b) (g .pairs)) (held-added h ps a b w taken)
+      ∙ ap (remove-pair (smaller-first-pair a b)) (raise-new p gs (stops-held a b w gs ∙ new))
+      ∙ sym (remove-same p (smaller-first-pair a b) (insert-pair p gs) (stops-ends a b w)) ∙ insert-remove p gs
+
+  -- and so the held records
+  undo-records : take (h .m) (removed more (added h ps a b w) a b) ≡ take (h .m) ps
+  unfolding removed
   undo-records =
-      let agreed = taken-addable h ps a b taken .agreed in
-      let back : remove-pair (smaller-first-pair a b) (held-list more (added h ps a b) .pairs) ≡ held-list h ps .pairs =
-      ap (λ (g : Pairs). remove-pair (smaller-first-pair a b) (g .pairs)) (held-added h ps a b taken)
-      ∙ insert-remove (smaller-first-pair a b) (held-list h ps .pairs) in
-      rw back (take-at (as-records (held-list h ps .pairs)) _ (h .m) (length-as-records _ ∙ length-held h ps agreed) ∙ held-records h ps agreed)
+      let agreed = taken-addable h ps a b w taken .agreed in
+      rw undo-pairs (take-at (as-records (held-list h ps .pairs)) _ (h .m) (length-as-records _ ∙ length-held h ps agreed) ∙ held-records h ps agreed)
 
--- a pair added can be removed again, which leaves head and held records as they were
+-- a new pair added can be removed again, which leaves head and held records as they were
 pub add-undone : Add-undone
-unfolding Add-undone head-of
-add-undone h ps a b r s qs rs adds none removes =
+unfolding Add-undone head-of pairs-then
+add-undone h ps a b w r s qs rs adds none new removes =
     let x = add-passed adds none in
-    let says : Remove-says (head-of (h .n) (h .m + 1)) (added h ps a b) a b s rs = rw (x .head, x .list) at removes in
-    let number : s .number ≡ 0 = says .number ∙ undo-taken h ps a b (x .taken) in
+    let says : Remove-says (head-of (h .n) (pairs-then h ps a b)) (added h ps a b w) a b s rs = rw (x .head, x .list) at removes in
+    let number : s .number ≡ 0 = says .number ∙ undo-taken h ps a b w (x .taken) new in
     let y = remove-passed says number in
-    let m : h .m + 1 - 1 ≡ h .m = omega arith in
-    (number, y .head ∙ ap (head-of (h .n)) m, ap (take (h .m)) (y .list) ∙ undo-records h ps a b (x .taken))
+    let m : pairs-then h ps a b - 1 ≡ h .m = rw new (omega arith) in
+    (number, y .head ∙ ap (head-of (h .n)) m, ap (take (h .m)) (y .list) ∙ undo-records h ps a b w (x .taken) new)

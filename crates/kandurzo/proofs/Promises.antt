@@ -3,19 +3,19 @@
 --   refusals-keep, unsplit-never, fifteen-never    refusals
 --   peel-exact, check-exact, solve-alone, solve-accepted, records-in-order    answers
 --   held-once, either-way-round, add-exactly, remove-exactly, add-holds, remove-drops, thirteen-never-follows    one pair more, one pair less
---   arrival-traceless, any-order-taken, every-list-added, same-pairs-same-records, add-undone    the order of arrival
+--   arrival-traceless, any-order-taken, one-at-a-time, every-list-added, same-pairs-same-records, add-undone    the order of arrival
 --   every-file-read, read-exact    read
 --   five-before-four, otherwise-as-before    5 before 4
---   add-puts-there, remove-takes-there, refused-as-remove, every-place-answered    where a pair stands
+--   add-puts-there, add-raises-there, remove-takes-there, refused-as-remove, every-place-answered    where a pair stands
 --   every-list-written, written-read, read-rewritten, comments-unread, read-dimacs-exact, every-dimacs-read    read_dimacs and write_dimacs
 -- Assumes nothing.
 use Rattle.kandurzo.specs.Promise.{Lent-held, Every-list-peeled, Every-list-solved, Every-list-judged, Every-list-compared, Refusals-keep, Unsplit-never}
 use Rattle.kandurzo.specs.Promise.{Fifteen-never, Peel-exact, Check-exact, Solve-alone, Solve-accepted, Records-in-order}
 use Rattle.kandurzo.specs.Keeping.{Held-once, Either-way-round, Add-exactly, Remove-exactly, Add-holds, Remove-drops, Thirteen-never-follows}
-use Rattle.kandurzo.specs.Keeping.{Arrival-traceless, Any-order-taken, Every-list-added, Same-pairs-same-records, Add-undone}
+use Rattle.kandurzo.specs.Keeping.{Arrival-traceless, Any-order-taken, One-at-a-time, Every-list-added, Same-pairs-same-records, Add-undone}
 use Rattle.kandurzo.specs.Keeping.{Every-file-read, Read-exact}
 use Rattle.kandurzo.specs.Twice.{Five-before-four, Otherwise-as-before}
-use Rattle.kandurzo.specs.Placing.{Add-puts-there, Remove-takes-there, Refused-as-remove, Every-place-answered}
+use Rattle.kandurzo.specs.Placing.{Add-puts-there, Add-raises-there, Remove-takes-there, Refused-as-remove, Every-place-answered}
 use Rattle.kandurzo.specs.Exchange.{Every-list-written, Written-read, Read-rewritten, Comments-unread, Read-dimacs-exact, Every-dimacs-read}
 use Rattle.kandurzo.proofs.Readings.{reads-file, reads-dimacs}
 use Rattle.kandurzo.proofs.Exchanges as exchange
@@ -26,7 +26,7 @@ use Rattle.kandurzo.proofs.Keeping as keeping
 use Rattle.kandurzo.proofs.Arrivals as arrivals
 use Rattle.kandurzo.proofs.ReadKeeps as reading
 use Rattle.kandurzo.proofs.Twice as twice
-use Rattle.kandurzo.proofs.Placings as placing
+use Rattle.kandurzo.proofs.AtPlace as placing
 
 -- ---- every list
 
@@ -111,6 +111,9 @@ arrival-traceless = arrivals.arrival-traceless
 pub any-order-taken : Any-order-taken
 any-order-taken = arrivals.any-order-taken
 
+pub one-at-a-time : One-at-a-time
+one-at-a-time = arrivals.one-at-a-time
+
 pub every-list-added : Every-list-added
 every-list-added = arrivals.every-list-added
 
@@ -140,6 +143,9 @@ otherwise-as-before = twice.otherwise-as-before
 
 pub add-puts-there : Add-puts-there
 add-puts-there = placing.add-puts-there
+
+pub add-raises-there : Add-raises-there
+add-raises-there = placing.add-raises-there
 
 pub remove-takes-there : Remove-takes-there
 remove-takes-there = placing.remove-takes-there

@@ -1,6 +1,7 @@
 -- What holds after read or read_dimacs has taken a file: head and list agree, and the list holds exactly the pairs that the file names.
 --   read-agrees-after     13 never follows
 --   read-holds, read-taken    the file says what is held, records past it stay; a file that says a list is taken
+--   taken-holds           and what holds of its pairs holds of those held then
 --   read-exact, read-dimacs-exact         the bytes are the file of the list that is held
 --   every-file-read, every-dimacs-read    every file of different pairs is taken
 -- Assumes nothing.
@@ -10,16 +11,14 @@ use mathlib.Core.List.{List}
 use Prim.Native.Nat.{ℕ, _≤_}
 use lib.ListN.{length, drop}
 use lib.Seq.{drop-at}
-use Rattle.theory.specs.Basics.{all}
 use Rattle.theory.specs.Lists as Lists
 use Rattle.theory.specs.Lists.{Pairs}
+use Rattle.pairs.proofs.Keeps.{counts-once}
 use Rattle.lines.specs.Outcomes.{Outcome, taken}
-use Rattle.pairfile.specs.File.{file-of}
-use Rattle.pairfile.specs.Promise.{Names, names-two, Different}
+use Rattle.pairfile.specs.Promise.{Names, Names-stops, all-once}
 use Rattle.pairfile.specs.Answers.{reading-of, pairs-of}
 use Rattle.pairfile.proofs.Accepts as File
-use Rattle.pairfile.proofs.ReadsEvery.{Gathered, gathered, gathered-read}
-use Rattle.dimacs.specs.Edges.{dimacs-file}
+use Rattle.pairfile.proofs.ReadsEvery.{gathered, gathered-read, gathered-ones}
 use Rattle.dimacs.proofs.Accepts as Dimacs
 use Rattle.dimacs.proofs.ReadsBack.{gathered-back}
 use Rattle.records.specs.declared.Pair.{Pair}
@@ -88,6 +87,14 @@ module _ {read : Reader} (reads : Reads read) {bytes : List ℕ} {ps : List Pair
       (r .number ≡ 0) × (r .head ≡ head-of (g .n) (length (g .pairs))) × (held-list (r .head) ps′ ≡ g) × (agrees (r .head) ps′ ≡ true)
   read-taken g long due = taken-so g (outcome-long read (length ps) (length work) bytes long ∙ due)
 
+  -- and what holds of its pairs holds of those held then
+  taken-holds : (P : List Lists.Pair → Type 0) (n m : ℕ) (pairs : List Lists.Pair) → length pairs ≡ m → P pairs → 16384 ≤ length work →
+      read (length ps) bytes ≡ taken (record { n = n; pairs = pairs }) →
+      (r .number ≡ 0) × (r .head ≡ head-of n m) × P (held-list (r .head) ps′ .pairs)
+  taken-holds P n m pairs size holds long due =
+      let s = read-taken (record { n = n; pairs = pairs }) long due in
+      (s .0, s .1 ∙ ap (head-of n) size, rw (s .2) holds)
+
 -- the pairs held after a file is taken are exactly those that it names
 pub read-exact : Read-exact
 unfolding Read-exact
@@ -102,23 +109,17 @@ read-dimacs-exact bytes ps work r ps′ work′ call z =
     (Dimacs.accepted (length ps) bytes (held-list (r .head) ps′) (t .0), t .1)
 
 -- every file of different pairs is taken, in whatever order they come and whichever module stands first on a line
-module _ (n : ℕ) (lines : List Lists.Pair) (low : 1 ≤ n) (high : n ≤ 512) (short : length lines ≤ 4096) (two : all (names-two n) lines ≡ true)
-    (once : Different lines) where
-  every : {read : Reader} (reads : Reads read) (bytes : List ℕ) {ps : List Pair} {work : List ℕ} {r : Changed} {ps′ : List Pair} {work′ : List ℕ} →
-      ((t : Gathered n lines) → read (length ps) bytes ≡ taken (record { n = n; pairs = t .pairs })) → 16384 ≤ length work →
-      Read-call read bytes ps work r ps′ work′ →
-      (r .number ≡ 0) × (r .head ≡ head-of n (length lines)) × Names lines (held-list (r .head) ps′ .pairs)
-  every reads bytes due long call =
-      let t = gathered n lines two once in
-      let s = read-taken reads call (record { n = n; pairs = t .pairs }) long (due t) in
-      (s .0, s .1 ∙ ap (head-of n) (t .size), rw (s .2) (t .named))
-
 pub every-file-read : Every-file-read
 unfolding Every-file-read
-every-file-read n lines ps work r ps′ work′ low high short fits long two once call =
-    every n lines low high short two once reads-file (file-of n lines) (λ t. gathered-read (length ps) n lines t low high short fits) long call
+every-file-read n lines ps work r ps′ work′ low high short fits long named once call =
+    let t = gathered n lines named once in
+    taken-holds reads-file call (Names-stops lines) n (length lines) (t .pairs) (t .size) (t .named) long
+    (gathered-read (length ps) n lines t low high short fits)
 
 pub every-dimacs-read : Every-dimacs-read
-unfolding Every-dimacs-read
+unfolding Every-dimacs-read all-once counts-once
 every-dimacs-read n lines ps work r ps′ work′ low high short fits long two once call =
-    every n lines low high short two once reads-dimacs (dimacs-file n lines) (λ t. gathered-back (length ps) n lines t low high short fits) long call
+    let t = gathered-ones n lines two once in
+    let s = taken-holds reads-dimacs call (λ qs. Names lines qs × (all-once qs ≡ true)) n (length lines) (t .pairs) (t .size) (t .named, t .kept .once) long
+    (gathered-back (length ps) n lines t low high short fits) in
+    (s .0, s .1, s .2 .0, s .2 .1)

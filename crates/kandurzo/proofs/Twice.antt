@@ -11,8 +11,10 @@ use Prim.Native.Nat.{ℕ, zero, suc, _≤_}
 use lib.Dec.{eqb}
 use lib.ListN.{length}
 use Rattle.theory.specs.Basics.{all}
-use Rattle.theory.specs.Lists.{Pairs}
+use Rattle.theory.specs.Lists as Lists
+use Rattle.theory.specs.Lists.{Pairs, weight-in-range}
 use Rattle.theory.specs.Refusals.{Cause, cause, refusal, unmet}
+use Rattle.theory.proofs.Tests.{tests}
 use Rattle.theory.proofs.Refusals.{refusal-passed}
 use Rattle.pairs.specs.Causes.{pair-causes, add-causes, remove-causes}
 use Rattle.pairs.specs.Twice.{Five-else-four, four-first, unknown-twice, From-4-to-5, Only-twice-changes}
@@ -20,6 +22,7 @@ use Rattle.pairs.proofs.Twice.{Gives, five-else-four, only-twice-changes}
 use Rattle.lines.specs.Lines.{first, second}
 use Rattle.lines.specs.Outcomes.{Outcome, refused, taken, _>>=_, _>>_, passed, judge, line-or, line-due}
 use Rattle.pairfile.specs.File.{pair-line-causes, pair-line}
+use Rattle.pairfile.specs.Promise.{names-two, names-stops}
 use Rattle.pairfile.specs.Answers.{reading-of}
 use Rattle.pairfile.specs.Tried.{number-given}
 use Rattle.pairfile.proofs.Twice as File
@@ -54,16 +57,25 @@ file-number {read = read} {bytes = bytes} {ps = ps} {work = work} {r = r} lowest
       unknown = λ d u. is 3 (λ later. five-else-four lowest n a b later .unknown d u);
     }
 
+-- lines that name two modules each, and stop counts
+with-counts : (n : ℕ) (ls : List Lists.Pair) → all (names-two n) ls ≡ true → all weight-in-range ls ≡ true → all (names-stops n) ls ≡ true
+unfolding all names-stops
+with-counts n [] e d = refl
+with-counts n (l ∷ ls) e d =
+    let e′ = simp tests at e in
+    let d′ = simp tests at d in
+    simp tests ((e′ .0, d′ .0), with-counts n ls (e′ .1) (d′ .1))
+
 pub five-before-four : Five-before-four
 unfolding add-number remove-number place-number add-causes remove-causes pair-causes held-list
 five-before-four =
     record {
-      add = λ h ps a b r ps′ says agreed. rw (says .number) (past-13 (agrees h ps) (h .n) a b _ agreed);
+      add = λ h ps a b w r ps′ says agreed. rw (says .number) (past-13 (agrees h ps) (h .n) a b _ agreed);
       remove = λ h ps a b r ps′ says agreed. rw (says .number) (past-13 (agrees h ps) (h .n) a b _ agreed);
       place = λ h ps a b r says agreed. rw (says .number) (past-13 (agrees h ps) (h .n) a b [] agreed);
-      read = λ n m a b lines rest ps work r ps′ work′ u la lb call.
+      read = λ n m a b w lines rest ps work r ps′ work′ u counts la lb lw call.
           file-number 0 n a b call (u .long)
-          (λ k gives. File.file-refused n m a b k lines rest (u .few-modules) (u .two) (u .once) (u .more) la lb gives
+          (λ k gives. File.file-refused n m a b w k lines rest (u .few-modules) (with-counts n lines (u .two) counts) (u .once) (u .more) la lb lw gives
           (length ps) (u .some-modules) (u .few-pairs) (u .room));
       read-dimacs = λ n m a b lines rest ps work r ps′ work′ u la lb call.
           file-number 1 n a b call (u .long)
@@ -105,7 +117,7 @@ unfolding Only-twice-changes all add-number remove-number add-causes remove-caus
     _>>=_
 otherwise-as-before =
     record {
-      add = λ h ps a b r ps′ says. rw (says .number) (behind-13 (agrees h ps) (h .n) a b _);
+      add = λ h ps a b w r ps′ says. rw (says .number) (behind-13 (agrees h ps) (h .n) a b _);
       remove = λ h ps a b r ps′ says. rw (says .number) (behind-13 (agrees h ps) (h .n) a b _);
       pair-line = λ n held bytes l found. rw (found, judged _ _) (only-twice-changes 0 n (first l) (second l) [] _);
       edge-line = λ n left held bytes l found. rw (found, judged _ _) (one-earlier 17 (eqb left 0) 1 n (first l) (second l) _);

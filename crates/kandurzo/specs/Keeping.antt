@@ -1,7 +1,8 @@
 -- What the planner is promised of the list that start, add, remove and read make; of read_dimacs only that 13 never follows, the rest is in Exchange. A
 -- statement is a type; proofs/Promises.antt has a theorem for each, of the same name in small letters; pair-at, Addable, Removable, Pair-added,
--- Pair-removed, Adds, Same-stops and some-stops are what statements say of one place, pair, call or row of calls. Document 01: no pair is held twice, and 2,5 is the
--- same pair as 5,2; the order in which pairs arrived leaves no trace in the first M records.
+-- Pair-removed, Adds, Same-stops and some-stops are what statements say of one place, pair, call or row of calls. Document 01: no pair is held twice, and
+-- 2,5 is the same pair as 5,2; the order in which pairs arrived leaves no trace in the first M records. Document 02, item 4: a pair carries a stop count,
+-- and add to a held pair raises it.
 --   Held-once, Either-way-round                  no pair is held twice, and 2,5 is the same pair as 5,2
 --   Addable, Add-exactly, Removable, Remove-exactly    which adds and which removes are taken
 --   Pair-added, Add-holds                        what is held after an add that is taken, and that nothing else changed

@@ -3,7 +3,8 @@
 -- speaks of a call by what its contract in src/lib.rt says of it (Add-says, Peel-call and so on). The planner's demands:
 --   1. Every list, with buffers of the stated sizes, gets its group, core numbers and load sheet; a call that meets a refusal condition gets that
 --      number and changes no head, list or answer buffer.
---   2. The group is the largest of all groups of greatest ratio; core numbers, leaving order, surplus and file reading are those of document 01.
+--   2. The group is the largest of all groups of greatest ratio; core numbers, leaving order, surplus and file reading are those of document 01, where a
+--      pair counts as often as it has stops (document 02, item 4).
 --   3. For every list, group and split: ratio and greatest load over share size are equal exactly when both are best among all groups and all splits at
 --      every share size. What solve hands out, and whatever check accepts, reaches that equality; P and Q returned are the group's, and the greatest load
 --      at share size Q is exactly P. (The equality: theory, specs/Promise.antt; of solve and check: Optimal, in Handed and in Check-call.)
@@ -139,7 +140,7 @@ pub record Peeling-of (g : Pairs) (order cores : List ℕ) : Type 0 where
   pub leavers : (i : ℕ) → i < g .n → leaver g (left-behind order (everyone g) i) ≡ some (getD order i 0)
   -- each module has its place
   pub places : (m : ℕ) → m < g .n → (i : ℕ) × (i < g .n) × (getD order i 0 ≡ m)
-  -- each core number is the largest k such that the module belongs to a group in which each member has at least k pairs inside
+  -- each core number is the largest k such that the module belongs to a group in which each member's pairs inside have at least k stops
   pub numbers : (m : ℕ) → m < g .n → Largest-order g m (getD cores m 0)
 
 -- WHAT PEEL WRITES are the leavers and the core numbers of document 01

@@ -3,7 +3,7 @@
 //
 // A line is read once and written once, from front to back, at the cost of its bytes. The digits of a number that is written are those of a tenth of
 // it and one more, so `write_number` runs once for each digit, at most ten times, each run called by the one before. How many digits a number that is
-// read may have is the caller's to say: four in pair files, DIMACS files and sheets, nine at most.
+// read may have is the caller's to say: four in pair files and DIMACS files, up to seven on sheets, nine at most.
 use numbers::between;
 ghost use mathlib.Core.Path.{_≡_};
 ghost use Prim.Native.Nat.{_+_, _≤_};

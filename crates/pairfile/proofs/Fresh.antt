@@ -11,10 +11,10 @@ use native.Mathlib.Omega.{arith}
 use Rattle.theory.specs.Basics.{all, mark}
 use Rattle.theory.specs.Lists.{Pair}
 use Rattle.theory.proofs.Tests.{tests}
-use Rattle.pairs.specs.Held.{is-held, insert-pair, smaller-first-pair}
+use Rattle.pairs.specs.Held.{is-held, insert-pair, smaller-first-pair, stops-of}
 use Rattle.pairs.proofs.Order.{same-refl}
 use Rattle.pairfile.specs.Promise.{times-named, names-two, Different}
-use Rattle.pairfile.proofs.Names.{insert-mark, mark-same}
+use Rattle.pairfile.proofs.Names.{stops-mark, mark-same}
 use Rattle.pairfile.proofs.ReadsEvery.{line-two}
 
 -- lines of two different modules each, no pair on two of them, and none held
@@ -39,16 +39,16 @@ module _ (n : ℕ) (l : Pair) (ls held : List Pair) (f : Fresh n (l ∷ ls) held
       let p = smaller-first-pair (l .a) (l .b) in
       mark-same (is-held p held) false (omega (arith, rw same-refl at (f .once p)))
 
-  -- the others, once its pair is held
-  pub fresh-more : Fresh n ls (insert-pair (smaller-first-pair (l .a) (l .b)) held)
+  -- the others, once its pair is held, with any count
+  pub fresh-more : (w : ℕ) → Fresh n ls (insert-pair (stops-of (l .a) (l .b) w) held)
   unfolding all times-named
-  fresh-more =
+  fresh-more w =
       record {
         two = (simp tests at (f .two)) .1;
-        once = λ r. omega (arith, f .once r, insert-mark r (smaller-first-pair (l .a) (l .b)) held fresh-new);
+        once = λ r. omega (arith, f .once r, stops-mark r (l .a) (l .b) w held fresh-new);
       }
 
 -- what is held once they are read
 unfoldable pub held-after : (ls held : List Pair) → List Pair
 held-after [] held = held
-held-after (l ∷ ls) held = held-after ls (insert-pair (smaller-first-pair (l .a) (l .b)) held)
+held-after (l ∷ ls) held = held-after ls (insert-pair (stops-of (l .a) (l .b) (l .w)) held)

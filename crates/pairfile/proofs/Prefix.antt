@@ -10,7 +10,7 @@ use Rattle.theory.specs.Lists.{Pair}
 use Rattle.pairs.specs.Held.{insert-pair}
 use Rattle.lines.specs.Text.{text, between}
 use Rattle.lines.specs.Numbers.{is-digit}
-use Rattle.lines.specs.Lines.{is-place, first, second}
+use Rattle.lines.specs.Lines.{is-place, first, second, third}
 use Rattle.pairfile.specs.File.{
   modules-form,
   pairs-form,
@@ -30,7 +30,7 @@ use Rattle.lines.proofs.Prefix.{span, rest-alike, alike-same, trim-line, judged
 
 -- a pair line has at most 15 bytes
 pairs-trimmed : (n left w : ℕ) (held : List Pair) (bs : List ℕ) → 15 * left + 1 ≤ w → read-pairs n left held (take w bs) ≡ read-pairs n left held bs
-unfolding read-pairs end-causes pair-line first second pair-form text parted starts-plain span is-place is-digit between
+unfolding read-pairs end-causes pair-line first second third pair-form text parted starts-plain span is-place is-digit between
 pairs-trimmed n zero w held bs h = rw (rest-alike w bs (omega arith))
 pairs-trimmed n (suc left) w held bs h =
     alike-same _

@@ -1,5 +1,5 @@
 -- What a reader of words hands over, for its callers.
---   file-numbers       a pair file is refused by 1 to 6, 10 and 11 alone
+--   file-numbers       a pair file is refused by 1 to 6, 10, 11 and 18 alone
 --   Sound, file-sound  a reader's outcome: a refusal number that is not 0, or a list
 --   reading-taken      number 0: the list is in the words
 --   reading-holds      they hold it as a list is held
@@ -73,8 +73,8 @@ file-given room bs =
     (λ k. given-bind (read-pairs (first l) (first k) [] (k .rest)) _ (pairs-given (first l) (first k) [] (k .rest))
     (λ ps. given-taken _)))
 
--- none of them is 0, and none is above 11
-pub file-numbers : (room : ℕ) (bs : List ℕ) (k : ℕ) → read-file room bs ≡ refused k → (1 ≤ k) × (k ≤ 11)
+-- none of them is 0, 12 or 13
+pub file-numbers : (room : ℕ) (bs : List ℕ) (k : ℕ) → read-file room bs ≡ refused k → (1 ≤ k) × (k ≡ 12 → ⊥) × (k ≡ 13 → ⊥)
 file-numbers room bs k e = number-range k (file-given room bs .by k e)
 
 -- what every reader's outcome is: refused by a number that is not 0, or a list

@@ -1,11 +1,12 @@
 -- Pair lines of any form, and a pair file written line by line.
 --   numbered-none                       the pairs numbered from 0 are the pairs
 --   lines-from, next-line, no-line      the lines that are left, the one in front of them, and none
---   lines-length                        how long the lines are
+--   lines-length, lined-bound           how long the lines are, and a file of such lines
 --   holds-short, ends-writable          the pairs of a list in words are at most 4,096, and their modules below 512
 --   lined, lined-length                 N and M by one form, each pair by another: such a file of a list, which 65,536 bytes hold
 --   heads-room, pairs-left              what stands before the pair lines has room, and these are left behind it
 --   heads-form, file-parts, file-length a pair file is such a file, its first two lines as one form
+--   taken-length                        one that is taken stays below 65,536 bytes
 -- Assumes nothing.
 use mathlib.Core.Path.{_≡_, refl}
 use mathlib.Core.Bool.{true}
@@ -17,7 +18,7 @@ use native.Mathlib.Omega.{arith}
 use lib.ListN.{length, getD, drop, drop-of-length-le, length-append}
 use lib.Seq.{drop-cons}
 use Rattle.theory.specs.Basics.{all, mark}
-use Rattle.theory.specs.Lists.{Pair, Pairs, pair, ends-in-range, is-list}
+use Rattle.theory.specs.Lists.{Pair, Pairs, pair, ends-in-range, weight-in-range, is-list}
 use Rattle.theory.specs.Words.{laid-pairs, laid-list, Holds-list}
 use Rattle.theory.proofs.Lists.{listed}
 use Rattle.theory.proofs.Tests.{tests}
@@ -27,8 +28,12 @@ use Rattle.lines.specs.Lines.{is-place, places, filled}
 use Rattle.lines.specs.Putting.{Puts}
 use Rattle.lines.proofs.Lengths.{no-more, and-small, filled-length}
 use Rattle.lines.proofs.Parts.{Left, left-start, left-front, left-step}
-use Rattle.pairfile.specs.File.{modules-form, pairs-form, pair-form, numbered, pair-lines, file-of}
+use Rattle.pairs.proofs.General.{all-weaker}
+use Rattle.lines.specs.Outcomes.{taken}
+use Rattle.pairfile.specs.File.{modules-form, pairs-form, pair-form, read-file, numbered, pair-lines, file-of}
 use Rattle.pairfile.specs.Answers.{Ends-small}
+use Rattle.pairfile.specs.Promise.{names-two, names-stops}
+use Rattle.pairfile.proofs.Accepts.{file-accepted}
 use Rattle.pairfile.proofs.Readings.{ends-small}
 
 -- the pairs numbered from 0 are the pairs
@@ -45,7 +50,7 @@ module _ (form : List ℕ) (lowest m : ℕ) (words : List ℕ) (j : ℕ) where
   -- the next line
   pub next-line : j < m →
       lines-from ≡
-      filled form ((getD words (2 * j) 0 + lowest) ∷ (getD words (2 * j + 1) 0 + lowest) ∷ [])
+      filled form ((getD words (2 * j) 0 + lowest) ∷ (getD words (2 * j + 1) 0 + lowest) ∷ getD words (8192 + j) 0 ∷ [])
       ++ pair-lines form (numbered lowest (drop (j + 1) (laid-pairs m words)))
   unfolding pair-lines numbered
   next-line h =
@@ -58,14 +63,16 @@ module _ (form : List ℕ) (lowest m : ℕ) (words : List ℕ) (j : ℕ) where
 
 -- three bytes at most for each number more than the form has
 pub lines-length : (form : List ℕ) (n lowest : ℕ) (ps : List Pair) → n ≤ 512 → lowest ≤ 1 → all (ends-in-range n) ps ≡ true →
-    length (pair-lines form (numbered lowest ps)) ≤ (length form + 3 * places form) * length ps
-unfolding pair-lines numbered all ends-in-range
-lines-length form n lowest [] h l e = omega arith
-lines-length form n lowest (p ∷ ps) h l e =
+    all weight-in-range ps ≡ true → length (pair-lines form (numbered lowest ps)) ≤ (length form + 3 * places form) * length ps
+unfolding pair-lines numbered all ends-in-range weight-in-range
+lines-length form n lowest [] h l e c = omega arith
+lines-length form n lowest (p ∷ ps) h l e c =
     let e′ = simp tests at e in
-    let small = and-small (p .a + lowest) (omega (arith, e′ .0)) (and-small (p .b + lowest) (omega (arith, e′ .0)) no-more) in
-    let line = filled-length 3 (omega arith) form ((p .a + lowest) ∷ (p .b + lowest) ∷ []) (small .each) in
-    simp length-append (omega (arith, line, lines-length form n lowest ps h l (e′ .1)))
+    let c′ = simp tests at c in
+    let count = and-small (p .w) (omega (arith, c′ .0)) no-more in
+    let small = and-small (p .a + lowest) (omega (arith, e′ .0)) (and-small (p .b + lowest) (omega (arith, e′ .0)) count) in
+    let line = filled-length 3 (omega arith) form ((p .a + lowest) ∷ (p .b + lowest) ∷ p .w ∷ []) (small .each) in
+    simp length-append (omega (arith, line, lines-length form n lowest ps h l (e′ .1) (c′ .1)))
 
 -- ---- a list in words
 
@@ -87,20 +94,26 @@ module _ {n m : ℕ} {words : List ℕ} (w : Holds-list n m words) where
 abbrev pub lined : (heads form : List ℕ) (lowest n : ℕ) → List Pair → List ℕ
 lined heads form lowest n ps = filled heads (n ∷ length ps ∷ []) ++ pair-lines form (numbered lowest ps)
 
+-- how long it is, in whatever order the pairs come
+pub lined-bound : (heads form : List ℕ) (lowest n : ℕ) (ps : List Pair) → lowest ≤ 1 → n ≤ 512 → length ps ≤ 4096 →
+    all (ends-in-range n) ps ≡ true → all weight-in-range ps ≡ true →
+    length (lined heads form lowest n ps) ≤ length heads + 3 * places heads + (length form + 3 * places form) * 4096
+lined-bound heads form lowest n ps low few short ends weights =
+    let small = and-small n (omega arith) (and-small (length ps) (omega arith) no-more) in
+    simp length-append
+    (omega (
+      arith,
+      filled-length 3 (omega arith) heads (n ∷ length ps ∷ []) (small .each),
+      lines-length form n lowest ps few low ends weights,
+      mul-le-mul-left (length form + 3 * places form) short,
+    ))
+
 module _ (heads form : List ℕ) (lowest : ℕ) (low : lowest ≤ 1) (bound : length heads + 3 * places heads + (length form + 3 * places form) * 4096 ≤ 65536) where
   -- 65,536 bytes hold the file of any list
   pub lined-length : (g : Pairs) → is-list g ≡ true → length (lined heads form lowest (g .n) (g .pairs)) ≤ 65536
   lined-length g e =
       let k = listed g e in
-      let small = and-small (g .n) (omega (arith, k .few)) (and-small (length (g .pairs)) (omega (arith, k .short)) no-more) in
-      simp length-append
-      (omega (
-        arith,
-        bound,
-        filled-length 3 (omega arith) heads (g .n ∷ length (g .pairs) ∷ []) (small .each),
-        lines-length form (g .n) lowest (g .pairs) (k .few) low (k .ends),
-        mul-le-mul-left (length form + 3 * places form) (k .short),
-      ))
+      omega (arith, bound, lined-bound heads form lowest (g .n) (g .pairs) low (k .few) (k .short) (k .ends) (k .weights))
 
   module _ {n m : ℕ} {words : List ℕ} (w : Holds-list n m words) (out : List ℕ) (h : 65536 ≤ length out) where
     -- all of the file is to be written
@@ -140,3 +153,15 @@ file-parts n ps = rw (heads-same n (length ps) (pair-lines pair-form (numbered 0
 pub file-length : (g : Pairs) → is-list g ≡ true → length (file-of (g .n) (g .pairs)) ≤ 65536
 unfolding heads-form pair-form text places is-place between mark
 file-length g e = rw (file-parts (g .n) (g .pairs)) (lined-length heads-form pair-form 0 (omega arith) (omega arith) g e)
+
+-- and every pair file that is taken stays below that
+pub taken-length : (room : ℕ) (bs : List ℕ) (g : Pairs) → read-file room bs ≡ taken g → length bs < 65536
+unfolding heads-form pair-form text places is-place between mark names-stops names-two
+taken-length room bs g e =
+    let a = file-accepted room bs g e in
+    let ls = a .file .lines in
+    let k = listed g (a .file .list) in
+    let ends = all-weaker (names-stops (g .n)) (ends-in-range (g .n)) (λ l e. (simp tests at e) .0 .0) ls (a .fit) in
+    let weights = all-weaker (names-stops (g .n)) weight-in-range (λ l e. (simp tests at e) .1) ls (a .fit) in
+    let bound = lined-bound heads-form pair-form 0 (g .n) ls (omega arith) (k .few) (omega (arith, a .file .as-many, k .short)) ends weights in
+    rw (a .file .file, file-parts (g .n) ls) (omega (arith, bound))

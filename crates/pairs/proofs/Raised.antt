@@ -3,27 +3,28 @@
 --   raise-split                  a held pair at its place with the count grown
 --   raise-weights, raise-list    the list as it is held, where the count does not pass 1,000
 --   raise-twice, raise-stops     two raises of one pair are one raise of the sum
+--   stops-raised, stops-counted  some stops of two modules more: their pair is held, its count grows, and nothing else has changed
 --   insert-weight, remove-weight the counts with a pair more, and a pair less
 --   weight-held, weights-alone   rising lists whose counts are the same, each 1 or more, are one list
 -- Assumes nothing.
 use mathlib.Core.Path.{_≡_, refl, sym, ap, _∙_}
-use mathlib.Core.Bool.{true, false, cond}
+use mathlib.Core.Bool.{true, false, _||_, cond}
 use mathlib.Core.List.{List, [], _∷_, _++_}
 use Prim.Native.Nat.{ℕ, suc, _+_, _≤_, _<_}
 use native.Mathlib.Omega.{arith}
 use lib.Dec.{leb}
 use lib.ListN.{length, take, drop}
 use Rattle.theory.specs.Basics.{all}
-use Rattle.theory.specs.Lists.{Pair, Pairs, stands-before, ends-in-range, smaller-first, weight-in-range, rising, is-list}
+use Rattle.theory.specs.Lists.{Pair, Pairs, pair, stands-before, ends-in-range, smaller-first, weight-in-range, rising, is-list}
 use Rattle.theory.proofs.Tests.{tests, no, fails, by-test}
 use Rattle.theory.proofs.Lists.{listed, is-listed}
-use Rattle.pairs.specs.Held.{same-ends, is-held, weight-of, place-of, insert-pair, remove-pair, heavier, raise-pair, stops-of}
+use Rattle.pairs.specs.Held.{same-ends, is-held, weight-of, place-of, insert-pair, remove-pair, heavier, raise-pair, smaller-first-pair, stops-of}
 use Rattle.pairs.proofs.Order.{same-iff, same-refl, same-sym, same-same, order-cases}
 use Rattle.pairs.proofs.Ends.{after-same}
 use Rattle.pairs.proofs.Rising.{rising-iff, lower-not-held, same-not-held}
 use Rattle.pairs.proofs.Changes.{insert-length}
 use Rattle.pairs.proofs.Keeps.{not-held-weight, same-pair, rising-alone}
-use Rattle.pairs.proofs.Counts.{raise-all, raise-rising, raise-weight}
+use Rattle.pairs.proofs.Counts.{raise-held, raise-all, raise-rising, raise-weight}
 use Rattle.pairs.proofs.Places.{raise-new}
 
 -- a held pair leaves as many pairs
@@ -108,6 +109,18 @@ pub raise-stops : (a b v w : ℕ) (ps : List Pair) →
     raise-pair (stops-of a b v) (raise-pair (stops-of a b w) ps) ≡ raise-pair (stops-of a b (w + v)) ps
 unfolding stops-of heavier same-ends
 raise-stops a b v w ps = raise-twice (stops-of a b v) (stops-of a b w) ps (same-refl (stops-of a b w))
+
+-- some stops of two modules more: their pair is held, and nothing else has changed
+pub stops-raised : (r : Pair) (a b w : ℕ) (ps : List Pair) →
+    is-held r (raise-pair (stops-of a b w) ps) ≡ (same-ends r (smaller-first-pair a b) || is-held r ps)
+unfolding stops-of smaller-first-pair pair same-ends
+stops-raised r a b w ps = raise-held r (stops-of a b w) ps
+
+-- and its count grows
+pub stops-counted : (r : Pair) (a b w : ℕ) (ps : List Pair) → rising ps ≡ true →
+    weight-of r (raise-pair (stops-of a b w) ps) ≡ cond (same-ends r (smaller-first-pair a b)) w 0 + weight-of r ps
+unfolding stops-of smaller-first-pair pair same-ends
+stops-counted r a b w ps e = raise-weight r (stops-of a b w) ps e
 
 -- the counts with a pair more, if that was not held
 pub insert-weight : (r p : Pair) (ps : List Pair) → rising ps ≡ true → is-held p ps ≡ false →

@@ -1,5 +1,5 @@
--- Document 01, "Numbers from the input" and "from the state": when add and remove refuse, in their orders; document 02, item 2: 5 before 4; item 3: place; item 4:
--- 18 and 19.
+-- Document 01, "Numbers from the input" and "from the state": when add and remove refuse, in their orders; document 02, item 2: 5 before 4; item 3:
+-- place; item 4: 18 and 19.
 --   is-module, module-unknown, self-paired    whether a number is a module's, as a list or a file numbers them; the conditions of 4 and 5
 --   pair-causes     what add, remove, place and both readers refuse of two module numbers: 5, 4
 --   count-outside, count-passes               the conditions of 18 and 19

@@ -10,7 +10,7 @@ pub const PLACE: u32 = 3;
 
 pub const REMAINDER: u32 = 4;
 
-// Of solve's answer: the first member byte, P, Q, K, the core's size, the first core number, and the first share, which passes Q.
+// Of solve's answer: the first member byte, P, Q, K, the core's size, the first core number, and the first share, which passes W times Q.
 pub const MEMBER: u32 = 5;
 
 pub const INSIDE: u32 = 6;

@@ -81,7 +81,7 @@ pub(crate) fn refused(number: u32) -> Verdict {
 }
 
 // Check; refused by 12 where a buffer is too short.
-pub(crate) fn check(list: Reading, words: &[u32], members: &[u8], shares: &[u16]) -> Verdict
+pub(crate) fn check(list: Reading, words: &[u32], members: &[u8], shares: &[u32]) -> Verdict
     requires { ⌜ Holds-list (list .n) (list .m) (now words) ⌝ }
 {
     let n = list.n as usize;

@@ -1,14 +1,15 @@
 // Check of a sheet by both computations: sheets of solve changed in one place each, and every sheet of a small list. Changes have numbers:
-// 0 nothing; 1 a share raised; 2 lowered; 3 a unit of it goes to the next; 4 the share becomes Q + 1; 5 a member added; 6 one dropped; 7 a byte of 2;
-// 8 all bytes become 0.
+// 0 nothing; 1 a share raised; 2 lowered; 3 a unit of it goes to the next; 4 the share becomes one more than the W times Q units of its pair; 5 a member
+// added; 6 one dropped; 7 a byte of 2; 8 all bytes become 0; 9 the share becomes all units of its pair.
 use crate::calls;
 use crate::entries::byte_at;
 use crate::entries::mark;
 use crate::entries::more;
+use crate::entries::pair_at;
 use crate::entries::put_byte;
-use crate::entries::put_share;
-use crate::entries::share_at;
-use crate::solves::narrow_shares;
+use crate::entries::put_word;
+use crate::entries::times;
+use crate::entries::word_at;
 use crate::tally::Tally;
 use crate::verdicts::check_plainly;
 use crate::verdicts::same_verdict;
@@ -26,7 +27,7 @@ fn answer(number: u32) -> usize {
 }
 
 // Check of one sheet, by both.
-fn judge(list: Reading, words: &[u32], members: &[u8], shares: &[u16], seen: Tally) -> Tally
+fn judge(list: Reading, words: &[u32], members: &[u8], shares: &[u32], seen: Tally) -> Tally
     requires { ⌜ Holds-list (list .n) (list .m) (now words) ⌝ }
 {
     let verdict = calls::check(list, words, members, shares);
@@ -49,20 +50,21 @@ fn less(x: u32) -> u32 {
     if x == 0 { 0 } else { x - 1 }
 }
 
-// A share x of q units, changed.
-fn new_share(change: u32, q: u32, x: u32) -> u32 {
+// A share x of a pair that has `all` units, changed.
+fn new_share(change: u32, all: u32, x: u32) -> u32 {
     match change {
         1 => more(x),
         2 | 3 => less(x),
-        4 => more(q),
+        4 => more(all),
+        9 => all,
         _ => x,
     }
 }
 
 // Changes the share at a place; a unit that goes to the next is one that there is.
-fn change_shares(change: u32, at: u32, q: u32, shares: &mut [u16]) {
-    let x = share_at(shares, at);
-    put_share(shares, at, new_share(change, q, x));
+fn change_shares(change: u32, at: u32, all: u32, shares: &mut [u32]) {
+    let x = word_at(shares, at);
+    put_word(shares, at, new_share(change, all, x));
     if change != 3 {
         return;
     }
@@ -70,7 +72,8 @@ fn change_shares(change: u32, at: u32, q: u32, shares: &mut [u16]) {
         return;
     }
     let next = more(at);
-    put_share(shares, next, more(share_at(shares, next)));
+    let y = word_at(shares, next);
+    put_word(shares, next, more(y));
 }
 
 // A member byte, changed.
@@ -103,10 +106,10 @@ fn try_change(change: u32, at: u32, list: Reading, words: &[u32], seen: Tally) -
 {
     let solved = calls::solve(list, densest::PHASES, 4096, words);
     let record = solved.record;
+    let pair = pair_at(words, at);
     let mut members = solved.members;
-    let mut shares = [0u16; 4096];
-    narrow_shares(list.m, &solved.shares, &mut shares);
-    change_shares(change, at, record.q, &mut shares);
+    let mut shares = solved.shares;
+    change_shares(change, at, times(pair.w, record.q), &mut shares);
     change_bytes(change, at, &mut members);
     judge(list, words, &members, &shares, seen)
 }
@@ -141,37 +144,40 @@ pub(crate) fn spell_bytes(code: u32) -> [u8; 4] {
     ]
 }
 
-fn share(x: u32) -> u16 {
-    (x % 6) as u16
+// Four shares below `base`: the digits of a number in that base, the last one first.
+fn spell_shares(base: u32, code: u32) -> [u32; 4] {
+    if base == 0 {
+        return [0; 4];
+    }
+    let second = code / base;
+    let third = second / base;
+    [code % base, second % base, third % base, third / base]
 }
 
-// Four shares: the digits in base 6.
-fn spell_shares(code: u32) -> [u16; 4] {
-    [
-        share(code),
-        share(code / 6),
-        share(code / 36),
-        share(code / 216),
-    ]
-}
-
-// How many numbers stand for a sheet of 4 modules and m pairs: 81 times 6 to the power of m, where m is at most 4, else 0.
-pub(crate) fn sheet_codes(m: u32) -> u32 {
+// How many numbers stand for the shares of m pairs, each below `base`: none for more than 4 pairs.
+fn share_codes(base: u32, m: u32) -> u32 {
+    let square = times(base, base);
     match m {
-        0 => 81,
-        1 => 486,
-        2 => 2916,
-        3 => 17496,
-        4 => 104976,
+        0 => 1,
+        1 => base,
+        2 => square,
+        3 => times(square, base),
+        4 => times(square, square),
         _ => 0,
     }
 }
 
+// How many numbers stand for a sheet of 4 modules and m pairs, shares below `base`: 81 for the member bytes of each, and none above 110,000.
+pub(crate) fn sheet_codes(base: u32, m: u32) -> u32 {
+    let count = share_codes(base, m);
+    if count < 1359 { 81 * count } else { 0 }
+}
+
 // The sheet of a number: the member bytes of 81, and the shares.
-pub(crate) fn try_sheet(code: u32, list: Reading, words: &[u32], seen: Tally) -> Tally
+pub(crate) fn try_sheet(base: u32, code: u32, list: Reading, words: &[u32], seen: Tally) -> Tally
     requires { ⌜ Holds-list (list .n) (list .m) (now words) ⌝ }
 {
     let members = spell_bytes(code % 81);
-    let shares = spell_shares(code / 81);
+    let shares = spell_shares(base, code / 81);
     judge(list, words, &members, &shares, seen)
 }

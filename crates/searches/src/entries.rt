@@ -1,10 +1,12 @@
-// Entries of buffers: an index past the end reads 0 and writes nothing. Pair j of a list in words has its ends at words 2j and 2j + 1.
+// Entries of buffers: an index past the end reads 0 and writes nothing. Pair j of a list in words has its ends at words 2j and 2j + 1, and its stop count
+// at word 8,192 + j.
 use std::num::wrapping_add_u32;
 
-// The ends of a pair.
-pub struct Ends {
+// The ends of a pair, and its stop count.
+pub struct Pair {
     pub a: u32,
     pub b: u32,
+    pub w: u32,
 }
 
 pub(crate) fn more(x: u32) -> u32 {
@@ -35,37 +37,18 @@ pub(crate) fn put_byte(bytes: &mut [u8], i: u32, x: u8) {
     }
 }
 
-fn wide_share(x: u16) -> u32 {
-    x as u32
-}
-
-pub(crate) fn share_at(shares: &[u16], j: u32) -> u32 {
-    let at = j as usize;
-    if at < shares.len() {
-        wide_share(shares[at])
-    } else {
-        0
-    }
-}
-
-fn narrow_share(x: u32) -> u16 {
-    if x < 65536 { x as u16 } else { 65535 }
-}
-
-// Writes a share; any above 65,535 becomes that.
-pub(crate) fn put_share(shares: &mut [u16], j: u32, x: u32) {
-    let at = j as usize;
-    if at < shares.len() {
-        shares[at] = narrow_share(x);
-    }
-}
-
-pub(crate) fn pair_at(words: &[u32], j: u32) -> Ends {
+pub(crate) fn pair_at(words: &[u32], j: u32) -> Pair {
     let first = wrapping_add_u32(j, j);
-    Ends {
+    Pair {
         a: word_at(words, first),
         b: word_at(words, more(first)),
+        w: word_at(words, wrapping_add_u32(8192, j)),
     }
+}
+
+// The product of two numbers below 2,048; a pair of stop count w has times(w, q) units at share size q.
+pub(crate) fn times(x: u32, y: u32) -> u32 {
+    x % 2048 * (y % 2048)
 }
 
 // Whether the first n entries are the same.

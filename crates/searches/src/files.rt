@@ -4,15 +4,17 @@ use crate::entries::byte_at;
 use crate::entries::more;
 use crate::entries::put_byte;
 use crate::lists::Listed;
+use crate::lists::stops;
 use crate::lists::takes;
 use std::num::wrapping_add_u32;
 
-// How far a walk has come: the pair a,b is next; pairs passed and taken, the random state, and where the text ends.
+// How far a walk has come: the pair a,b is next; pairs passed and taken, the stops of those taken, the random state, and where the text ends.
 pub struct Walk {
     pub a: u32,
     pub b: u32,
     pub passed: u32,
     pub taken: u32,
+    pub stops: u32,
     pub state: u32,
     pub end: u32,
 }
@@ -41,9 +43,10 @@ fn put_number(bytes: &[u8], x: u32, end: u32, text: &mut [u8]) -> u32 {
     put_bytes(&digits[..count], named, text)
 }
 
-fn put_pair(a: u32, b: u32, end: u32, text: &mut [u8]) -> u32 {
-    let first = put_number(b"\npair=", a, end, text);
-    put_number(b",", b, first, text)
+fn put_pair(a: u32, b: u32, w: u32, end: u32, text: &mut [u8]) -> u32 {
+    let first = put_number(b"\n", a, end, text);
+    let second = put_number(b",", b, first, text);
+    put_number(b",", w, second, text)
 }
 
 // The next random state, never 0 after one that is not (xorshift of Marsaglia, 32 bits).
@@ -61,8 +64,10 @@ fn step(list: Listed, walk: Walk, text: &mut [u8]) -> Walk {
         return now;
     }
     if takes(list, walk.a, walk.b, walk.passed, now.state / 65536) {
+        let w = stops(list, walk.passed, now.state % 65536);
         now.taken = more(walk.taken);
-        now.end = put_pair(walk.a, walk.b, walk.end, text);
+        now.stops = wrapping_add_u32(walk.stops, w);
+        now.end = put_pair(walk.a, walk.b, w, walk.end, text);
     }
     now
 }
@@ -86,6 +91,7 @@ fn put_pairs(list: Listed, state: u32, end: u32, text: &mut [u8]) -> Walk {
         b: 1,
         passed: 0,
         taken: 0,
+        stops: 0,
         state,
         end,
     };

@@ -11,7 +11,7 @@ use peel::Remainder;
 // The plain answer.
 pub(crate) fn peel_plainly(list: Reading, words: &[u32]) -> Peeled {
     let mut order = [0u32; 512];
-    let mut cores = [512u32; 512];
+    let mut cores = [4096000u32; 512];
     let mut place = [512u32; 512];
     let best = leave(list, words, &mut order, &mut place);
     number_cores(list, words, &mut cores);

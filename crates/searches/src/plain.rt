@@ -1,36 +1,37 @@
-// Leaving order, core numbers and the densest remainder, as document 01 defines them and as plainly as can be: pairs are counted anew whenever they are
+// Leaving order, core numbers and the densest remainder, as document 01 defines them and as plainly as can be: stops are counted anew whenever they are
 // looked at. Modules have levels: those of level k or more are present. Module v has left at turn i when its level, its place, is i; it has dropped
 // from the core of order k when its level, its core number, is below k.
-use crate::entries::Ends;
+use crate::entries::Pair;
 use crate::entries::more;
 use crate::entries::pair_at;
 use crate::entries::put_word;
 use crate::entries::word_at;
+use numbers::greater;
 use pairfile::Reading;
 use peel::Remainder;
 use std::num::wrapping_add_u32;
 use std::num::wrapping_sub_u32;
 
-// One pair more for module v.
-fn bump(v: u32, degrees: &mut [u32]) {
-    let degree = more(word_at(degrees, v));
+// w stops more for module v.
+fn bump(v: u32, w: u32, degrees: &mut [u32]) {
+    let degree = wrapping_add_u32(word_at(degrees, v), w);
     put_word(degrees, v, degree);
 }
 
-// Counts a pair of modules present for each of them; 1, or 0 where one is not.
-fn count_pair(k: u32, pair: Ends, levels: &[u32], degrees: &mut [u32]) -> u32 {
+// Counts the stops of a pair of modules present for each of them; how many they are, 0 where one is not.
+fn count_pair(k: u32, pair: Pair, levels: &[u32], degrees: &mut [u32]) -> u32 {
     if word_at(levels, pair.a) < k {
         return 0;
     }
     if word_at(levels, pair.b) < k {
         return 0;
     }
-    bump(pair.a, degrees);
-    bump(pair.b, degrees);
-    1
+    bump(pair.a, pair.w, degrees);
+    bump(pair.b, pair.w, degrees);
+    pair.w
 }
 
-// How many of m pairs join modules present, and how many of them each such module has.
+// How many stops of m pairs join modules present, and how many of them each such module has.
 fn count_pairs(k: u32, m: u32, words: &[u32], levels: &[u32], degrees: &mut [u32]) -> u32 {
     let mut count = 0;
     let mut j = 0;
@@ -58,7 +59,7 @@ fn leaves_rather(k: u32, n: u32, v: u32, best: u32, levels: &[u32], degrees: &[u
     word_at(degrees, v) < word_at(degrees, best)
 }
 
-// The module present with the fewest pairs, of equals the lowest.
+// The module present with the fewest stops, of equals the lowest; n where none is.
 fn fewest(k: u32, n: u32, levels: &[u32], degrees: &[u32]) -> u32 {
     let mut best = n;
     let mut v = 0;
@@ -122,7 +123,7 @@ pub(crate) fn leave(
     best
 }
 
-// Module v drops where it is present with fewer than k pairs; whether it does.
+// Module v drops where it is present with fewer than k stops; whether it does.
 fn drop_module(k: u32, v: u32, degrees: &[u32], levels: &mut [u32]) -> bool {
     if word_at(levels, v) < k {
         return false;
@@ -134,7 +135,7 @@ fn drop_module(k: u32, v: u32, degrees: &[u32], levels: &mut [u32]) -> bool {
     true
 }
 
-// Every module present with fewer than k pairs drops; whether there is one.
+// Every module present with fewer than k stops drops; whether there is one.
 fn drop_modules(k: u32, n: u32, degrees: &[u32], levels: &mut [u32]) -> bool {
     let mut dropped = false;
     let mut v = 0;
@@ -145,6 +146,12 @@ fn drop_modules(k: u32, n: u32, degrees: &[u32], levels: &mut [u32]) -> bool {
     dropped
 }
 
+// The order after k, where every module present has k stops or more: the next at which one drops.
+fn next_order(k: u32, n: u32, levels: &[u32], degrees: &[u32]) -> u32 {
+    let v = fewest(k, n, levels, degrees);
+    more(greater(k, word_at(degrees, v)))
+}
+
 // One round at order k: the order of the next one, which is higher where nothing drops.
 fn round(k: u32, list: Reading, words: &[u32], cores: &mut [u32]) -> u32 {
     let mut degrees = [0u32; 512];
@@ -152,11 +159,11 @@ fn round(k: u32, list: Reading, words: &[u32], cores: &mut [u32]) -> u32 {
     if drop_modules(k, list.n, &degrees, cores) {
         k
     } else {
-        more(k)
+        next_order(k, list.n, cores, &degrees)
     }
 }
 
-// The core numbers: at most n rounds drop modules, and n find none. Before them the core numbers are 512.
+// The core numbers: at most n rounds drop modules, and n find none. Before them the core numbers are 4,096,000.
 pub(crate) fn number_cores(list: Reading, words: &[u32], cores: &mut [u32]) {
     let rounds = wrapping_add_u32(list.n, list.n);
     let mut k = 1;

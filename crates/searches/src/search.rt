@@ -3,7 +3,8 @@ use crate::calls;
 use crate::peels::alter_peel;
 use crate::peels::peel_plainly;
 use crate::peels::same_peel;
-use crate::sets;
+use crate::sets::Best;
+use crate::sets::densest_set;
 use crate::solves::alter_solve;
 use crate::solves::same_solve;
 use crate::solves::solve_right;
@@ -12,13 +13,12 @@ use pairfile::Reading;
 ghost use Rattle.theory.specs.Words.{Holds-list};
 
 // Solve with neither phases nor links, of up to 40 modules: each slot of a chain is found by a pass over all slots.
-fn try_bare(list: Reading, words: &[u32], cores: &[u32], seen: Tally) -> Tally
+fn try_bare(list: Reading, words: &[u32], best: Best, cores: &[u32], seen: Tally) -> Tally
     requires { ⌜ Holds-list (list .n) (list .m) (now words) ⌝ }
 {
     if 40 < list.n {
         return seen;
     }
-    let best = sets::densest(list, words);
     let bare = calls::solve(list, 0, 0, words);
     let record = bare.record;
     seen.compared(solve_right(list, words, bare, best, cores))
@@ -26,11 +26,21 @@ fn try_bare(list: Reading, words: &[u32], cores: &[u32], seen: Tally) -> Tally
 }
 
 // Solve beside the plain computations, with one thing altered where push phases went before the searches; and what the searches without them did.
-fn try_solve(thing: u32, list: Reading, words: &[u32], cores: &[u32], seen: Tally) -> Tally
+fn try_solve(
+    thing: u32,
+    list: Reading,
+    words: &[u32],
+    best: Best,
+    cores: &[u32],
+    seen: Tally,
+) -> Tally
     requires { ⌜ Holds-list (list .n) (list .m) (now words) ⌝ }
 {
-    let best = sets::densest(list, words);
-    let pushed = alter_solve(thing, calls::solve(list, densest::PHASES, 4096, words));
+    let pushed = alter_solve(
+        thing,
+        words,
+        calls::solve(list, densest::PHASES, 4096, words),
+    );
     let exact = calls::solve(list, 0, 4096, words);
     let record = exact.record;
     seen.compared(solve_right(list, words, pushed, best, cores))
@@ -46,6 +56,7 @@ pub(crate) fn search(thing: u32, list: Reading, words: &[u32], seen: Tally) -> T
     let plain = peel_plainly(list, words);
     let peeled = alter_peel(thing, calls::peel(list, words));
     let after = seen.compared(same_peel(list.n, peeled, plain));
-    let solved = try_solve(thing, list, words, &plain.cores, after);
-    try_bare(list, words, &plain.cores, solved)
+    let best = densest_set(list, words);
+    let solved = try_solve(thing, list, words, best, &plain.cores, after);
+    try_bare(list, words, best, &plain.cores, solved)
 }

@@ -1,5 +1,5 @@
 // The found group as document 01 defines it and as plainly as can be: every set of modules is counted. Module v is in the set of a mask where bit v is 1.
-use crate::entries::Ends;
+use crate::entries::Pair;
 use crate::entries::byte_at;
 use crate::entries::pair_at;
 use crate::lists::bit;
@@ -14,12 +14,12 @@ pub struct Best {
     pub q: u32,
 }
 
-// 1 where both ends of a pair are in the set, else 0.
-fn both(mask: u32, pair: Ends) -> u32 {
+// The stops of a pair whose ends are both in the set, else 0.
+fn both(mask: u32, pair: Pair) -> u32 {
     if !bit(mask, pair.a) {
         return 0;
     }
-    if bit(mask, pair.b) { 1 } else { 0 }
+    if bit(mask, pair.b) { pair.w } else { 0 }
 }
 
 // The inside count of a set.
@@ -71,7 +71,7 @@ fn try_sets(count: u32, m: u32, words: &[u32]) -> Best {
 }
 
 // The densest set of a list of at most 12 modules, of equals the largest; no set of a larger list.
-pub(crate) fn densest(list: Reading, words: &[u32]) -> Best {
+pub(crate) fn densest_set(list: Reading, words: &[u32]) -> Best {
     let n = list.n;
     if n < 13 {
         try_sets(1 << n, list.m, words)

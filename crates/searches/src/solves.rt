@@ -5,10 +5,10 @@ use crate::altered::raised;
 use crate::calls::Solved;
 use crate::calls::check;
 use crate::entries::more;
-use crate::entries::put_share;
+use crate::entries::pair_at;
 use crate::entries::same_bytes;
 use crate::entries::same_words;
-use crate::entries::word_at;
+use crate::entries::times;
 use crate::plain::core_size;
 use crate::sets::Best;
 use crate::sets::same_set;
@@ -38,14 +38,20 @@ fn other_byte(thing: u32, x: u8) -> u8 {
 }
 
 // Solve's answer with one thing altered.
-pub(crate) fn alter_solve(thing: u32, solved: Solved) -> Solved {
+pub(crate) fn alter_solve(thing: u32, words: &[u32], solved: Solved) -> Solved {
+    let first = pair_at(words, 0);
     let mut members = solved.members;
     let mut cores = solved.cores;
     let mut shares = solved.shares;
     let record = solved.record;
     members[0] = other_byte(thing, members[0]);
     cores[0] = raised(thing, altered::CORE_NUMBER, cores[0]);
-    shares[0] = chosen(thing, altered::SHARE, shares[0], more(record.q));
+    shares[0] = chosen(
+        thing,
+        altered::SHARE,
+        shares[0],
+        more(times(first.w, record.q)),
+    );
     Solved {
         members,
         cores,
@@ -91,23 +97,13 @@ fn cores_right(n: u32, solved: Solved, cores: &[u32]) -> bool {
     record.core == core_size(record.k, n, cores)
 }
 
-// The first m shares as check takes them.
-pub(crate) fn narrow_shares(m: u32, shares: &[u32], sheet: &mut [u16]) {
-    let mut j = 0;
-    while j < m {
-        put_share(sheet, j, word_at(shares, j));
-        j += 1;
-    }
-}
-
 // Whether check accepts the sheet, and counts the same P and Q.
 fn sheet_right(list: Reading, words: &[u32], solved: Solved) -> bool
     requires { ⌜ Holds-list (list .n) (list .m) (now words) ⌝ }
 {
-    let mut sheet = [0u16; 4096];
     let record = solved.record;
-    narrow_shares(list.m, &solved.shares, &mut sheet);
-    let verdict = check(list, words, &solved.members, &sheet);
+    let shares = solved.shares;
+    let verdict = check(list, words, &solved.members, &shares);
     let due = Verdict {
         number: 0,
         p: record.p,

@@ -1,5 +1,6 @@
-// The table of what is tried, a row a line: eight numbers with a space between them (struct `Row`, in its order), and behind a space, where a line of
-// the output ends with the row, its name.
+// The table of what is tried, a row a line: nine numbers with a space between them (struct `Row`, in its order), and behind a space, where a line of the
+// output ends with the row, its name. The sixth says which stop counts are drawn: 1 all are 1; k, up to 1,000, they are 1 to k; 0 all are 1,000; 1,001
+// they are 1 or 1,000.
 use crate::entries::more;
 use crate::entries::put_word;
 use crate::entries::word_at;
@@ -34,14 +35,14 @@ fn put_digit(numbers: &mut [u32], at: u32, byte: u8) -> u32 {
     at
 }
 
-// The eight numbers of a row; where its name begins.
+// The nine numbers of a row; where its name begins.
 fn read_numbers(line: &[u8], numbers: &mut [u32]) -> usize
     ensures { λ r. ⌜ r ≤ length (now (line .entry)) ⌝ }
 {
     let mut at = 0;
     let mut i = 0;
     while i < line.len() {
-        if 7 < at {
+        if 8 < at {
             return i;
         }
         at = put_digit(numbers, at, line[i]);
@@ -50,22 +51,23 @@ fn read_numbers(line: &[u8], numbers: &mut [u32]) -> usize
     i
 }
 
-fn row_of(numbers: [u32; 8]) -> Row {
+fn row_of(numbers: [u32; 9]) -> Row {
     Row {
         asked: numbers[0],
         with: numbers[1],
         kind: numbers[2],
         x: numbers[3],
         y: numbers[4],
-        least: numbers[5],
-        each: numbers[6],
-        count: numbers[7],
+        counts: numbers[5],
+        least: numbers[6],
+        each: numbers[7],
+        count: numbers[8],
     }
 }
 
 // Tries a row, and prints the line that ends with it; what was seen since the last line.
 fn try_row(line: &[u8], seen: Tally) -> Tally {
-    let mut numbers = [0u32; 8];
+    let mut numbers = [0u32; 9];
     let named = read_numbers(line, &mut numbers);
     let row = row_of(numbers);
     let now = go_on(row.count, row, seen);

@@ -1,5 +1,5 @@
-// What was seen: lists and their pairs, lists that the reader refused, comparisons that differ, how often each of four answers was given, what the
-// searches for chains did, and the random state.
+// What was seen: lists, their pairs and the stops of these, lists that the reader refused, comparisons that differ, how often each of four answers was
+// given, what the searches for chains did, and the random state.
 use crate::entries::more;
 use flow::Searches;
 use numbers::greater;
@@ -8,6 +8,7 @@ use std::num::wrapping_add_u32;
 pub struct Tally {
     pub lists: u32,
     pub pairs: u32,
+    pub stops: u32,
     pub unread: u32,
     pub differ: u32,
     pub answers: [u32; 4],
@@ -28,6 +29,7 @@ impl Tally {
         Tally {
             lists: 0,
             pairs: 0,
+            stops: 0,
             unread: 0,
             differ: 0,
             answers: [0; 4],
@@ -39,10 +41,11 @@ impl Tally {
         }
     }
 
-    // One list more, of m pairs, with the random state after it.
-    pub(crate) fn made(mut self, m: u32, state: u32) -> Tally {
+    // One list more, of m pairs and so many stops, with the random state after it.
+    pub(crate) fn made(mut self, m: u32, stops: u32, state: u32) -> Tally {
         self.lists = more(self.lists);
         self.pairs = wrapping_add_u32(self.pairs, m);
+        self.stops = wrapping_add_u32(self.stops, stops);
         self.state = state;
         self
     }
@@ -91,10 +94,18 @@ impl Tally {
         io::write_all(1, b"\n");
     }
 
+    // The stops, where they are not as many as the pairs.
+    fn print_stops(self) {
+        if self.stops != self.pairs {
+            field(b" stops=", self.stops);
+        }
+    }
+
     fn print_searches(self, name: &[u8]) {
         io::write_all(1, name);
         field(b": lists=", self.lists);
         field(b" pairs=", self.pairs);
+        self.print_stops();
         field(b" chains=", self.chains);
         field(b" longest=", self.longest);
         field(b" none=", self.none);

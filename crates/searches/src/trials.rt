@@ -16,14 +16,15 @@ use pairfile::read_words;
 ghost use Rattle.theory.specs.Words.{Holds-list};
 
 // How often a list is asked, once for each number below a count. By what is asked: 0 peel and solve, with the thing of number `with` altered; 1 check of
-// solve's sheet, with the change of number `with` in one place; 2 check of every sheet of 4 modules: member bytes of 0 to 2, and shares of 0 to 5 where
-// the list has up to 4 pairs; 3 surplus of every two sets of 4 bytes of 0 to 2; 4 surplus of groups of 512 modules against the first `with`.
+// solve's sheet, with the change of number `with` in one place; 2 check of every sheet of up to 4 modules: member bytes of 0 to 2, and shares below
+// `with`, where those are no more than 110,000; 3 surplus of every two sets of 4 bytes of 0 to 2; 4 surplus of groups of 512 modules against the first
+// `with`.
 fn codes(row: Row, list: Reading) -> u32 {
     let asked = row.asked;
     match asked {
         0 => 1,
         1 => places(row.with, list.n, list.m),
-        2 => sheet_codes(list.m),
+        2 => sheet_codes(row.with, list.m),
         3 => 6561,
         _ => 67,
     }
@@ -37,7 +38,7 @@ fn ask(row: Row, code: u32, list: Reading, words: &[u32], seen: Tally) -> Tally
     match asked {
         0 => search(row.with, list, words, seen),
         1 => try_place(row.with, code, list, words, seen),
-        2 => try_sheet(code, list, words, seen),
+        2 => try_sheet(row.with, code, list, words, seen),
         3 => try_sets(code, list, words, seen),
         _ => try_firsts(code, row.with, list, words, seen),
     }
@@ -75,7 +76,12 @@ fn read_list(row: Row, text: &[u8], end: u32, seen: Tally) -> Tally {
 fn try_list(row: Row, list: Listed, seen: Tally) -> Tally {
     let mut text = [0u8; 65536];
     let file = put_file(list, seen.state, &mut text);
-    read_list(row, &text, file.end, seen.made(file.taken, file.state))
+    read_list(
+        row,
+        &text,
+        file.end,
+        seen.made(file.taken, file.stops, file.state),
+    )
 }
 
 // The first `count` lists of a row, after what was seen before.

@@ -1,10 +1,11 @@
 // Check and surplus as document 01 states them and as plainly as can be: a pass over the bytes for the size, one over the pairs for the inside count,
 // and one over the pairs for each module's load.
 use crate::calls::refused;
-use crate::entries::Ends;
+use crate::entries::Pair;
 use crate::entries::pair_at;
 use crate::entries::read_set;
-use crate::entries::share_at;
+use crate::entries::times;
+use crate::entries::word_at;
 use crate::plain::inside;
 use crate::plain::product;
 use pairfile::Reading;
@@ -31,11 +32,17 @@ fn read_group(list: Reading, words: &[u32], members: &[u8]) -> Group {
     Group { size, inside }
 }
 
-// Whether one of the first m shares is above q.
-fn past(m: u32, q: u32, shares: &[u16]) -> bool {
+// Whether share j is above the units of its pair at share size q.
+fn passes(q: u32, j: u32, words: &[u32], shares: &[u32]) -> bool {
+    let pair = pair_at(words, j);
+    times(pair.w, q) < word_at(shares, j)
+}
+
+// Whether one of the first m shares is above the units of its pair.
+fn past(m: u32, q: u32, words: &[u32], shares: &[u32]) -> bool {
     let mut j = 0;
     while j < m {
-        if q < share_at(shares, j) {
+        if passes(q, j, words, shares) {
             return true;
         }
         j += 1;
@@ -43,31 +50,31 @@ fn past(m: u32, q: u32, shares: &[u16]) -> bool {
     false
 }
 
-// What module v receives of a pair, whose smaller end receives x of its q units.
-fn part(q: u32, v: u32, pair: Ends, x: u32) -> u32 {
+// What module v receives of a pair, whose smaller end receives x of its units.
+fn part(q: u32, v: u32, pair: Pair, x: u32) -> u32 {
     if v == pair.a {
         return x;
     }
     if v == pair.b {
-        wrapping_sub_u32(q, x)
+        wrapping_sub_u32(times(pair.w, q), x)
     } else {
         0
     }
 }
 
 // The load of module v: the sum over all pairs.
-fn load(q: u32, v: u32, m: u32, words: &[u32], shares: &[u16]) -> u32 {
+fn load(q: u32, v: u32, m: u32, words: &[u32], shares: &[u32]) -> u32 {
     let mut sum = 0;
     let mut j = 0;
     while j < m {
-        sum = wrapping_add_u32(sum, part(q, v, pair_at(words, j), share_at(shares, j)));
+        sum = wrapping_add_u32(sum, part(q, v, pair_at(words, j), word_at(shares, j)));
         j += 1;
     }
     sum
 }
 
 // Whether one of the loads is above the group's inside count.
-fn overloaded(group: Group, list: Reading, words: &[u32], shares: &[u16]) -> bool {
+fn overloaded(group: Group, list: Reading, words: &[u32], shares: &[u32]) -> bool {
     let mut v = 0;
     while v < list.n {
         if group.inside < load(group.size, v, list.m, words, shares) {
@@ -83,13 +90,13 @@ pub(crate) fn check_plainly(
     list: Reading,
     words: &[u32],
     members: &[u8],
-    shares: &[u16],
+    shares: &[u32],
 ) -> Verdict {
     let group = read_group(list, words, members);
     if group.size == 0 {
         return refused(7);
     }
-    if past(list.m, group.size, shares) {
+    if past(list.m, group.size, words, shares) {
         return refused(8);
     }
     if overloaded(group, list, words, shares) {

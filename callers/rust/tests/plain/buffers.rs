@@ -6,7 +6,7 @@ pub const WORK: usize = 16384;
 
 /// Numbers met, with how often.
 #[derive(Default)]
-pub struct Met([usize; 18]);
+pub struct Met([usize; 20]);
 
 impl Met {
     pub fn see(&mut self, number: u32) {
@@ -19,7 +19,7 @@ impl Met {
 
     /// These and no others, each at least so often.
     pub fn are_each(&self, least: usize, wanted: &[usize]) {
-        let met: Vec<usize> = (0..18).filter(|&k| self.0[k] > 0).collect();
+        let met: Vec<usize> = (0..20).filter(|&k| self.0[k] > 0).collect();
         assert_eq!(met, wanted, "numbers met: {self}");
         assert!(wanted.iter().all(|&k| self.0[k] >= least), "each at least {least} times: {self}");
     }
@@ -27,7 +27,7 @@ impl Met {
 
 impl std::fmt::Display for Met {
     fn fmt(&self, out: &mut std::fmt::Formatter) -> std::fmt::Result {
-        (0..18).filter(|&k| self.0[k] > 0).try_for_each(|k| write!(out, "{k}: {} times; ", self.0[k]))
+        (0..20).filter(|&k| self.0[k] > 0).try_for_each(|k| write!(out, "{k}: {} times; ", self.0[k]))
     }
 }
 
@@ -55,13 +55,17 @@ pub fn halves(random: &mut Random, length: usize) -> Vec<u16> {
     (0..length).map(|_| random.next() as u16).collect()
 }
 
+pub fn words(random: &mut Random, length: usize) -> Vec<u32> {
+    (0..length).map(|_| random.next() as u32).collect()
+}
+
 pub fn pairs(random: &mut Random, length: usize) -> Vec<Pair> {
-    (0..length).map(|_| Pair { a: random.next() as u16, b: random.next() as u16 }).collect()
+    (0..length).map(|_| Pair { a: random.next() as u16, b: random.next() as u16, w: random.next() as u16 }).collect()
 }
 
 pub fn work(random: &mut Random) -> Vec<u32> {
     let length = random.length(WORK);
-    (0..length).map(|_| random.next() as u32).collect()
+    words(random, length)
 }
 
 /// Untouched after 12 or 13; 16,384 zero words after any other return; words past them stay.

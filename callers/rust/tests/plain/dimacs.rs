@@ -1,5 +1,6 @@
-//! DIMACS edge files (document 02, item 1): a plain reader and writer, and a generator of such files, whole and damaged.
-use super::{number, Plain, Random};
+//! DIMACS edge files (document 02, item 1), which have no counts: a plain reader and writer, and a generator of such files, whole and damaged.
+use super::files::number;
+use super::{Plain, Random};
 use std::collections::BTreeSet;
 
 /// What a line is, its LF taken off.
@@ -35,8 +36,8 @@ pub fn lines_of(file: &[u8]) -> Vec<Vec<u8>> {
 const ORDER: [u32; 8] = [16, 2, 3, 11, 17, 5, 4, 10];
 pub const FOUR_FIRST: [u32; 8] = [16, 2, 3, 11, 17, 4, 5, 10];
 
-/// The file's N and pairs, for a list of so many records; or the refusal number. Each cause has lines at which its condition holds, counted from 0, the
-/// file's end standing behind the last; the first such line decides, and of the causes there the first in `ORDER`.
+/// The file's N and pairs, each with the count 1, for a list of so many records; or the refusal number. Each cause has lines at which its condition holds,
+/// counted from 0, the file's end standing behind the last; the first such line decides, and of the causes there the first in `ORDER`.
 pub fn read(file: &[u8], records: usize) -> Result<Plain, u32> {
     read_by(ORDER, file, records)
 }
@@ -72,13 +73,13 @@ pub fn read_by(order: [u32; 8], file: &[u8], records: usize) -> Result<Plain, u3
     }
     match holds.iter().min_by_key(|(at, number)| (*at, order.iter().position(|x| x == number))) {
         Some((_, number)) => Err(*number),
-        None => Ok(Plain { n, pairs: pairs.into_iter().map(|(a, b)| (a - 1, b - 1)).collect() }),
+        None => Ok(Plain { n, pairs: pairs.into_iter().map(|(a, b)| (a - 1, b - 1, 1)).collect() }),
     }
 }
 
-/// The list's file: no comments, the pairs in list order, the smaller module first.
+/// The list's file: no comments, no counts, the pairs in list order, the smaller module first.
 pub fn write(list: &Plain) -> Vec<u8> {
-    let edges: String = list.pairs.iter().map(|(a, b)| format!("e {} {}\n", a + 1, b + 1)).collect();
+    let edges: String = list.pairs.iter().map(|(a, b, _)| format!("e {} {}\n", a + 1, b + 1)).collect();
     format!("p edge {} {}\n{edges}", list.n, list.pairs.len()).into_bytes()
 }
 
@@ -117,7 +118,7 @@ pub fn lines(list: &Plain, random: &mut Random) -> Vec<Vec<u8>> {
     };
     commented(&mut lines, random);
     lines.push(format!("p edge {} {}\n", list.n, list.pairs.len()).into_bytes());
-    for (a, b) in list.scattered(random) {
+    for (a, b, _) in list.scattered(random) {
         commented(&mut lines, random);
         lines.push(format!("e {} {}\n", a + 1, b + 1).into_bytes());
     }
@@ -186,7 +187,7 @@ fn damage_number(random: &mut Random, lines: &mut [Vec<u8>], list: &Plain) {
         let others = [format!("{one} {m}"), format!("{n} {one}"), format!("{one} {two}")];
         lines[at] = format!("p edge {}\n", others[kind]).into();
     } else if !edges.is_empty() && m > 0 {
-        let (a, b) = list.pairs[random.below(m)];
+        let (a, b, _) = list.pairs[random.below(m)];
         let text = match kind {
             3 => format!("e {v} {v}\n"),
             4 => format!("e {} {}\n", b + 1, a + 1),

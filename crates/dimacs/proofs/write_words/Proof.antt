@@ -35,7 +35,7 @@ write-pairs-requires c κs =
     let w = c .before .before .before .before in
     let held = begin w .pre .0 in
     let short = holds-short held in
-    (omega arith, (short, (omega (arith, short, held .long), (ends-writable held, left w .room))))
+    (omega arith, (short, (held .long, (ends-writable held, left w .room))))
 
 returns : tie.Need-returns
 unfolding edge-form text dimacs-of dimacs-file edge-lines laid-list

@@ -5,10 +5,10 @@ use Rattle.searches.proofs.verdicts.past.Statement.{statement}
 use Rattle.searches.proofs.verdicts.past.Tie as tie
 
 abbrev Inv-loop : tie.InvT-loop
-Inv-loop m q shares j₀ j = Unit {0}
+Inv-loop m q words shares j₀ j = Unit {0}
 
 abbrev μ-loop : tie.MeasureT-loop
-μ-loop m q shares j₀ j = m - j
+μ-loop m q words shares j₀ j = m - j
 
 pub past-spec : {M : Type 1} → statement M
 past-spec =
