@@ -3,7 +3,7 @@
     bench.py COMPARE FOLDER RUNS
 
 FOLDER takes the pair files. A time is the median over the runs; a run is itself a median of repetitions (see compare.cpp). The linear programme runs once a
-run on the first list of a kind, networkx once in all.
+run on the first list of a kind, networkx once in all. Each list comes with stop counts of several sorts; COUNTS says which have all the tables.
 """
 import os
 import random
@@ -106,6 +106,22 @@ KINDS = {
     "power law": power,
 }
 
+# ---- stop counts: of a pair, by sort
+
+
+def tail(r):
+    """Few, seldom many: half of the pairs have 1, one in a hundred has 100 or more."""
+    return min(1000, int(1 / (1 - r.random())))
+
+
+COUNTS = {
+    "ones": lambda r: 1,
+    "1 to 1,000": lambda r: r.randint(1, 1000),
+    "1 to 9": lambda r: r.randint(1, 9),
+    "heavy tail": tail,
+}
+FULL = ["ones", "1 to 1,000"]  # those with all the tables; the others have one
+
 SIZES = [(64, 512), (128, 1024), (256, 2048), (512, 4096), (512, 512), (512, 1024), (512, 2048), (128, 4096), (256, 4096)]
 
 
@@ -115,7 +131,7 @@ def renumbered(r, n, pairs):
     return n, {(min(to[a], to[b]), max(to[a], to[b])) for a, b in pairs}
 
 
-def lists():
+def shapes():
     """Name, seed, N and pairs. The second and third list of a kind have shuffled numbers: in kinds without chance they differ in nothing else."""
     for name, make in KINDS.items():
         for seed in SEEDS:
@@ -124,6 +140,15 @@ def lists():
     for n, m in SIZES:
         for seed in SEEDS:
             yield f"{n}, {m}", seed, *uniform(random.Random(seed), n, m)
+
+
+def lists():
+    """Sort of the counts, name, seed, N and pairs with their counts, rising."""
+    for name, seed, n, pairs in shapes():
+        for sort, count in COUNTS.items():
+            if name in KINDS or sort in FULL:
+                r = random.Random(seed)
+                yield sort, name, seed, n, [(a, b, count(r)) for a, b in sorted(pairs)]
 
 
 # ---- networkx
@@ -137,36 +162,39 @@ def timed(run):
 
 def densest(n, pairs):
     """The greatest ratio, as in compare.cpp (whole), with networkx's minimum cut."""
-    p, q = len(pairs), n
+    p, q = sum(w for _, _, w in pairs), n
     degree = [0] * n
-    for a, b in pairs:
-        degree[a] += 1
-        degree[b] += 1
+    for a, b, w in pairs:
+        degree[a] += w
+        degree[b] += w
     while True:
         net = nx.DiGraph()
         for v in range(n):
             net.add_edge("s", v, capacity=max(degree[v] * q - 2 * p, 0))
             net.add_edge(v, "t", capacity=max(2 * p - degree[v] * q, 0))
-        for a, b in pairs:
-            net.add_edge(a, b, capacity=q)
-            net.add_edge(b, a, capacity=q)
+        for a, b, w in pairs:
+            net.add_edge(a, b, capacity=w * q)
+            net.add_edge(b, a, capacity=w * q)
         side = nx.minimum_cut(net, "s", "t")[1][0] - {"s"}
-        inside = sum(a in side and b in side for a, b in pairs)
+        inside = sum(w for a, b, w in pairs if a in side and b in side)
         if inside * q <= p * len(side):
             return p, q
         p, q = inside, len(side)
 
 
 def by_networkx(n, pairs, density):
+    """core_number counts pairs, so it is peel's for lists of ones only."""
     (p, q), solve = timed(lambda: densest(n, pairs))
     if p * density[1] != density[0] * q:
         sys.exit("networkx: another density")
-    lines = [f"{a},{b}" for a, b in pairs]
-    graph, read = timed(lambda: nx.parse_edgelist(lines, delimiter=",", nodetype=int))
-    _, peel = timed(lambda: nx.core_number(graph))
+    lines = [f"{a},{b},{w}" for a, b, w in pairs]
+    graph, read = timed(lambda: nx.parse_edgelist(lines, delimiter=",", nodetype=int, data=[("w", int)]))
     empty = nx.Graph()
-    _, add = timed(lambda: [empty.add_edge(a, b) for a, b in pairs])
-    return {"solve networkx": solve, "read networkx": read, "peel networkx": peel, "add networkx": add}
+    _, add = timed(lambda: [empty.add_edge(a, b, w=w) for a, b, w in pairs])
+    times = {"solve networkx": solve, "read networkx": read, "add networkx": add}
+    if all(w == 1 for _, _, w in pairs):
+        times["peel networkx"] = timed(lambda: nx.core_number(graph))[1]
+    return times
 
 
 # ---- runs and tables
@@ -194,30 +222,32 @@ def quiet(seconds=4):
 
 
 def compare(program, path, programme):
+    """Times by name, on how many modules Boost's weighted core numbers are others, and the density."""
     out = subprocess.run([program, path, str(REPETITIONS), str(programme)], check=True, capture_output=True, text=True).stdout
-    *lines, last = out.splitlines()
+    *lines, differs, last = out.splitlines()
     times = {name: float(value) for name, value in (line.rsplit(" ", 1) for line in lines)}
+    times["differs"] = int(differs.split()[3])
     return times, tuple(map(int, last.split()[1:]))
 
 
 def measure(program, folder, runs):
-    """Name of the list, seed, what: the median over the runs."""
-    times = defaultdict(list)
+    """Sort of the counts: name of the list, seed, what: the median over the runs. Times of add and of a raised count are for one pair."""
+    times = defaultdict(lambda: defaultdict(list))
     for run in range(runs):
-        for name, seed, n, pairs in lists():
-            path, pairs = f"{folder}/{name.replace(' ', '-')}.{seed}", sorted(pairs)
+        for sort, name, seed, n, pairs in lists():
+            path = f"{folder}/{name} {sort} {seed}".replace(" ", "-").replace(",", "")
             with open(path, "w") as file:
-                file.write(f"modules={n}\npairs={len(pairs)}\n" + "".join(f"pair={a},{b}\n" for a, b in pairs))
-            first = seed == 0 and name in KINDS
+                file.write(f"modules={n}\npairs={len(pairs)}\n" + "".join(f"{a},{b},{w}\n" for a, b, w in pairs))
+            first = seed == 0 and name in KINDS and sort in FULL
             quiet()
             found, density = compare(program, path, int(first))
             found["pairs"] = len(pairs)
             if first and run == 0:
                 found |= by_networkx(n, pairs, density)
             for what, value in found.items():
-                times[name, seed, what].append(value / len(pairs) if what.startswith("add") else value)
-            print(f"run {run + 1}: {name} {seed}", file=sys.stderr)
-    return {key: median(values) for key, values in times.items()}
+                times[sort][name, seed, what].append(value / len(pairs) if what.startswith(("add", "raise")) else value)
+            print(f"run {run + 1}: {name} {seed}, {sort}", file=sys.stderr)
+    return {sort: {key: median(values) for key, values in found.items()} for sort, found in times.items()}
 
 
 def typical(times, name, what):
@@ -256,44 +286,84 @@ def shuffled(times, names):
     table(["shuffled lines", "pairs", "read, µs", "read_dimacs, µs", "read_dimacs / read"], rows)
 
 
-def best(times, engines, ways):
-    """A row for each kind: the quickest of all others."""
-    rows = []
-    for name in KINDS:
-        value, other = min((ratio(times, name, f"solve {engine} {way}", "solve ours"), f"{engine}, {way}") for engine in engines for way in ways)
-        rows.append([name, figure(value), other])
-    table(["solve", "the quickest of the others", "which"], rows)
+ENGINES = ["LEMON", "Boost-push-relabel", "Boost-BK", "igraph"]
+WAYS = ["textbook", "whole", "core"]
+
+
+def quickest(times, name):
+    """The quickest of all others for a kind: how many times as long as ours it takes, and which it is."""
+    value, other = min((ratio(times, name, f"solve {engine} {way}", "solve ours"), f"{engine}, {way}") for engine in ENGINES for way in WAYS)
+    return [figure(value), other]
 
 
 def dimacs(times):
     """DIMACS edge files, read and written."""
-    others = {other: f"read_dimacs {other}" for other in ["scanf", "igraph"]}
-    compared(times, "read_dimacs", "read_dimacs ours", {"read": "read ours", "LEMON": "read LEMON"} | others)
+    others = {other: f"read_dimacs {other}" for other in ["LEMON", "scanf", "igraph"]}
+    compared(times, "read_dimacs", "read_dimacs ours", {"read": "read ours"} | others)
     commented = {"without comments": "read_dimacs ours", "igraph": "read_dimacs commented igraph"}
     compared(times, "read_dimacs, a comment before each line", "read_dimacs commented ours", commented)
     shuffled(times, [*KINDS, *(f"{n}, {m}" for n, m in SIZES if m == 4096)])
     compared(times, "write_dimacs", "write_dimacs ours", {other: f"write_dimacs {other}" for other in ["sprintf", "LEMON", "igraph"]})
 
 
-def main():
-    program, folder, runs = sys.argv[1], sys.argv[2], int(sys.argv[3])
-    times = measure(program, folder, runs)
-    engines, ways = ["LEMON", "Boost-push-relabel", "Boost-BK", "igraph"], ["textbook", "whole", "core"]
-    for way in ways:
+def solves(times):
+    """Solve in three ways, the quickest of the others, and check."""
+    for way in WAYS:
         slow = {"networkx": "solve networkx", "GLPK": "solve GLPK"} if way == "whole" else {}
-        compared(times, f"solve, {way}", "solve ours", {engine: f"solve {engine} {way}" for engine in engines} | slow)
-    best(times, engines, ways)
+        compared(times, f"solve, {way}", "solve ours", {engine: f"solve {engine} {way}" for engine in ENGINES} | slow)
+    table(["solve", "the quickest of the others", "which"], [[name, *quickest(times, name)] for name in KINDS])
     compared(times, "check", "check ours", {f"solving again: {other}": f"solve {other}" for other in ["ours", "LEMON core", "LEMON whole"]})
+
+
+def others(times, ones):
+    """Peel, read, add, and a count raised."""
+    heaps = ["heap", "Boost-weighted", "heap from pairs", "Boost-weighted from pairs"]
     made = ["igraph from pairs", "Boost from pairs", "Boost-CSR from pairs"]
-    for call, others in {"peel": ["igraph", "Boost", "networkx", *made], "read": ["scanf", "LEMON", "igraph", "networkx"]}.items():
-        compared(times, call, f"{call} ours", {other: f"{call} {other}" for other in others})
-    compared(times, "add, a pair", "add ours", {other: f"add {other}" for other in ["std::set", "Boost", "igraph", "networkx"]})
+    peels = ["igraph", "Boost", "networkx", *made, "heap", "heap from pairs"] if ones else heaps
+    for call, rivals in {"peel": peels, "read": ["scanf", "LEMON", "igraph", "networkx"]}.items():
+        compared(times, call, f"{call} ours", {other: f"{call} {other}" for other in rivals})
+    compared(times, "add, a pair", "add ours", {other: f"add {other}" for other in ["std::map", "Boost", "igraph", "networkx"]})
+    compared(times, "add, a held pair's count raised", "raise ours", {other: f"raise {other}" for other in ["std::map", "Boost"]})
+
+
+def growth(times):
+    """Uniform lists by N and M."""
     calls = ["solve", "peel", "check", "read", "add"]
     table(
         ["uniform: N, M", *(f"{call}, µs" for call in calls)],
         [[f"{n}, {m}", *(figure(typical(times, f"{n}, {m}", f"{call} ours")) for call in calls)] for n, m in SIZES],
     )
-    dimacs(times)
+
+
+def sorts(times):
+    """A row for each kind: our times by sort of the counts, and the quickest of the others' solves."""
+    for what in ["solve", "check", "peel"]:
+        table(
+            [f"{what} by stop counts, µs", *COUNTS],
+            [[name, *(figure(typical(times[sort], name, f"{what} ours")) for sort in COUNTS)] for name in KINDS],
+        )
+    table(
+        ["solve, the quickest of the others", *COUNTS],
+        [[name, *(" ".join(quickest(times[sort], name)) for sort in COUNTS)] for name in KINDS],
+    )
+    heap = [[name, *(figure(ratio(times[sort], name, "peel heap", "peel ours")) for sort in COUNTS)] for name in KINDS]
+    table(["peel, a heap over partners that stand already", *COUNTS], heap)
+    differs = [[name, *(figure(typical(times[sort], name, "differs")) for sort in COUNTS)] for name in KINDS]
+    table(["modules on which Boost's weighted core numbers differ", *COUNTS], differs)
+
+
+def main():
+    program, folder, runs = sys.argv[1], sys.argv[2], int(sys.argv[3])
+    times = measure(program, folder, runs)
+    for sort in FULL:
+        print(f"## Stop counts: {sort}\n")
+        solves(times[sort])
+        others(times[sort], sort == "ones")
+        growth(times[sort])
+    print("## DIMACS edge files (without counts)\n")
+    dimacs(times["ones"])
+    print("## By stop counts\n")
+    sorts(times)
 
 
 main()

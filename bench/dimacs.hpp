@@ -1,4 +1,4 @@
-// A list's DIMACS edge files, from memory and into it, for compare.cpp: read and written by ours and by others.
+// A list's DIMACS edge files, from memory and into it, for compare.cpp: read and written by ours and by others. They have no stop counts; the pair file has.
 //
 // igraph reads the very bytes that ours reads and makes a graph of them. LEMON knows no `edge` files: it reads and writes the same pairs on lines
 // `p mat N M` and `a A B`. Boost's reader loses the second number of an `e` line (dimacs_basic_reader, 1.74). igraph writes its edge list, one pair a
@@ -24,7 +24,7 @@
 class Dimacs {
     kandurzo_head_t head;
     const kandurzo_pair_t *list;
-    kandurzo_pair_t records[KANDURZO_PAIRS];
+    kandurzo_pair_t records[KANDURZO_PAIRS], ones[KANDURZO_PAIRS];
     uint32_t work[KANDURZO_WORK] = {};
     uint8_t text[KANDURZO_TEXT];
     lemon::SmartDigraph arcs;
@@ -34,34 +34,38 @@ class Dimacs {
   public:
     std::string listed, commented, shuffled;  // in list order, the same with a comment before each line, in any order with either module first
     std::string pair_file;                    // the pair file with the pairs as in `shuffled`
+    std::string mat;                          // as `listed`, with the lines that LEMON reads
 
     Dimacs(kandurzo_head_t head, const kandurzo_pair_t *list, const Pairs &pairs) : head(head), list(list) {
         std::mt19937 random(1);
         Pairs scattered(pairs);
         std::shuffle(scattered.begin(), scattered.end(), random);
         listed = shuffled = "p edge " + both(head.n, head.m);
+        mat = "p mat " + both(head.n, head.m);
         commented = "c a list of fault pairs\n" + listed;
         pair_file = "modules=" + std::to_string(head.n) + "\npairs=" + std::to_string(head.m) + "\n";
+        for (uint32_t j = 0; j < head.m; j++) ones[j] = {list[j].a, list[j].b, 1};
         for (uint32_t v = 0; v < head.n; v++) arcs.addNode();
-        for (auto [a, b] : pairs) {
+        for (auto [a, b, w] : pairs) {
             listed += "e " + both(a + 1, b + 1);
+            mat += "a " + both(a + 1, b + 1);
             commented += "c pair " + both(a, b) + "e " + both(a + 1, b + 1);
             arcs.addArc(arcs.nodeFromId(a), arcs.nodeFromId(b));
         }
-        for (auto [a, b] : scattered) {
+        for (auto [a, b, w] : scattered) {
             if (random() % 2) std::swap(a, b);
             shuffled += "e " + both(a + 1, b + 1);
-            pair_file += "pair=" + std::to_string(a) + "," + std::to_string(b) + "\n";
+            pair_file += std::to_string(a) + "," + std::to_string(b) + "," + std::to_string(w) + "\n";
         }
-        for (const std::string *file : {&listed, &commented, &shuffled}) read(*file), same_list();
-        read_pairs(), same_list();
+        for (const std::string *file : {&listed, &commented, &shuffled}) read(*file), same(ones);
+        read_pairs(), same(list);
         write();
         if (listed != std::string(text, text + listed.size())) fail("another file is written");
     }
 
-    // The last file read has the pairs of the list.
-    void same_list() {
-        if (memcmp(records, list, head.m * sizeof *list)) fail("another list is read");
+    // The last file read has these records.
+    void same(const kandurzo_pair_t *wanted) {
+        if (memcmp(records, wanted, head.m * sizeof *wanted)) fail("another list is read");
         memset(records, 0, sizeof records);
     }
 
@@ -82,6 +86,13 @@ class Dimacs {
         while (fscanf(in, "e %u %u\n", &a, &b) == 2) lines++;
         fclose(in);
         if (lines != head.m) fail("scanf");
+    }
+
+    void read_by_lemon() {
+        std::istringstream in(mat);
+        lemon::SmartDigraph graph;
+        readDimacsMat(in, graph);
+        if (countArcs(graph) != int(head.m)) fail("LEMON reads");
     }
 
     void read_by_igraph(std::string &file) {

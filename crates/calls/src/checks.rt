@@ -1,5 +1,5 @@
-// check: a cycle of 5 modules, the group all of them, and each pair lies wholly with one end: P = 5, Q = 5, every load is 5. Then every two shares of a few
-// for a list of three modules with the pairs 0,1 and 1,2 and all three in the group.
+// check: a cycle of 5 modules, the group all of them, and each pair lies wholly with one end: P = 5, Q = 5, every load is 5. Then two shares of a few
+// for a list of three modules with the pairs 0,1 and 1,2 and all three in the group: Q = 3, 0,1 has W times 3 units and 1,2 has 3.
 use crate::lent;
 use crate::lists;
 use crate::lists::Damage;
@@ -8,11 +8,12 @@ use crate::words;
 use records::Head;
 use verify::Verdict;
 
-// What is altered: the list; the first member byte and the first share; the lengths lent.
+// What is altered: the list; the first member byte, the first share and the last; the lengths lent.
 pub(crate) struct Altered {
     pub(crate) damage: Damage,
     pub(crate) byte: u8,
-    pub(crate) share: u16,
+    pub(crate) share: u32,
+    pub(crate) last: u32,
     pub(crate) members: usize,
     pub(crate) shares: usize,
     pub(crate) work: usize,
@@ -24,6 +25,7 @@ pub(crate) fn sound() -> Altered {
         damage: lists::none(),
         byte: 1,
         share: 5,
+        last: 5,
         members: 5,
         shares: 5,
         work: 16384,
@@ -35,7 +37,7 @@ fn check_part(
     a: Altered,
     words: &mut [u32],
     bytes: &[u8],
-    sheet: &[u16],
+    sheet: &[u32],
     work: &mut [u32],
 ) -> Verdict {
     let first = lists::at_most(bytes.len(), a.members);
@@ -55,7 +57,7 @@ pub(crate) fn tried(name: &[u8], due: u32, a: Altered) {
     let mut words = [0u32; 12288];
     let mut work = [7u32; 16400];
     let bytes = [a.byte, 1, 1, 1, 1, 2, 2, 2];
-    let sheet = [a.share, 0, 5, 5, 5, 9, 9, 9];
+    let sheet = [a.share, 0, 5, 5, a.last, 9, 9, 9];
     lists::cycle(a.damage, &mut words);
     let verdict = check_part(a, &mut words, &bytes, &sheet, &mut work);
     print::begin(b"check", name, due, verdict.number);
@@ -64,12 +66,12 @@ pub(crate) fn tried(name: &[u8], due: u32, a: Altered) {
     print::end_work(&work);
 }
 
-// The answer to two shares of the three modules.
-fn put_shares(first: u16, second: u16) {
+// The answer to two shares of the three modules, the first pair with the count w.
+fn put_shares(w: u32, first: u32, second: u32) {
     let mut words = [0u32; 12288];
     let mut work = [0u32; 16384];
-    words::put_record(&mut words, 0, 0, 1);
-    words::put_record(&mut words, 1, 1, 2);
+    words::put_record(&mut words, 0, 0, 1, w);
+    words::put_record(&mut words, 1, 1, 2, 1);
     let verdict = lent::check_4096(
         &mut words,
         Head { n: 3, m: 2 },
@@ -83,25 +85,37 @@ fn put_shares(first: u16, second: u16) {
 }
 
 // A line: the first share with each of a few.
-fn with_each(first: u16) {
-    print::field(b"check, shares ", first as u32);
-    io::write_all(1, b" and 0 to 4, 65,535:");
-    put_shares(first, 0);
-    put_shares(first, 1);
-    put_shares(first, 2);
-    put_shares(first, 3);
-    put_shares(first, 4);
-    put_shares(first, 65535);
+fn with_each(w: u32, first: u32) {
+    print::field(b"check, count ", w);
+    print::field(b", shares ", first);
+    io::write_all(1, b" and 0 to 4, 65,537:");
+    put_shares(w, first, 0);
+    put_shares(w, first, 1);
+    put_shares(w, first, 2);
+    put_shares(w, first, 3);
+    put_shares(w, first, 4);
+    put_shares(w, first, 65537);
     print::line_end();
 }
 
 fn sheets() {
-    with_each(0);
-    with_each(1);
-    with_each(2);
-    with_each(3);
-    with_each(4);
-    with_each(65535);
+    with_each(1, 0);
+    with_each(1, 1);
+    with_each(1, 2);
+    with_each(1, 3);
+    with_each(1, 4);
+    with_each(1, 65538);
+    with_each(1, 4294967295);
+}
+
+// The same where 0,1 counts more often.
+fn counted_sheets() {
+    with_each(2, 2);
+    with_each(2, 3);
+    with_each(2, 6);
+    with_each(2, 7);
+    with_each(1000, 3000);
+    with_each(1000, 3001);
 }
 
 fn buffers() {
@@ -131,12 +145,31 @@ fn buffers() {
     );
 }
 
+// The pair 3,4 counts twice, with this share.
+fn twice(name: &[u8], due: u32, last: u32) {
+    let s = sound();
+    tried(
+        name,
+        due,
+        Altered {
+            damage: Damage {
+                count: 2,
+                ..s.damage
+            },
+            last,
+            ..s
+        },
+    );
+}
+
 // The sheet altered.
 fn altered_sheets() {
     let s = sound();
     tried(b"byte of 2", 7, Altered { byte: 2, ..s });
     tried(b"member dropped", 8, Altered { byte: 0, ..s });
     tried(b"share past Q", 8, Altered { share: 6, ..s });
+    twice(b"3,4 twice, its share W times Q", 9, 10);
+    twice(b"3,4 twice, its share past W times Q", 8, 11);
     tried(b"unit moved", 9, Altered { share: 4, ..s });
 }
 
@@ -144,4 +177,5 @@ pub(crate) fn run() {
     buffers();
     altered_sheets();
     sheets();
+    counted_sheets();
 }

@@ -37,17 +37,20 @@ fn held(words: &[u32], len: usize) -> usize
         if 65535 < words[2 * i + 1] {
             return i;
         }
+        if 65535 < words[8192 + i] {
+            return i;
+        }
         i += 1;
     }
     i
 }
 
 // add on 4,096 records.
-pub(crate) fn add_4096(words: &mut [u32], head: Head, a: u32, b: u32) -> Changed {
-    let mut list = [Pair { a: 0, b: 0 }; 4096];
+pub(crate) fn add_4096(words: &mut [u32], head: Head, a: u32, b: u32, w: u32) -> Changed {
+    let mut list = [Pair { a: 0, b: 0, w: 0 }; 4096];
     let k = held(words, 4096);
     copy_in(&mut list, words, k);
-    let answer = add(head, &mut list, a, b);
+    let answer = add(head, &mut list, a, b, w);
     copy_out(&list, words, k);
     answer
 }
@@ -57,10 +60,10 @@ pub(crate) fn peel_4096(
     words: &mut [u32],
     head: Head,
     order: &mut [u16],
-    cores: &mut [u16],
+    cores: &mut [u32],
     work: &mut [u32],
 ) -> u32 {
-    let mut list = [Pair { a: 0, b: 0 }; 4096];
+    let mut list = [Pair { a: 0, b: 0, w: 0 }; 4096];
     let k = held(words, 4096);
     copy_in(&mut list, words, k);
     let answer = peel(head, &list, order, cores, work);
@@ -73,11 +76,11 @@ pub(crate) fn solve_4096(
     words: &mut [u32],
     head: Head,
     members: &mut [u8],
-    cores: &mut [u16],
-    shares: &mut [u16],
+    cores: &mut [u32],
+    shares: &mut [u32],
     work: &mut [u32],
 ) -> Solved {
-    let mut list = [Pair { a: 0, b: 0 }; 4096];
+    let mut list = [Pair { a: 0, b: 0, w: 0 }; 4096];
     let k = held(words, 4096);
     copy_in(&mut list, words, k);
     let answer = solve(head, &list, members, cores, shares, work);
@@ -90,10 +93,10 @@ pub(crate) fn check_4096(
     words: &mut [u32],
     head: Head,
     members: &[u8],
-    shares: &[u16],
+    shares: &[u32],
     work: &mut [u32],
 ) -> Verdict {
-    let mut list = [Pair { a: 0, b: 0 }; 4096];
+    let mut list = [Pair { a: 0, b: 0, w: 0 }; 4096];
     let k = held(words, 4096);
     copy_in(&mut list, words, k);
     let answer = check(head, &list, members, shares, work);
@@ -108,7 +111,7 @@ pub(crate) fn surplus_4096(
     first: &[u8],
     second: &[u8],
 ) -> Difference {
-    let mut list = [Pair { a: 0, b: 0 }; 4096];
+    let mut list = [Pair { a: 0, b: 0, w: 0 }; 4096];
     let k = held(words, 4096);
     copy_in(&mut list, words, k);
     let answer = surplus(head, &list, first, second);
@@ -118,7 +121,7 @@ pub(crate) fn surplus_4096(
 
 // write_dimacs of 4,096 records.
 pub(crate) fn write_dimacs_4096(words: &mut [u32], head: Head, text: &mut [u8]) -> Written {
-    let mut list = [Pair { a: 0, b: 0 }; 4096];
+    let mut list = [Pair { a: 0, b: 0, w: 0 }; 4096];
     let k = held(words, 4096);
     copy_in(&mut list, words, k);
     let answer = write_dimacs(head, &list, text);

@@ -7,6 +7,7 @@ mod checks;
 mod lent;
 mod lists;
 mod peels;
+mod plain;
 mod print;
 mod solves;
 mod surpluses;
@@ -15,11 +16,11 @@ mod writes;
 
 use lists::Damage;
 
-// A way in which head and list disagree, put to each call.
-fn damaged(name: &[u8], damage: Damage) {
+// A way in which the list is altered, put to each call.
+fn damaged(name: &[u8], due: u32, damage: Damage) {
     checks::tried(
         name,
-        13,
+        due,
         checks::Altered {
             damage,
             ..checks::sound()
@@ -27,7 +28,7 @@ fn damaged(name: &[u8], damage: Damage) {
     );
     peels::tried(
         name,
-        13,
+        due,
         peels::Altered {
             damage,
             ..peels::sound()
@@ -35,16 +36,16 @@ fn damaged(name: &[u8], damage: Damage) {
     );
     solves::tried(
         name,
-        13,
+        due,
         solves::Altered {
             damage,
             ..solves::sound()
         },
     );
-    surpluses::damaged(name, damage);
+    surpluses::damaged(name, due, damage);
     writes::tried(
         name,
-        13,
+        due,
         writes::Altered {
             damage,
             ..writes::sound()
@@ -55,18 +56,31 @@ fn damaged(name: &[u8], damage: Damage) {
 // Heads that disagree with the list.
 fn heads() {
     let d = lists::none();
-    damaged(b"no modules", Damage { n: 0, ..d });
-    damaged(b"513 modules", Damage { n: 513, ..d });
-    damaged(b"over 4,096 pairs", Damage { more: 4096, ..d });
-    damaged(b"one pair more than was recorded", Damage { more: 1, ..d });
+    damaged(b"no modules", 13, Damage { n: 0, ..d });
+    damaged(b"513 modules", 13, Damage { n: 513, ..d });
+    damaged(b"over 4,096 pairs", 13, Damage { more: 4096, ..d });
+    damaged(
+        b"one pair more than was recorded",
+        13,
+        Damage { more: 1, ..d },
+    );
 }
 
 // Records that do.
 fn records() {
     let d = lists::none();
-    damaged(b"a record out of order", Damage { first: 0, ..d });
-    damaged(b"a record of one module", Damage { second: 3, ..d });
-    damaged(b"a module unknown", Damage { second: 5, ..d });
+    damaged(b"a record out of order", 13, Damage { first: 0, ..d });
+    damaged(b"a record of one module", 13, Damage { second: 3, ..d });
+    damaged(b"a module unknown", 13, Damage { second: 5, ..d });
+    damaged(b"a count of 0", 13, Damage { count: 0, ..d });
+    damaged(b"a count of 1,001", 13, Damage { count: 1001, ..d });
+    damaged(b"a count of 65,535", 13, Damage { count: 65535, ..d });
+}
+
+// A record past the held ones, which is nobody's concern.
+fn past() {
+    let d = lists::none();
+    damaged(b"a count of 1,001 past it", 0, Damage { past: 1001, ..d });
 }
 
 fn main() {
@@ -77,4 +91,5 @@ fn main() {
     writes::run();
     heads();
     records();
+    past();
 }

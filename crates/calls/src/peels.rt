@@ -1,4 +1,5 @@
-// peel: the list *tail* of document 01, whose leaving order is 4,0,1,2,3 and whose core numbers are 3,3,3,3,1.
+// peel: the list *tail* of document 01, whose leaving order is 4,0,1,2,3 and whose core numbers are 3,3,3,3,1; and the same with 3,4 counted more often: 2,
+// 3 and 10 times, and as often as can be. Then 3 and 4 leave later, and at 1,000 their core numbers are 1,000.
 use crate::lent;
 use crate::lists;
 use crate::lists::Damage;
@@ -27,7 +28,7 @@ fn peel_part(
     a: Altered,
     words: &mut [u32],
     order: &mut [u16],
-    cores: &mut [u16],
+    cores: &mut [u32],
     work: &mut [u32],
 ) -> u32 {
     let first = lists::at_most(order.len(), a.order);
@@ -46,14 +47,27 @@ fn peel_part(
 pub(crate) fn tried(name: &[u8], due: u32, a: Altered) {
     let mut words = [0u32; 12288];
     let mut order = [9u16; 8];
-    let mut cores = [9u16; 8];
+    let mut cores = [9u32; 8];
     let mut work = [7u32; 16400];
     lists::tail(a.damage, &mut words);
     let number = peel_part(a, &mut words, &mut order, &mut cores, &mut work);
     print::begin(b"peel", name, due, number);
     print::halves(b" order=", &order, 0);
-    print::halves(b" cores=", &cores, 0);
+    print::eight(b" cores=", &cores, 0);
     print::end_work(&work);
+}
+
+// The last pair with another count.
+fn counted(name: &[u8], count: u32) {
+    let s = sound();
+    tried(
+        name,
+        0,
+        Altered {
+            damage: Damage { count, ..s.damage },
+            ..s
+        },
+    );
 }
 
 pub(crate) fn run() {
@@ -69,6 +83,10 @@ pub(crate) fn run() {
             ..s
         },
     );
+    counted(b"3,4 twice", 2);
+    counted(b"3,4 three times", 3);
+    counted(b"3,4 ten times", 10);
+    counted(b"3,4 1,000 times", 1000);
     tried(b"short order", 12, Altered { order: 4, ..s });
     tried(b"short core numbers", 12, Altered { cores: 4, ..s });
     tried(b"short work", 12, Altered { work: 16383, ..s });

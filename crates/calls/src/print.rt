@@ -65,6 +65,16 @@ pub(crate) fn halves(label: &[u8], entries: &[u16], at: usize) {
     }
 }
 
+// The eight words from `at` on.
+pub(crate) fn eight(label: &[u8], entries: &[u32], at: usize) {
+    field(label, words::word_at(entries, at));
+    let mut i = 1;
+    while i < 8 {
+        more(words::word_at(entries, words::plus(at, i)));
+        i += 1;
+    }
+}
+
 fn word_of(x: u8) -> u32 {
     x as u32
 }

@@ -1,21 +1,28 @@
-// solve: the list *tail* of document 01, whose found group is 0 to 3 with P/Q = 6/4; two triangles, all six modules with 6/6; a list without pairs; and lists
-// of 512 modules, whose load sheet is put to check and whose core numbers are compared with those of peel. The float must be P/Q rounded once.
+// solve: the list *tail* of document 01, whose found group is 0 to 3 with P/Q = 6/4; two triangles, all six modules with 6/6; a list without pairs; lists
+// of 512 modules; lists with counts. Where solve finds a group, `differ` says how much of its answer is not as due: P, Q, K, the core's size, shares above W
+// times Q and loads above P by a second computation, the answer of check, and the core numbers of peel. The float must be P/Q rounded once.
 use crate::lent;
 use crate::lists;
+use crate::lists::Counts;
 use crate::lists::Damage;
 use crate::lists::Kind;
+use crate::plain;
+use crate::plain::Second;
 use crate::print;
 use crate::words;
 use kandurzo::Solved;
 use records::Head;
+use verify::Verdict;
 
-// What is altered: the list, and the lengths lent. And from where eight members and core numbers are printed, and eight shares.
+// What is altered: the list, the lengths lent, and by how much the first pair's count is raised before the answer is compared. And from where eight members
+// and core numbers are printed, and eight shares.
 pub(crate) struct Altered {
     pub(crate) damage: Damage,
     pub(crate) members: usize,
     pub(crate) cores: usize,
     pub(crate) shares: usize,
     pub(crate) work: usize,
+    pub(crate) raised: u32,
     pub(crate) from: usize,
     pub(crate) from_share: usize,
 }
@@ -28,6 +35,7 @@ pub(crate) fn sound() -> Altered {
         cores: 5,
         shares: 7,
         work: 16384,
+        raised: 0,
         from: 0,
         from_share: 0,
     }
@@ -86,32 +94,62 @@ fn print_solved(name: &[u8], due: u32, found: Solved) {
     print_ratio(found.ratio == quotient(found.p, found.q));
 }
 
-// How many of the first 512 entries differ.
-fn differing(first: &[u16], second: &[u16]) -> u32 {
+// How many of the first n entries differ.
+fn differing(first: &[u32], second: &[u32], n: usize) -> u32 {
     let mut found = 0;
     let mut i = 0;
-    while i < 512 {
-        found = words::one_more(print::half_at(first, i) == print::half_at(second, i), found);
+    while i < n {
+        found = words::one_more(words::word_at(first, i) == words::word_at(second, i), found);
         i += 1;
     }
     found
 }
 
-// Of a list of 512 modules, its pairs, what check says of the sheet, and how many core numbers peel gives otherwise.
-fn confirm(head: Head, members: &[u8], cores: &[u16], shares: &[u16], words: &mut [u32]) {
+// How much of what solve found is not as the second computation says.
+fn unlike(found: Solved, second: Second) -> u32 {
+    let p = words::one_more(found.p == second.p, 0);
+    let q = words::one_more(found.q == second.q, p);
+    let k = words::one_more(found.k == second.k, q);
+    let core = words::one_more(found.coresize == second.core, k);
+    let shares = words::one_more(second.shares == 0, core);
+    words::one_more(second.loads == 0, shares)
+}
+
+// How much of what check says is not as solve found.
+fn unconfirmed(found: Solved, verdict: Verdict) -> u32 {
+    let number = words::one_more(verdict.number == 0, 0);
+    let p = words::one_more(verdict.p == found.p, number);
+    words::one_more(verdict.q == found.q, p)
+}
+
+// How many core numbers peel gives otherwise.
+fn cores_differ(head: Head, cores: &[u32], words: &mut [u32]) -> u32 {
     let mut order = [0u16; 512];
-    let mut others = [0u16; 512];
+    let mut others = [0u32; 512];
     let mut work = [0u32; 16384];
-    if head.n != 512 {
+    lent::peel_4096(words, head, &mut order, &mut others, &mut work);
+    differing(cores, &others, head.n as usize)
+}
+
+// Where a group was found, how much of the answer is not as due.
+fn confirm(
+    head: Head,
+    found: Solved,
+    members: &[u8],
+    cores: &[u32],
+    shares: &[u32],
+    words: &mut [u32],
+) {
+    let mut work = [0u32; 16384];
+    if found.number != 0 {
         return;
     }
-    let verdict = lent::check_4096(words, head, members, shares, &mut work);
-    lent::peel_4096(words, head, &mut order, &mut others, &mut work);
+    let second = plain::computed(words, head, members, cores, shares);
     print::field(b" pairs=", head.m);
-    print::field(b" check=", verdict.number);
-    print::field(b":", verdict.p);
-    print::field(b"/", verdict.q);
-    print::field(b" cores differ=", differing(cores, &others));
+    print::field(b" differ=", unlike(found, second));
+    let verdict = lent::check_4096(words, head, members, shares, &mut work);
+    print::more(unconfirmed(found, verdict));
+    print::more(cores_differ(head, cores, words));
 }
 
 // solve with the first entries of the buffers.
@@ -120,8 +158,8 @@ fn solve_part(
     head: Head,
     words: &mut [u32],
     members: &mut [u8],
-    cores: &mut [u16],
-    shares: &mut [u16],
+    cores: &mut [u32],
+    shares: &mut [u32],
     work: &mut [u32],
 ) -> Solved {
     let first = lists::at_most(members.len(), a.members);
@@ -138,11 +176,17 @@ fn solve_part(
     )
 }
 
+// Raises the count of the first pair.
+fn raise_first(words: &mut [u32], by: u32) {
+    let count = std::num::wrapping_add_u32(words::count_at(words, 0), by);
+    words::put_count(words, 0, count);
+}
+
 // One line: what solve says and writes.
 fn tried_on(name: &[u8], due: u32, head: Head, a: Altered, words: &mut [u32]) {
     let mut members = [9u8; 514];
-    let mut cores = [9u16; 514];
-    let mut shares = [9u16; 4100];
+    let mut cores = [9u32; 514];
+    let mut shares = [9u32; 4100];
     let mut work = [7u32; 16400];
     let found = solve_part(
         a,
@@ -154,10 +198,11 @@ fn tried_on(name: &[u8], due: u32, head: Head, a: Altered, words: &mut [u32]) {
         &mut work,
     );
     print_solved(name, due, found);
-    confirm(head, &members, &cores, &shares, words);
+    raise_first(words, a.raised);
+    confirm(head, found, &members, &cores, &shares, words);
     print::bytes(b" members=", &members, a.from);
-    print::halves(b" cores=", &cores, a.from);
-    print::halves(b" shares=", &shares, a.from_share);
+    print::eight(b" cores=", &cores, a.from);
+    print::eight(b" shares=", &shares, a.from_share);
     print::end_work(&work);
 }
 
@@ -171,9 +216,9 @@ pub(crate) fn tried(name: &[u8], due: u32, a: Altered) {
 // ---- lists of 512 modules
 
 // One line: a list of 512 modules, with buffers longer than is named.
-fn large(name: &[u8], kind: Kind, many: u32) {
+fn large(name: &[u8], kind: Kind, many: u32, counts: Counts) {
     let mut words = [0u32; 12288];
-    let head = lists::add_pairs(kind, many, &mut words);
+    let head = lists::large(kind, many, counts, &mut words);
     let longer = Altered {
         members: 514,
         cores: 514,
@@ -234,11 +279,58 @@ fn others() {
     tried_on(b"two of its pairs", 0, Head { n: 3, m: 2 }, s, &mut words);
 }
 
+// The last pair of *tail* with another count.
+fn counted(name: &[u8], count: u32) {
+    let s = sound();
+    tried(
+        name,
+        0,
+        Altered {
+            damage: Damage { count, ..s.damage },
+            ..s
+        },
+    );
+}
+
+// Lists with counts.
+fn small_counts() {
+    let s = sound();
+    counted(b"3,4 twice", 2);
+    counted(b"3,4 three times", 3);
+    counted(b"3,4 ten times", 10);
+    counted(b"3,4 1,000 times", 1000);
+    tried(b"a count altered behind it", 0, Altered { raised: 1, ..s });
+}
+
+fn large_counts() {
+    let few = Counts {
+        top: 9,
+        drawn: true,
+    };
+    let many = Counts {
+        top: 1000,
+        drawn: true,
+    };
+    let all = Counts {
+        top: 1000,
+        drawn: false,
+    };
+    large(b"by chance, counts 1 to 9", Kind::Chance, 4096, few);
+    large(b"by chance, counts 1 to 1,000", Kind::Chance, 4096, many);
+    large(b"a circle, counts 1 to 1,000", Kind::Circle, 512, many);
+    large(b"a wide circle, counts 1,000", Kind::Circle, 4096, all);
+    large(b"a clique of 64, counts 1 to 9", Kind::Clique, 4096, few);
+    large(b"a clique of 90, counts 1,000", Kind::Wider, 8100, all);
+}
+
 pub(crate) fn run() {
+    let ones = lists::ones();
     buffers();
     others();
-    large(b"512 modules, pairs by chance", Kind::Chance, 4096);
-    large(b"512 modules, a circle", Kind::Circle, 512);
-    large(b"512 modules, a wide circle", Kind::Circle, 4096);
-    large(b"512 modules, a clique of 64", Kind::Clique, 4096);
+    small_counts();
+    large(b"512 modules, pairs by chance", Kind::Chance, 4096, ones);
+    large(b"512 modules, a circle", Kind::Circle, 512, ones);
+    large(b"512 modules, a wide circle", Kind::Circle, 4096, ones);
+    large(b"512 modules, a clique of 64", Kind::Clique, 4096, ones);
+    large_counts();
 }

@@ -1,4 +1,4 @@
-// surplus: groups of the list *tail* of document 01, whose found group is 0 to 3, of ratio 6/4.
+// surplus: groups of the list *tail* of document 01, whose found group is 0 to 3, of ratio 6/4; and with other counts of its pair 3,4.
 use crate::lent;
 use crate::lists;
 use crate::lists::Damage;
@@ -48,8 +48,8 @@ fn found(name: &[u8], due: u32, a: Altered) {
 }
 
 // The found group against itself, on a list that is altered.
-pub(crate) fn damaged(name: &[u8], damage: Damage) {
-    found(name, 13, Altered { damage, ..sound() });
+pub(crate) fn damaged(name: &[u8], due: u32, damage: Damage) {
+    found(name, due, Altered { damage, ..sound() });
 }
 
 // Two sets of which one is the found group.
@@ -78,6 +78,33 @@ fn groups() {
     tried(b"byte of 2", 7, 0, &group, &[2, 1, 1, 1, 0], s);
 }
 
+// The pair 3,4 with another count.
+fn counted(name: &[u8], value: i64, first: &[u8], count: u32) {
+    let s = sound();
+    let damage = Damage { count, ..s.damage };
+    tried(
+        name,
+        0,
+        value,
+        first,
+        &[0, 0, 0, 1, 1],
+        Altered { damage, ..s },
+    );
+}
+
+// Groups against 3 and 4, the last time with the value of a list of ones.
+fn counts() {
+    let group = [1, 1, 1, 1, 0];
+    counted(b"3,4 ten times, 0 to 3 against them, -28", -28, &group, 10);
+    counted(
+        b"3,4 1,000 times, all five against them, -2,988",
+        -2988,
+        &[1, 1, 1, 1, 1],
+        1000,
+    );
+    counted(b"3,4 twice, 0 to 3 against them, 8", 8, &group, 2);
+}
+
 fn lengths() {
     let s = sound();
     let damage = Damage { n: 0, ..s.damage };
@@ -99,5 +126,6 @@ fn lengths() {
 
 pub(crate) fn run() {
     groups();
+    counts();
     lengths();
 }

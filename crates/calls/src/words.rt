@@ -18,17 +18,33 @@ pub(crate) fn word_at(words: &[u32], i: usize) -> u32 {
 }
 
 // Writes entry i, where there is one.
-fn put_word(words: &mut [u32], i: usize, x: u32) {
+pub(crate) fn put_word(words: &mut [u32], i: usize, x: u32) {
     if i < words.len() {
         words[i] = x;
     }
 }
 
+// Where the count of record j lies.
+fn count_place(j: usize) -> usize {
+    plus(8192, j)
+}
+
+// The count of record j.
+pub(crate) fn count_at(words: &[u32], j: usize) -> u32 {
+    word_at(words, count_place(j))
+}
+
+// Writes the count of record j.
+pub(crate) fn put_count(words: &mut [u32], j: usize, w: u32) {
+    put_word(words, count_place(j), w);
+}
+
 // Writes record j.
-pub(crate) fn put_record(words: &mut [u32], j: usize, a: u32, b: u32) {
+pub(crate) fn put_record(words: &mut [u32], j: usize, a: u32, b: u32, w: u32) {
     let i = plus(j, j);
     put_word(words, i, a);
     put_word(words, plus(i, 1), b);
+    put_count(words, j, w);
 }
 
 // One more, unless they are the same.

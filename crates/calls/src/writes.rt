@@ -1,8 +1,9 @@
-// write_dimacs: the list *tail* of document 01, other small lists, and lists of 512 modules. Each line has the length written, and how many of the text's
+// write_dimacs: the list *tail* of document 01, other small lists, and lists of 512 modules; counts are not in the file. Each line has the length written, and how many of the text's
 // 65,600 bytes are not as due: the file of the list, made here a second time from its records, and past it, or after a refusal from the first on, the bytes
 // that were there before.
 use crate::lent;
 use crate::lists;
+use crate::lists::Counts;
 use crate::lists::Damage;
 use crate::lists::Kind;
 use crate::print;
@@ -178,16 +179,22 @@ fn others() {
 }
 
 // A list of 512 modules.
-fn large(name: &[u8], kind: Kind, many: u32) {
+fn large(name: &[u8], kind: Kind, many: u32, counts: Counts) {
     let mut words = [0u32; 12288];
-    let head = lists::add_pairs(kind, many, &mut words);
+    let head = lists::large(kind, many, counts, &mut words);
     tried_on(name, 0, head, sound(), &mut words);
 }
 
 pub(crate) fn run() {
+    let ones = lists::ones();
+    let drawn = Counts {
+        top: 1000,
+        drawn: true,
+    };
     buffers();
     others();
-    large(b"512 modules, pairs by chance", Kind::Chance, 4096);
-    large(b"512 modules, a wide circle", Kind::Circle, 4096);
-    large(b"512 modules, a clique of 64", Kind::Clique, 4096);
+    large(b"512 modules, pairs by chance", Kind::Chance, 4096, ones);
+    large(b"by chance, counts 1 to 1,000", Kind::Chance, 4096, drawn);
+    large(b"512 modules, a wide circle", Kind::Circle, 4096, ones);
+    large(b"512 modules, a clique of 64", Kind::Clique, 4096, ones);
 }

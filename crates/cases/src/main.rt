@@ -3,8 +3,8 @@
 // The run folder holds lists of cases, a case a line, and the files that they name. A line has what is tried, a space, and the answer due:
 //
 //   files    FILE                   the pair file is read and its list solved
-//   large    N M W RISE LINES AGAIN MORE    so is a file made here: `modules=N`, `pairs=M`, LINES pair lines, AGAIN of the first again, MORE line ends;
-//                                   the first 256 pairs have the stop count W, every further 256 lines RISE more
+//   large    N M W EVERY LINES AGAIN MORE   so is a file made here: `modules=N`, `pairs=M`, LINES pair lines, AGAIN of the first again, MORE line ends;
+//                                   the first pair has the stop count W, and, where EVERY is not 0, a pair has one more every EVERY lines
 //   audited  FILE SHEET             the sheet is audited beside the pair file
 //   bytes    FILE SHEET             so is the sheet with each byte one more, and one less, in turn
 //   limits   FILE SHEET B C         so is what is read of the two into buffers of B and C bytes
@@ -17,7 +17,7 @@
 //   made     N M LINES AGAIN EVERY LENGTH    so is a file made here: `p edge N M`, LINES `e` lines, AGAIN of the first again, and, where EVERY is not 0,
 //                                   comments of LENGTH bytes behind the `c`: before every EVERY lines, before the `p` line and at the end
 //   written  FILE DIMACS            the list of the pair file is written, and the DIMACS file that is due is read back
-//   full     N M W RISE LINES AGAIN MORE    so is the list of a pair file made as for `large`; what is due is made here from the rule of its pairs
+//   full     N M W EVERY LINES AGAIN MORE   so is the list of a pair file made as for `large`; what is due is made here from the rule of its pairs
 //
 // Files of the folders `first`, `second`, `pair` and `end` break a rule on the first line, on the second, on a pair line, after the last; of those in
 // `order` several conditions hold; those in `taken` are accepted, the starred lists of document 01 among them, and lists with stop counts. In `audits` are

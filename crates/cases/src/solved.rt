@@ -15,10 +15,10 @@ use crate::text::put_two;
 use answer::Answer;
 use answer::solve_file;
 
-// Empty lines, or lines of pairs: the first 256 have so many stops each, and every further 256 so many more than those before.
+// Empty lines, or lines of pairs: so many stops on the first, and one more every so many lines, unless that is 0.
 enum Lines {
     Empty,
-    Pairs { first: u32, rise: u32 },
+    Pairs { first: u32, every: u32 },
 }
 
 // How many bytes the text has, and how many bytes the run has that is still to be put.
@@ -98,8 +98,11 @@ pub(crate) fn try_file(line: &[u8], text: &mut [u8]) -> Given {
 // ---- made here
 
 // How many stops the pair of line i has.
-fn stops_of(first: u32, rise: u32, i: u32) -> u32 {
-    std::num::wrapping_add_u32(first, rise % 1000 * (i / 256 % 256))
+fn stops_of(first: u32, every: u32, i: u32) -> u32 {
+    if every == 0 {
+        return first;
+    }
+    std::num::wrapping_add_u32(first, i / every)
 }
 
 // Line i of a pair: of two modules of 256 to 511, `i / 256 + 1` apart on the circle of these.
@@ -115,7 +118,7 @@ fn put_pair(file: &mut [u8], at: usize, i: u32, stops: u32) -> usize {
 fn put_line(file: &mut [u8], at: usize, i: u32, lines: Lines) -> usize {
     match lines {
         Lines::Empty => put(file, at, b'\n'),
-        Lines::Pairs { first, rise } => put_pair(file, at, i, stops_of(first, rise, i)),
+        Lines::Pairs { first, every } => put_pair(file, at, i, stops_of(first, every, i)),
     }
 }
 
@@ -144,13 +147,13 @@ pub(crate) fn put_file(file: &mut [u8], line: &[u8]) -> Given {
     let n = number_at(line, 0);
     let m = number_at(line, n.next);
     let first = number_at(line, m.next);
-    let rise = number_at(line, first.next);
-    let count = number_at(line, rise.next);
+    let every = number_at(line, first.next);
+    let count = number_at(line, every.next);
     let again = number_at(line, count.next);
     let more = number_at(line, again.next);
     let lines = Lines::Pairs {
         first: first.value,
-        rise: rise.value,
+        every: every.value,
     };
     let head = put_head(file, n.value, m.value);
     let pairs = put_lines(file, head, count.value, lines);

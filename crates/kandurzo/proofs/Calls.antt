@@ -2,13 +2,12 @@
 --   out                                what the words are after the records went out
 --   out-room, out-long, out-ready      what the way out asks, how many words there are then, and what add and remove on words ask
 --   records-laid                       the records in words are those of the pairs
---   Making, made-out                   what a change makes, and what it makes of the words after the records went out
---   Change, add-change, remove-change  a change of the words makes the call's answer and its list
+--   Change, changed-alike, add-change, remove-change    a change of the words makes the call's answer and its list
 -- Assumes nothing.
-use mathlib.Core.Path.{_≡_, refl, sym, ap, _∙_}
+use mathlib.Core.Path.{_≡_, refl, sym, ap, subst, _∙_}
 use mathlib.Core.Bool.{Bool, true, false, not, cond}
-use mathlib.Core.List.{List, [], _∷_, _++_, map}
-use Prim.Native.Nat.{ℕ, zero, suc, _+_, _-_}
+use mathlib.Core.List.{List, [], _∷_, _++_}
+use Prim.Native.Nat.{ℕ, _+_, _-_}
 use native.Mathlib.Omega.{arith}
 use lib.Dec.{eqb}
 use lib.ListN.{length, drop}
@@ -17,53 +16,42 @@ use Rattle.theory.specs.Basics.{table}
 use Rattle.theory.specs.Lists as Lists
 use Rattle.theory.specs.Lists.{Pairs}
 use Rattle.theory.specs.Refusals.{refusal, if-taken}
-use Rattle.theory.specs.Words.{word-pair, pairs-in, counts-of, laid-pairs, laid-list}
-use Rattle.theory.proofs.Lists.{listed}
+use Rattle.theory.specs.Words.{laid-pairs, laid-list}
 use Rattle.theory.proofs.Tests.{by-test}
-use Rattle.pairs.specs.Held.{insert-pair, remove-pair, smaller-first-pair}
+use Rattle.pairs.specs.Held.{is-held, raise-pair, remove-pair, smaller-first-pair, stops-of}
 use Rattle.pairs.specs.Causes.{add-causes, remove-causes}
+use Rattle.pairs.specs.Located.{located}
+use Rattle.pairs.specs.Counts.{pairs-raised}
 use Rattle.records.specs.declared.Pair.{Pair}
 use Rattle.records.specs.declared.Head.{Head}
-use Rattle.records.specs.Records.{held-list, agrees, blank, copied-out, word-record, records-in, put-back, Room-out, Room-back}
-use Rattle.records.proofs.Copies.{length-copied-out, copied-out-pairs}
+use Rattle.records.specs.Records.{held-list, agrees, blank, copied-out, records-in, put-back, Room-out, Room-back}
+use Rattle.records.proofs.Copies.{length-copied-out, pairs-read, agrees-room, copied-out-list}
 use Rattle.kandurzo.specs.declared.Edit.{Edit}
-use Rattle.kandurzo.specs.Listing.{head-of, as-record, as-records, is-full, add-number, added, Add-says, remove-number, removed, Remove-says}
-use Rattle.kandurzo.specs.Edits.{records-out, Ready, edit-of, add-on-number, add-edit, add-words, remove-on-number, remove-edit, remove-words}
+use Rattle.kandurzo.specs.Listing.{head-of, as-record, as-records, is-full, add-number, pairs-then, added, Add-says}
+use Rattle.kandurzo.specs.Listing.{remove-number, removed, Remove-says}
+use Rattle.kandurzo.specs.Edits.{records-out, Ready, edit-of, pair-located, add-on-number, add-edit, add-words}
+use Rattle.kandurzo.specs.Edits.{remove-on-number, remove-edit, remove-words}
 use Rattle.kandurzo.proofs.Orders.{add-13, remove-13}
 use Rattle.kandurzo.proofs.Outcomes.{Call, answer}
 use Rattle.kandurzo.proofs.Changes.{Edited, freed-pair, add-edited, remove-edited}
-use Rattle.kandurzo.proofs.Taken.{held-few, held-is-list, length-held}
-
--- what a change of the words makes: of the head, whether it agrees with the list, the list's length, the words, and the pair
-abbrev pub Making : Type 0 → Type 0
-Making X = Head → Bool → ℕ → List ℕ → ℕ → ℕ → X
+use Rattle.kandurzo.proofs.Taken.{as-records-back, held-few, held-is-list}
 
 -- the words zs after the records went out to them
 abbrev pub out : List ℕ → Head → List Pair → List ℕ
 out zs h ps = copied-out ps zs (records-out h (agrees h ps))
 
 -- the records that lie in words are those of the pairs
-table-map : (m : ℕ) (f : ℕ → Lists.Pair) (g : ℕ → Pair) → ((j : ℕ) → as-record (f j) ≡ g j) → table m g ≡ map as-record (table m f)
-unfolding table
-table-map zero f g e = refl
-table-map (suc m) f g e = cc (e 0, table-map m (λ j. f (suc j)) (λ j. g (suc j)) (λ j. e (suc j)))
-
 pub records-laid : (m : ℕ) (ws : List ℕ) → records-in m ws ≡ as-records (laid-pairs m ws)
-unfolding records-in as-records laid-pairs pairs-in
-records-laid m ws = table-map m (word-pair ws (counts-of ws)) (word-record ws) (λ j. unfold as-record word-pair in refl)
+records-laid m ws = sym (ap as-records (pairs-read m ws) ∙ as-records-back (records-in m ws))
 
 module _ (zs : List ℕ) (long : length zs ≡ 12288) (h : Head) (ps : List Pair) where
   agreed-room : agrees h ps ≡ true → Room-out ps zs (h .m)
-  agreed-room e = record {
-    enough = held-few h ps e;
-    few = omega (arith, listed (held-list h ps) (held-is-list h ps e) .short, length-held h ps e);
-    long = λ _. omega (arith, long);
-  }
+  agreed-room e = agrees-room h ps zs e (omega (arith, long))
 
   -- where head and list agree, the words hold the list
   out-list : agrees h ps ≡ true → laid-list (h .n) (h .m) (out zs h ps) ≡ held-list h ps
-  unfolding laid-list held-list records-out
-  out-list e = rw e (ap (λ (qs : List Lists.Pair). record { n = h .n; pairs = qs }) (copied-out-pairs ps zs (h .m) (agreed-room e)))
+  unfolding records-out
+  out-list e = rw e (copied-out-list h ps zs (agreed-room e))
 
   -- there is room for the records that go out
   pub out-room : Room-out ps zs (records-out h (agrees h ps))
@@ -87,9 +75,10 @@ module _ (zs : List ℕ) (long : length zs ≡ 12288) (h : Head) (ps : List Pair
   out-number k first = by-test (agrees h ps) (λ e. rw (out-list e)) (λ e. rw e (first _ ∙ sym (first _)))
 
   module _ (a b : ℕ) where
-    out-add-number : refusal (add-causes (not (agrees h ps)) (laid-list (h .n) (h .m) (out zs h ps)) (is-full h (length ps)) a b) ≡ add-number h ps a b
+    out-add-number : (w : ℕ) →
+        refusal (add-causes (not (agrees h ps)) (laid-list (h .n) (h .m) (out zs h ps)) (is-full h (length ps)) a b w) ≡ add-number h ps a b w
     unfolding add-number
-    out-add-number = out-number (λ d g. refusal (add-causes d g (is-full h (length ps)) a b)) (λ g. add-13 true g _ a b refl)
+    out-add-number w = out-number (λ d g. refusal (add-causes d g (is-full h (length ps)) a b w)) (λ g. add-13 true g _ a b w refl)
 
     out-remove-number : refusal (remove-causes (not (agrees h ps)) (laid-list (h .n) (h .m) (out zs h ps)) a b) ≡ remove-number h ps a b
     unfolding remove-number
@@ -106,21 +95,22 @@ back-is h len k new back after words ps e = go (eqb k 0) refl
     go true z = rw (records-laid back words, e .pairs (eqb-true k 0 z))
     go false z = unfold records-in table in refl
 
--- the pair 0,0 behind others is the record 0,0
+-- the pair 0,0 of no stops behind others is the record 0,0,0
 freed : (qs : List Lists.Pair) (rest : List Pair) → as-records (qs ++ (freed-pair ∷ [])) ++ rest ≡ as-records qs ++ (blank ∷ rest)
 unfolding as-records as-record
 freed [] rest = refl
 freed (q ∷ qs) rest = ap (λ (ps : List Pair). as-record q ∷ ps) (freed qs rest)
 
--- what a change makes of the words zs, once the records went out to them
-abbrev pub made-out : {X : Type 0} → Making X → List ℕ → Head → List Pair → (a b : ℕ) → X
-made-out x zs h ps a b = x h (agrees h ps) (length ps) (out zs h ps) a b
-
 -- the words after a change are as many, what comes back fits the list, and the call's contract holds
-pub record Change (Says : Call) (edit : Making Edit) (words : Making (List ℕ)) (zs : List ℕ) (h : Head) (ps : List Pair) (a b : ℕ) : Type 0 where
-  pub long : length (made-out words zs h ps a b) ≡ 12288
-  pub back : Room-back ps (made-out words zs h ps a b) (made-out edit zs h ps a b .count)
-  pub says : Says h ps a b (answer (made-out edit zs h ps a b)) (put-back ps (made-out words zs h ps a b) (made-out edit zs h ps a b .count))
+pub record Change (Says : Call) (ps : List Pair) (e : Edit) (words : List ℕ) : Type 0 where
+  pub long : length words ≡ 12288
+  pub back : Room-back ps words (e .count)
+  pub says : Says (answer e) (put-back ps words (e .count))
+
+-- so of what equals them
+pub changed-alike : {Says : Call} {ps : List Pair} {e f : Edit} {vs ws : List ℕ} → e ≡ f → vs ≡ ws → Change Says ps f ws → Change Says ps e vs
+changed-alike {Says} {ps} {e} {f} {vs} {ws} p q c =
+    subst (λ (x : Edit). Change Says ps x vs) (sym p) (subst (λ (us : List ℕ). Change Says ps f us) (sym q) c)
 
 -- what comes back is said of the held pairs: where head and list disagree, nothing does
 module _ (zs : List ℕ) (long : length zs ≡ 12288) (h : Head) (ps : List Pair) (a b : ℕ) where
@@ -128,12 +118,12 @@ module _ (zs : List ℕ) (long : length zs ≡ 12288) (h : Head) (ps : List Pair
   unfolding laid-list
   held-out e = ap (λ (g : Pairs). g .pairs) (out-list zs long h ps e)
 
-  taken-held : (k : ℕ) (new : List Lists.Pair → List Pair) → (agrees h ps ≡ false → k ≡ 13) →
-      if-taken k (new (laid-pairs (h .m) (out zs h ps))) ps ≡ if-taken k (new (held-list h ps .pairs)) ps
+  taken-held : {X : Type 0} (k : ℕ) (new : List Lists.Pair → X) (old : X) → (agrees h ps ≡ false → k ≡ 13) →
+      if-taken k (new (laid-pairs (h .m) (out zs h ps))) old ≡ if-taken k (new (held-list h ps .pairs)) old
   unfolding if-taken
-  taken-held k new f = go (agrees h ps) refl
+  taken-held {X} k new old f = go (agrees h ps) refl
     where
-      go : (t : Bool) → agrees h ps ≡ t → cond (eqb k 0) (new (laid-pairs (h .m) (out zs h ps))) ps ≡ cond (eqb k 0) (new (held-list h ps .pairs)) ps
+      go : (t : Bool) → agrees h ps ≡ t → cond (eqb k 0) (new (laid-pairs (h .m) (out zs h ps))) old ≡ cond (eqb k 0) (new (held-list h ps .pairs)) old
       go true e = rw (held-out e)
       go false e = let z : eqb k 0 ≡ false = ne-eqb k 0 (λ z. omega (arith, f e)) in rw z
 
@@ -146,31 +136,36 @@ module _ (zs : List ℕ) (long : length zs ≡ 12288) (h : Head) (ps : List Pair
   back-enough e = record { room = record { enough = e .in-list; few = e .room; long = λ _. omega (arith, e .long) }; fits = e .fit }
 
   -- ADD: the answer on words is the call's
-  pub add-change : Change Add-says add-edit add-words zs h ps a b
-  unfolding added add-edit edit-of add-on-number
-  add-change =
-      let same = out-add-number zs long h ps a b in
-      let done = add-edited h t (length ps) (out zs h ps) a b (out-ready zs long h ps) (out-long zs long h ps) in
-      let new : List Lists.Pair → List Pair = λ qs. as-records (insert-pair (smaller-first-pair a b) qs) ++ drop (h .m + 1) ps in
+  pub add-change : (w : ℕ) →
+      Change (Add-says h ps a b w) ps (add-edit h t (length ps) (out zs h ps) a b w) (add-words h t (length ps) (out zs h ps) a b w)
+  unfolding added pairs-then add-edit edit-of add-on-number pair-located located pairs-raised
+  add-change w =
+      let same = out-add-number zs long h ps a b w in
+      let done = add-edited h t (length ps) (out zs h ps) (out-ready zs long h ps) (out-long zs long h ps) a b w in
+      let m : List Lists.Pair → ℕ = λ qs. cond (is-held (smaller-first-pair a b) qs) (h .m) (h .m + 1) in
+      let new : List Lists.Pair → List Pair = λ qs. as-records (raise-pair (stops-of a b w) qs) ++ drop (m qs) ps in
+      let thirteen : agrees h ps ≡ false → add-number h ps a b w ≡ 13 = λ d. unfold add-number in (add-13 _ _ _ a b w (rw d)) in
       record {
         long = done .long;
         back = back-enough done;
         says = record {
           number = same;
-          head = ap (λ (k : ℕ). if-taken k (head-of (h .n) (h .m + 1)) h) same;
+          head =
+              ap (λ (k : ℕ). if-taken k (head-of (h .n) (m (laid-pairs (h .m) (out zs h ps)))) h) same
+              ∙ taken-held (add-number h ps a b w) (λ qs. head-of (h .n) (m qs)) h thirteen;
           list =
-              back-is h _ _ _ (h .m + 1) _ _ ps done
+              back-is h _ _ _ (m (laid-pairs (h .m) (out zs h ps))) _ _ ps done
               ∙ ap (λ (k : ℕ). if-taken k (new (laid-pairs (h .m) (out zs h ps))) ps) same
-              ∙ taken-held (add-number h ps a b) new (λ d. unfold add-number in (add-13 _ _ _ a b (rw d)));
+              ∙ taken-held (add-number h ps a b w) new ps thirteen;
         };
       }
 
   -- REMOVE likewise
-  pub remove-change : Change Remove-says (λ g s len. remove-edit g s) (λ g s len. remove-words g s) zs h ps a b
+  pub remove-change : Change (Remove-says h ps a b) ps (remove-edit h t (out zs h ps) a b) (remove-words h t (out zs h ps) a b)
   unfolding removed remove-edit edit-of remove-on-number
   remove-change =
       let same = out-remove-number zs long h ps a b in
-      let done = remove-edited h t (length ps) (out zs h ps) a b (out-ready zs long h ps) (out-long zs long h ps) in
+      let done = remove-edited h t (length ps) (out zs h ps) (out-ready zs long h ps) (out-long zs long h ps) a b in
       let new : List Lists.Pair → List Pair =
       λ qs. as-records (remove-pair (smaller-first-pair a b) qs) ++ (blank ∷ drop (h .m) ps) in
       record {
@@ -184,6 +179,6 @@ module _ (zs : List ℕ) (long : length zs ≡ 12288) (h : Head) (ps : List Pair
               ∙ ap (λ (qs : List Pair). if-taken (refusal (remove-causes (not (agrees h ps)) (laid-list (h .n) (h .m) (out zs h ps)) a b)) qs ps)
               (freed (remove-pair (smaller-first-pair a b) (laid-pairs (h .m) (out zs h ps))) (drop (h .m) ps))
               ∙ ap (λ (k : ℕ). if-taken k (new (laid-pairs (h .m) (out zs h ps))) ps) same
-              ∙ taken-held (remove-number h ps a b) new (λ d. unfold remove-number in (remove-13 _ _ a b (rw d)));
+              ∙ taken-held (remove-number h ps a b) new ps (λ d. unfold remove-number in (remove-13 _ _ a b (rw d)));
         };
       }

@@ -1,10 +1,12 @@
 -- What add and remove do on words.
 --   Edited                      what the words are after an answer
 --   edit-refused, edit-taken    an answer and the words, by its number
---   lookup-says, raise-says     what lookup says, and what is raised there
+--   list-fits                   a list in words fits records
+--   lookup-says, raise-says, room-says    what lookup says, what is raised there, and 19 and 11 by it
 --   full-less                   a list that is not full has room for a record
 --   freed-pair                  the record that remove frees
---   count-is, weight-few        the count at a held pair's place, and that none passes 1,000
+--   count-within, count-held, count-none    what lies at the place that lookup has found
+--   weight-few                  no count passes 1,000
 --   find-asks, room-asks, raised-asks, raised-few, delete-asks    what the functions on words ask
 --   add-edited, remove-edited   what add and remove leave
 -- Assumes nothing.
@@ -13,25 +15,25 @@ use mathlib.Core.Bool.{Bool, true, false, _&&_, _||_, not}
 use mathlib.Core.List.{List, [], _∷_, _++_}
 use Prim.Native.Nat.{ℕ, zero, suc, _+_, _-_, _≤_, _<_, min, max}
 use native.Mathlib.Omega.{arith}
-use lib.Dec.{eqb, leb}
+use lib.Dec.{eqb, leb, ltb}
 use lib.ListN.{length, getD}
 use borrow.Author.Tests.{ne-eqb, eq-eqb, eqb-true, eqb-false, not-false}
 use Rattle.theory.specs.Basics.{all}
-use Rattle.theory.specs.Lists.{Pair, pair, ends-in-range, weight-in-range, is-list}
-use Rattle.theory.specs.Refusals.{refusal, if-taken}
+use Rattle.theory.specs.Lists.{Pair, Pairs, pair, ends-in-range, weight-in-range, is-list}
+use Rattle.theory.specs.Refusals.{cause, refusal, if-taken}
 use Rattle.theory.proofs.Tests.{tests, no, by-test}
 use Rattle.theory.specs.Words.{laid-pairs, laid-list}
 use Rattle.theory.proofs.Lists.{listed}
 use Rattle.theory.proofs.Words.{length-laid, laid-at}
 use Rattle.pairs.specs.Held.{same-ends, is-held, weight-of, place-of, raise-pair, remove-pair, without-pair, smaller-first-pair, stops-of}
-use Rattle.pairs.specs.Causes.{count-causes}
+use Rattle.pairs.specs.Causes.{count-causes, count-passes}
 use Rattle.pairs.specs.Located.{Rising-words, located}
 use Rattle.pairs.specs.Counts.{Raisable, raised, pairs-raised}
 use Rattle.pairs.specs.declared.Place.{Place}
 use Rattle.pairs.specs.Shifts.{delete-at}
 use Rattle.pairs.proofs.Causes.{modules-known, count-known, count-stays, stops-good}
 use Rattle.pairs.proofs.Ends.{stops-held, stops-weight}
-use Rattle.pairs.proofs.Keeps.{remove-list}
+use Rattle.pairs.proofs.Keeps.{remove-list, not-held-weight}
 use Rattle.pairs.proofs.Places.{weight-at, located-any}
 use Rattle.pairs.proofs.Raised.{raise-list}
 use Rattle.pairs.proofs.Stops.{raise-asks, length-raised, raised-pairs}
@@ -110,6 +112,12 @@ words-fit n m words few e i h =
       omega (arith, f .2, ap (λ (q : Pair). q .w) p),
     )
 
+-- so a list in words does
+pub list-fits : (g : Pairs) (m : ℕ) (words : List ℕ) → is-list g ≡ true → laid-pairs m words ≡ g .pairs → Fits-records m words
+list-fits g m words e same =
+    let l = listed g e in
+    words-fit (g .n) m words (l .few) (rw same (list-small (g .n) (g .pairs) (l .ends) (l .weights)))
+
 -- ---- lookup
 
 -- what lookup answers of the pair of a and b, the smaller first
@@ -124,18 +132,40 @@ pub raise-says : (m a b w : ℕ) (words : List ℕ) {place found : Place} {c d :
 unfolding stops-of
 raise-says m a b w words e f g = rw (e, f, g)
 
+-- 19 and 11, by the place and the count that were found
+pub room-says : (p : Pair) (w : ℕ) (ps : List Pair) (full : Bool) {place : Place} {count r : ℕ} → count ≡ weight-of p ps → place ≡ located p ps →
+    r ≡ refusal (cause 19 (ltb 1000 (count + w)) ∷ cause 11 (not (place .held) && full) ∷ []) →
+    r ≡ refusal (cause 19 (count-passes p w ps) ∷ cause 11 (not (is-held p ps) && full) ∷ [])
+unfolding count-passes located
+room-says p w ps full e f g = g ∙ rw (e, f)
+
 -- w stops of the pair are found alike
 stops-located : (a b w : ℕ) (ps : List Pair) → located (smaller-first-pair a b) ps ≡ located (stops-of a b w) ps
 unfolding smaller-first-pair pair stops-of
 stops-located a b w ps = located-any (min a b) (max a b) 1 w ps
 
--- the count at a held pair's place
-pub count-is : (m : ℕ) (p : Pair) (words : List ℕ) → Rising-words m words → is-held p (laid-pairs m words) ≡ true →
-    (place-of p (laid-pairs m words) < m) × (getD words (8192 + place-of p (laid-pairs m words)) 0 ≡ weight-of p (laid-pairs m words))
-count-is m p words rises held =
-    let there = place-held m p words held in
-    let at = ap (λ (q : Pair). q .w) (laid-at m words (place-of p (laid-pairs m words)) (pair 0 0) there) in
-    (there, sym (weight-at p (laid-pairs m words) (pair 0 0) (rises .rises) held ∙ at))
+-- what lies at the place that lookup has found: a held pair's count
+module _ (m : ℕ) (p : Pair) (words : List ℕ) {place : Place} (found : place ≡ located p (laid-pairs m words)) where
+  is-there : place .held ≡ is-held p (laid-pairs m words)
+  unfolding located
+  is-there = ap (λ (x : Place). x .held) found
+
+  its-place : place .at ≡ place-of p (laid-pairs m words)
+  unfolding located
+  its-place = ap (λ (x : Place). x .at) found
+
+  pub count-within : place .held ≡ true → place .at < m
+  count-within held = rw its-place (place-held m p words (sym is-there ∙ held))
+
+  pub count-held : Rising-words m words → place .held ≡ true → getD words (8192 + place .at) 0 ≡ weight-of p (laid-pairs m words)
+  count-held rises held =
+      let there = laid-at m words (place .at) (pair 0 0) (count-within held) in
+      let at = ap (λ (i : ℕ). getD (laid-pairs m words) i (pair 0 0)) (sym its-place) ∙ there in
+      sym (weight-at p (laid-pairs m words) (pair 0 0) (rises .rises) (sym is-there ∙ held) ∙ ap (λ (q : Pair). q .w) at)
+
+  -- a pair that is not held counts nothing
+  pub count-none : place .held ≡ false → 0 ≡ weight-of p (laid-pairs m words)
+  count-none new = sym (not-held-weight p (laid-pairs m words) (sym is-there ∙ new))
 
 -- no count in a list passes 1,000
 pub weight-few : (p : Pair) (ps : List Pair) → all weight-in-range ps ≡ true → weight-of p ps ≤ 1000
@@ -183,12 +213,9 @@ module _ {h : Head} {t : Bool} {len : ℕ} {words : List ℕ} (ready : Ready h t
           let l = listed (laid-list (h .n) (h .m) words) (ready .holds yes .listed) in
           (omega (arith, e, weight-few its-pair now-held (l .weights)), count-known _ c .1)
 
-      pub delete-asks : {place : Place} → place ≡ pair-located h words a b → place .held ≡ true →
+      pub delete-asks : {place : Place} → place ≡ located its-pair now-held → place .held ≡ true →
           (place .at < h .m) × (h .m ≤ 4096) × (12288 ≤ length words)
-      unfolding pair-located located
-      delete-asks is held =
-          let there = place-held (h .m) its-pair words (sym (ap (λ (x : Place). x .held) is) ∙ held) in
-          (omega (arith, ap (λ (x : Place). x .at) is, there), find-asks .few, find-asks .long)
+      delete-asks found held = (count-within (h .m) its-pair words found held, find-asks .few, find-asks .long)
 
 -- ---- stops more of a pair
 
@@ -218,9 +245,10 @@ module _ (h : Head) (t : Bool) (len : ℕ) (words : List ℕ) (ready : Ready h t
   unfolding laid-list
   below = omega (arith, stops-weight a b w held-now, count-stays (smaller-first-pair a b) w held-now (passed .within))
 
-  pub raised-asks : Raisable (h .m) there w words
+  pub raised-asks : {place : Place} → place ≡ there → Raisable (h .m) place w words
   unfolding stops-of
-  raised-asks = raise-asks (h .m) there (stops-of a b w) words (ready-rising ready agreed) found (λ _. omega (arith, below)) (λ new. free new .0)
+  raised-asks {place} e =
+      rw e (raise-asks (h .m) there (stops-of a b w) words (ready-rising ready agreed) found (λ _. omega (arith, below)) (λ new. free new .0))
 
   -- how many pairs there are then
   pub raised-few : (pairs-raised (h .m) there ≤ 4096) × (pairs-raised (h .m) there ≤ len)
@@ -244,14 +272,13 @@ module _ (h : Head) (t : Bool) (len : ℕ) (words : List ℕ) (ready : Ready h t
   unfolding edit-of if-taken stops-of
   edit-added long k z =
       let k0 : eqb k 0 ≡ true = eq-eqb k 0 z in
-      let same = raised-pairs (h .m) there (stops-of a b w) words raised-asks (ready-rising ready agreed) found in
-      let l = listed (record { n = h .n; pairs = raise-pair (stops-of a b w) held-now }) raised-list in
+      let same = raised-pairs (h .m) there (stops-of a b w) words (raised-asks refl) (ready-rising ready agreed) found in
       record {
-        long = length-raised (h .m) there (stops-of a b w) words raised-asks ∙ long;
+        long = length-raised (h .m) there (stops-of a b w) words (raised-asks refl) ∙ long;
         in-list = rw k0 (raised-few .1);
         room = rw k0 (raised-few .0);
         pairs = λ _. same;
-        fit = rw k0 (words-fit (h .n) _ _ (l .few) (rw same (list-small (h .n) _ (l .ends) (l .weights))));
+        fit = rw k0 (list-fits (record { n = h .n; pairs = raise-pair (stops-of a b w) held-now }) _ _ raised-list same);
       }
 
 -- ---- a pair less

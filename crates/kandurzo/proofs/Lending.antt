@@ -229,7 +229,7 @@ module _ {n : ℕ} (len : ℕ) (few : len ≤ 4096) (w : Bool) (others : List (F
         let words : Item 𝓤 = holds (word-row W fullShare (a .0 .ptr .0) (a .0 .ptr .1)) us in
         let its : List Pair → Item 𝓤 = λ qs. holds (pair-row W fullShare (l .0) (l .1)) qs in
         let shut : List (Item 𝓤) = ‵ (Entry.shut its-pars os) ∷ [] in
-        -- let mut list = [Pair { a: 0, b: 0 }; len]
+        -- let mut list = [Pair { a: 0, b: 0, w: 0 }; len]
         array-at here p len P.the-row (plain-pair W) tt blank (blank-fits W)
         -- let k = held(words, len), by whatever name
         (calls-at here held-args usize (plain-count W) (1 ∷ []) refl refl (id⊢ 𝓤 _) is-held met-held

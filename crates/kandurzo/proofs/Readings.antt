@@ -10,25 +10,22 @@
 use mathlib.Core.Path.{_≡_, refl, sym, ap, _∙_}
 use mathlib.Core.Bool.{Bool, true, false, cond}
 use mathlib.Core.List.{List, [], _∷_, _++_}
-use Prim.Native.Nat.{ℕ, _+_, _*_, _≤_, _<_}
+use Prim.Native.Nat.{ℕ, _≤_, _<_}
 use native.Mathlib.Omega.{arith}
 use lib.ListN.{length, drop}
 use borrow.Author.Tests.{lt-ltb, le-ltb}
-use Rattle.theory.specs.Basics.{all}
 use Rattle.theory.specs.Lists as Lists
 use Rattle.theory.specs.Lists.{Pairs, is-list}
 use Rattle.theory.specs.Words.{laid-pairs}
 use Rattle.theory.proofs.Lists.{listed}
 use Rattle.theory.proofs.Words.{length-laid}
-use Rattle.pairs.proofs.Keeps.{counts-once}
 use Rattle.lines.specs.Outcomes.{Outcome, refused, taken}
 use Rattle.lines.proofs.Taken.{refused-not-taken}
 use Rattle.pairfile.specs.File.{read-file}
-use Rattle.pairfile.specs.Promise.{all-once}
 use Rattle.pairfile.specs.Answers.{reading-of, pairs-of, WordsRead}
 use Rattle.pairfile.specs.declared.Reading.{Reading}
 use Rattle.pairfile.proofs.Accepts as File
-use Rattle.pairfile.proofs.Readings.{file-numbers, Sound, reading-past, words-small}
+use Rattle.pairfile.proofs.Readings.{file-numbers, Sound, reading-past}
 use Rattle.dimacs.specs.Edges.{read-dimacs}
 use Rattle.dimacs.proofs.Given.{dimacs-given, number-range}
 use Rattle.dimacs.proofs.Accepts as Dimacs
@@ -42,34 +39,30 @@ use Rattle.kandurzo.specs.Reading.{Reader, read-buffers, read-outcome, r
 use Rattle.kandurzo.proofs.Outcomes.{answer}
 use Rattle.kandurzo.proofs.Filling.{work-zeros, cleared-past}
 use Rattle.kandurzo.proofs.Gates.{none-short}
+use Rattle.kandurzo.proofs.Changes.{list-fits}
 use Rattle.kandurzo.proofs.Calls.{records-laid}
 use Rattle.kandurzo.proofs.Taken.{held-front, agrees-front}
 
 -- ---- a reader
 
--- what is asked of one: what it takes is a list that fits, every pair counts once, and no file is refused by 0, 12 or 13
+-- what is asked of one: what it takes is a list that fits, and no file is refused by 0, 12 or 13
 pub record Reads (read : Reader) : Type 0 where
   pub list : (room : ℕ) (bytes : List ℕ) (g : Pairs) → read room bytes ≡ taken g → is-list g ≡ true
   pub fits : (room : ℕ) (bytes : List ℕ) (g : Pairs) → read room bytes ≡ taken g → length (g .pairs) ≤ room
-  pub once : (room : ℕ) (bytes : List ℕ) (g : Pairs) → read room bytes ≡ taken g → all counts-once (g .pairs) ≡ true
   -- 12 is the work buffer's length alone, and 13 is of head and list
   pub numbers : (room : ℕ) (bytes : List ℕ) (k : ℕ) → read room bytes ≡ refused k → (1 ≤ k) × (k ≡ 12 → ⊥) × (k ≡ 13 → ⊥)
 
 pub reads-file : Reads read-file
-unfolding counts-once all-once
 reads-file = record {
   list = λ room bytes g e. File.accepted room bytes g e .list;
   fits = λ room bytes g e. File.accepted room bytes g e .fits;
-  once = λ room bytes g e. File.accepted room bytes g e .once;
   numbers = λ room bytes k e. let r = file-numbers room bytes k e in (r .0, (λ z. omega (arith, r .1, z)), λ z. omega (arith, r .1, z));
 }
 
 pub reads-dimacs : Reads read-dimacs
-unfolding counts-once all-once
 reads-dimacs = record {
   list = λ room bytes g e. Dimacs.accepted room bytes g e .list;
   fits = λ room bytes g e. Dimacs.accepted room bytes g e .fits;
-  once = λ room bytes g e. Dimacs.accepted room bytes g e .once;
   numbers = λ room bytes k e. number-range k (dimacs-given room bytes .by k e);
 }
 
@@ -123,10 +116,12 @@ module _ {read : Reader} (reads : Reads read) (room : ℕ) (bytes : List ℕ) wh
     head-is = ap (λ (q : Reading). head-of (q .n) (q .m)) (on .reading)
 
     fit-records : Fits-records (f .m) after
-    unfolding Fits-records
-    fit-records j l =
-        let small = words-small on sound in
-        (omega (arith, small (2 * j) (omega arith)), omega (arith, small (2 * j + 1) (omega arith)))
+    unfolding pairs-of Fits-records
+    fit-records = go (read room bytes) refl (on .pairs)
+      where
+        go : (o : Outcome Pairs) → read room bytes ≡ o → laid-pairs (f .m) after ≡ pairs-of o → Fits-records (f .m) after
+        go (refused k) e q = λ j l. absurd (omega (arith, length-laid (f .m) after, ap length q, l))
+        go (taken g) e q = list-fits g (f .m) after (reads .list room bytes g e) q
 
     -- of any other: the file's answer
     pub read-on : Read-on read room bytes work after (file-edit f)
@@ -227,14 +222,11 @@ module _ {read : Reader} (reads : Reads read) where
   module _ (bytes : List ℕ) (ps : List Pair) (w : ℕ) (g : Pairs) (e : read-outcome read (length ps) w bytes ≡ taken g) where
     pub read-held : held-list (read-head (taken g)) (records-front (pairs-of (taken g)) ps) ≡ g
     unfolding read-head reading-of pairs-of records-front
-    read-held =
-        held-front (g .n) (length (g .pairs)) (g .pairs) (drop (length (g .pairs)) ps) refl
-        (reads .once (length ps) bytes g (outcome-taken read (length ps) w bytes g e .1))
+    read-held = held-front (g .n) (length (g .pairs)) (g .pairs) (drop (length (g .pairs)) ps) refl
 
     -- 13 never follows a taken file
     pub read-agrees : agrees (read-head (taken g)) (records-front (pairs-of (taken g)) ps) ≡ true
     unfolding read-head reading-of pairs-of records-front
     read-agrees =
-        let t = outcome-taken read (length ps) w bytes g e .1 in
-        agrees-front (g .n) (length (g .pairs)) (g .pairs) (drop (length (g .pairs)) ps) refl (reads .once (length ps) bytes g t)
-        (reads .list (length ps) bytes g t)
+        agrees-front (g .n) (length (g .pairs)) (g .pairs) (drop (length (g .pairs)) ps) refl
+        (reads .list (length ps) bytes g (outcome-taken read (length ps) w bytes g e .1))

@@ -125,8 +125,8 @@ pub(crate) fn add_on_words(
     }
     let m = head.m as usize;
     let place = find(words, m, a, b);
-    let held = count_there(words, m, place, a, b);
-    let r = room_number(head, len, place.held, held, w);
+    let stops = count_there(words, m, place, a, b);
+    let r = room_number(head, len, place.held, stops, w);
     if r != 0 {
         return refused(r, head);
     }

@@ -199,7 +199,7 @@ pub extern "C" fn kandurzo_place(head: Head, list: &[Pair], a: u32, b: u32) -> P
 pub use kandurzo_place as place;
 
 // Reads a pair file: makes a new head, and writes the first M records in rising order. Refuses by 12 (work), then line by line: 1, 2; 1, 3, 11;
-// 1, 5, 4, 10; 6. A refused file leaves every record as it was.
+// 1, 5, 4, 18, 10; 6. A refused file leaves every record as it was.
 #[no_mangle]
 pub extern "C" fn kandurzo_read(bytes: &[u8], list: &mut [Pair], work: &mut [u32]) -> Changed
     ensures { λ r. ⌜ Read-call read-file (now (bytes .entry)) (now (list .entry)) (now (work .entry)) r (now (list .exit)) (now (work .exit)) ⌝ }

@@ -1,13 +1,13 @@
 // The desk: one buffer for all the words that a run keeps, so that a function is lent one slice. An index past the end reads 0 and writes nothing.
 //   0        a list's words, in the layout of `records`
-//   DUE      the numbers of the records that are due
+//   DUE      the words of the list that is due
 //   COUNTS   what is counted
 //   TABLE    the table of the pairs: 512 words for each of 512 modules
 pub(crate) const DUE: usize = 12288;
 
-pub(crate) const COUNTS: usize = 20480;
+pub(crate) const COUNTS: usize = 24576;
 
-pub(crate) const TABLE: usize = 20512;
+pub(crate) const TABLE: usize = 24608;
 
 // The next random state, never 0 after one that is not (xorshift of Marsaglia, 32 bits).
 pub(crate) fn next(state: u32) -> u32 {
@@ -19,6 +19,11 @@ pub(crate) fn next(state: u32) -> u32 {
 // A number below k, by chance; 0 where k is 0.
 pub(crate) fn below(state: u32, k: u32) -> u32 {
     if k == 0 { 0 } else { (state / 65536) % k }
+}
+
+// A count of 1 to `top`, by chance.
+pub(crate) fn count(state: u32, top: u32) -> u32 {
+    std::num::wrapping_add_u32(below(next(state), top), 1)
 }
 
 // A word as an index.
@@ -48,11 +53,17 @@ pub(crate) fn place(at: usize, j: u32) -> usize {
     plus(at, plus(wide(j), wide(j)))
 }
 
+// Where its count lies.
+pub(crate) fn count_place(at: usize, j: u32) -> usize {
+    plus(at, plus(8192, wide(j)))
+}
+
 // Writes record j of a list that begins at `at`.
-pub(crate) fn put_record(words: &mut [u32], at: usize, j: u32, a: u32, b: u32) {
+pub(crate) fn put_record(words: &mut [u32], at: usize, j: u32, a: u32, b: u32, w: u32) {
     let i = place(at, j);
     put_word(words, i, a);
     put_word(words, plus(i, 1), b);
+    put_word(words, count_place(at, j), w);
 }
 
 // One more, unless they are the same.

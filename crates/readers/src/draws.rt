@@ -1,15 +1,19 @@
-// Lists drawn into the model's table, and written as DIMACS files: the pairs in the order drawn, either module first, with comments before some lines.
+// Lists drawn into the model's table, and written as files: the pairs in the order drawn, either module first. A pair file has their counts, a DIMACS file
+// comments before some lines.
 use crate::desk;
 use crate::model;
 use crate::reads;
 
-// How lists are drawn and read: modules, records of the list, draws, pairs at most; in how many ways their files are read; and what is altered before it is
-// compared (1 the number, 2 the count of pairs, 3 the records, 4 the work buffer; 0 nothing).
+// How lists are drawn and read: modules, records of the list, draws, pairs at most, the greatest count, and whether they are DIMACS files; in how many ways
+// they are read; and what is altered before it is compared (1 the number, 2 the number of pairs, 3 the records, 4 the work buffer, 5 the first count due; 0
+// nothing).
 pub(crate) struct Plan {
     pub(crate) n: u32,
     pub(crate) len: u32,
     pub(crate) draws: u32,
     pub(crate) most: u32,
+    pub(crate) top: u32,
+    pub(crate) dimacs: bool,
     pub(crate) ways: u32,
     pub(crate) altered: u32,
 }
@@ -19,6 +23,13 @@ struct Two {
     a: u32,
     b: u32,
     state: u32,
+}
+
+// Two modules and a count.
+struct Stops {
+    a: u32,
+    b: u32,
+    w: u32,
 }
 
 // A file's length so far, how many comments it has, and the pair of its last line.
@@ -50,7 +61,7 @@ fn is_new(plan: Plan, two: Two, count: u32, desk: &[u32]) -> bool {
     if count == plan.most {
         return false;
     }
-    !model::held(desk, two.a, two.b)
+    model::count(desk, two.a, two.b) == 0
 }
 
 // Puts such a pair into the table; how many there are then.
@@ -58,7 +69,8 @@ fn put_drawn(plan: Plan, two: Two, count: u32, desk: &mut [u32]) -> u32 {
     if !is_new(plan, two, count, desk) {
         return count;
     }
-    model::put_pair(desk, two.a, two.b, 1);
+    let w = desk::count(two.state, plan.top);
+    model::put_pair(desk, two.a, two.b, w);
     std::num::wrapping_add_u32(count, 1)
 }
 
@@ -88,10 +100,13 @@ fn put_kind(file: &mut [u8], at: usize, kind: u32) -> usize {
     }
 }
 
-// A comment one time in four.
-fn put_comment(file: &mut [u8], text: Text, state: u32) -> Text {
+// In a DIMACS file, a comment one time in four.
+fn put_comment(plan: Plan, file: &mut [u8], text: Text, state: u32) -> Text {
     let kind = state / 4096 % 16;
     if 3 < kind {
+        return text;
+    }
+    if !plan.dimacs {
         return text;
     }
     Text {
@@ -101,22 +116,31 @@ fn put_comment(file: &mut [u8], text: Text, state: u32) -> Text {
     }
 }
 
-// The line of two modules, numbered from 1.
+// The line of two modules, numbered from 1, in a DIMACS file.
 fn put_edge(file: &mut [u8], at: usize, a: u32, b: u32) -> usize {
     let first = reads::put_field(file, at, b"e ", std::num::wrapping_add_u32(a, 1));
     let second = reads::put_field(file, first, b" ", std::num::wrapping_add_u32(b, 1));
     reads::put_text(file, second, b"\n")
 }
 
+// The line of two modules and their count, in a file of the plan.
+fn put_stops(plan: Plan, file: &mut [u8], at: usize, a: u32, b: u32, w: u32) -> usize {
+    if plan.dimacs {
+        return put_edge(file, at, a, b);
+    }
+    reads::put_counted(file, at, a, b, w)
+}
+
 // The line of a draw, where the pair is in the table still; it is taken out.
-fn put_line(file: &mut [u8], text: Text, two: Two, desk: &mut [u32]) -> Text {
-    if !model::held(desk, two.a, two.b) {
+fn put_line(plan: Plan, file: &mut [u8], text: Text, two: Two, desk: &mut [u32]) -> Text {
+    let w = model::count(desk, two.a, two.b);
+    if w == 0 {
         return text;
     }
     model::put_pair(desk, two.a, two.b, 0);
-    let after = put_comment(file, text, two.state);
+    let after = put_comment(plan, file, text, two.state);
     Text {
-        end: put_edge(file, after.end, two.a, two.b),
+        end: put_stops(plan, file, after.end, two.a, two.b, w),
         comments: after.comments,
         a: two.a,
         b: two.b,
@@ -130,31 +154,31 @@ fn put_lines(plan: Plan, state: u32, file: &mut [u8], text: Text, desk: &mut [u3
     let mut i = 0;
     while i < plan.draws {
         let two = drawn(plan.n, now);
-        put = put_line(file, put, two, desk);
+        put = put_line(plan, file, put, two, desk);
         now = two.state;
         i += 1;
     }
     put
 }
 
-// N on the `p` line: 513 in way 5, and in way 11, where nothing of the file counts.
+// N in the file: 513 in way 5, and in way 11, where nothing of the file counts.
 fn modules(plan: Plan, way: u32) -> u32 {
     if way == 5 || way == 11 { 513 } else { plan.n }
 }
 
-// M on the `p` line: one more than there are in ways 1, 7, 8, 9 and 12, too many in way 6, one more than there is room for in way 10.
+// M in the file: one more than there are in ways 1, 7, 8, 9 and from 12 on, too many in way 6, one more than there is room for in way 10.
 fn pairs(plan: Plan, way: u32, count: u32) -> u32 {
     match way {
-        1 | 7 | 8 | 9 | 12 => std::num::wrapping_add_u32(count, 1),
+        0 | 2 | 3 | 4 | 5 | 11 => count,
         6 => 4097,
         10 => std::num::wrapping_add_u32(plan.len, 1),
-        _ => count,
+        _ => std::num::wrapping_add_u32(count, 1),
     }
 }
 
-// What stands behind the lines: a line too many in way 2, no comment in way 3, the last LF missing in way 4, a module 0 in way 7, a module with itself in
+// What stands behind the lines of a DIMACS file: a line too many in way 2, no comment in way 3, the last LF missing in way 4, a module 0 in way 7, a module with itself in
 // way 8, the last pair again, turned, in way 9, a module 0 with itself in way 12. The file's length then.
-fn put_end(file: &mut [u8], text: Text, way: u32) -> usize {
+fn put_edge_end(file: &mut [u8], text: Text, way: u32) -> usize {
     let end = text.end;
     match way {
         2 => reads::put_text(file, end, b"e 0 0\n"),
@@ -168,7 +192,73 @@ fn put_end(file: &mut [u8], text: Text, way: u32) -> usize {
     }
 }
 
-// The `p` line, behind a comment or none.
+// A line that is damaged or too many: a module unknown in way 7, a module twice in way 8, the last pair again, turned, in way 9, a module unknown twice in
+// way 12; a count outside 1 to 1,000 in ways 13 to 15, of five digits in way 16, and outside beside a module unknown, a module twice, and the last pair again,
+// turned, in ways 20 to 22.
+fn last_line(text: Text, way: u32) -> Stops {
+    let s = Stops { a: 0, b: 1, w: 1 };
+    match way {
+        7 => Stops { a: 512, ..s },
+        8 => Stops { a: 1, ..s },
+        9 => Stops {
+            a: text.b,
+            b: text.a,
+            w: 1000,
+        },
+        12 => Stops {
+            a: 512,
+            b: 512,
+            ..s
+        },
+        13 => Stops { w: 0, ..s },
+        14 => Stops { w: 1001, ..s },
+        15 => Stops { w: 9999, ..s },
+        16 => Stops { w: 10000, ..s },
+        20 => Stops { b: 512, w: 0, ..s },
+        21 => Stops { a: 1, w: 1001, ..s },
+        22 => Stops {
+            a: text.b,
+            b: text.a,
+            w: 1001,
+        },
+        _ => s,
+    }
+}
+
+// What stands behind the lines of a pair file: no pair line in way 3, the last LF missing in way 4, a count with a leading zero in way 17, none in ways 18 and
+// 19, another line in ways 2, 7 to 9, 12 to 16 and from 20 on.
+fn put_pair_end(file: &mut [u8], text: Text, way: u32) -> usize {
+    let end = text.end;
+    let line = last_line(text, way);
+    match way {
+        0 | 1 | 5 | 6 | 10 | 11 => end,
+        3 => reads::put_text(file, end, b"cx\n"),
+        4 => std::num::wrapping_sub_usize(end, 1),
+        17 => reads::put_text(file, end, b"0,1,01\n"),
+        18 => reads::put_text(file, end, b"pair=0,1\n"),
+        19 => reads::put_text(file, end, b"0,1\n"),
+        _ => reads::put_counted(file, end, line.a, line.b, line.w),
+    }
+}
+
+fn put_end(plan: Plan, file: &mut [u8], text: Text, way: u32) -> usize {
+    if plan.dimacs {
+        return put_edge_end(file, text, way);
+    }
+    put_pair_end(file, text, way)
+}
+
+// N and M in front of the lines.
+fn put_numbers(plan: Plan, file: &mut [u8], at: usize, n: u32, m: u32) -> usize {
+    if plan.dimacs {
+        let end = reads::put_field(file, at, b"p edge ", n);
+        return reads::put_field(file, end, b" ", m);
+    }
+    let end = reads::put_field(file, at, b"modules=", n);
+    reads::put_field(file, end, b"\npairs=", m)
+}
+
+// The file's head, in a DIMACS file behind a comment or none.
 fn put_head(plan: Plan, way: u32, count: u32, state: u32, file: &mut [u8]) -> Text {
     let empty = Text {
         end: 0,
@@ -176,11 +266,11 @@ fn put_head(plan: Plan, way: u32, count: u32, state: u32, file: &mut [u8]) -> Te
         a: 0,
         b: 0,
     };
-    let start = put_comment(file, empty, state);
-    let n = reads::put_field(file, start.end, b"p edge ", modules(plan, way));
-    let m = reads::put_field(file, n, b" ", pairs(plan, way, count));
+    let start = put_comment(plan, file, empty, state);
+    let m = pairs(plan, way, count);
+    let end = put_numbers(plan, file, start.end, modules(plan, way), m);
     Text {
-        end: reads::put_text(file, m, b"\n"),
+        end: reads::put_text(file, end, b"\n"),
         ..start
     }
 }
@@ -196,9 +286,9 @@ pub(crate) fn put_file(
 ) -> Text {
     let head = put_head(plan, way, count, state, file);
     let lines = put_lines(plan, state, file, head, desk);
-    let last = put_comment(file, lines, desk::next(state));
+    let last = put_comment(plan, file, lines, desk::next(state));
     Text {
-        end: put_end(file, last, way),
+        end: put_end(plan, file, last, way),
         ..last
     }
 }

@@ -29,6 +29,9 @@ fn held(words: &[u32], len: usize) -> usize
         if 65535 < words[2 * i + 1] {
             return i;
         }
+        if 65535 < words[8192 + i] {
+            return i;
+        }
         i += 1;
     }
     i
@@ -36,8 +39,18 @@ fn held(words: &[u32], len: usize) -> usize
 
 // read into 100 records.
 pub(crate) fn read_100(words: &mut [u32], bytes: &[u8], work: &mut [u32]) -> Changed {
-    let mut list = [Pair { a: 0, b: 0 }; 100];
+    let mut list = [Pair { a: 0, b: 0, w: 0 }; 100];
     let k = held(words, 100);
+    copy_in(&mut list, words, k);
+    let answer = read(bytes, &mut list, work);
+    copy_out(&list, words, k);
+    answer
+}
+
+// read into 4,096 records.
+pub(crate) fn read_4096(words: &mut [u32], bytes: &[u8], work: &mut [u32]) -> Changed {
+    let mut list = [Pair { a: 0, b: 0, w: 0 }; 4096];
+    let k = held(words, 4096);
     copy_in(&mut list, words, k);
     let answer = read(bytes, &mut list, work);
     copy_out(&list, words, k);
@@ -46,7 +59,7 @@ pub(crate) fn read_100(words: &mut [u32], bytes: &[u8], work: &mut [u32]) -> Cha
 
 // read_dimacs into 100 records.
 pub(crate) fn read_dimacs_100(words: &mut [u32], bytes: &[u8], work: &mut [u32]) -> Changed {
-    let mut list = [Pair { a: 0, b: 0 }; 100];
+    let mut list = [Pair { a: 0, b: 0, w: 0 }; 100];
     let k = held(words, 100);
     copy_in(&mut list, words, k);
     let answer = read_dimacs(bytes, &mut list, work);
@@ -56,7 +69,7 @@ pub(crate) fn read_dimacs_100(words: &mut [u32], bytes: &[u8], work: &mut [u32])
 
 // read_dimacs into 4,096 records.
 pub(crate) fn read_dimacs_4096(words: &mut [u32], bytes: &[u8], work: &mut [u32]) -> Changed {
-    let mut list = [Pair { a: 0, b: 0 }; 4096];
+    let mut list = [Pair { a: 0, b: 0, w: 0 }; 4096];
     let k = held(words, 4096);
     copy_in(&mut list, words, k);
     let answer = read_dimacs(bytes, &mut list, work);

@@ -1,5 +1,5 @@
-// The public calls that read a file to head and list, on lent records: read, of files that are made, and read_dimacs, of drawn lists' files, against a plain
-// model.
+// The public calls that read a file to head and list, on lent records: read and read_dimacs, of files that are made, and of drawn lists' files, against a
+// plain model.
 mod desk;
 mod draws;
 mod edges;

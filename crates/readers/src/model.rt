@@ -1,4 +1,4 @@
-// The plain model of a list: a table of 512 by 512 modules on the desk, 1 where the pair is in the list, in both orders.
+// The plain model of a list: a table of 512 by 512 modules on the desk, with the count of each pair that is in the list, in both orders, and 0 for the others.
 use crate::desk;
 use crate::desk::TABLE;
 
@@ -13,11 +13,12 @@ fn entry(a: u32, b: u32) -> usize {
     desk::plus(TABLE, desk::wide(512 * a + b))
 }
 
-pub(crate) fn held(desk: &[u32], a: u32, b: u32) -> bool {
-    desk::word_at(desk, entry(a, b)) == 1
+// The pair's count; 0 where it is not held.
+pub(crate) fn count(desk: &[u32], a: u32, b: u32) -> u32 {
+    desk::word_at(desk, entry(a, b))
 }
 
-// Puts a pair in (1) or takes it out (0).
+// Puts a pair in with a count, or takes it out (0).
 pub(crate) fn put_pair(desk: &mut [u32], a: u32, b: u32, x: u32) {
     desk::put_word(desk, entry(a, b), x);
     desk::put_word(desk, entry(b, a), x);
@@ -25,10 +26,11 @@ pub(crate) fn put_pair(desk: &mut [u32], a: u32, b: u32, x: u32) {
 
 // Writes the pair as record j of the list at `at` where it is held; the record after it.
 fn put_held(desk: &mut [u32], at: usize, a: u32, b: u32, j: u32) -> u32 {
-    if !held(desk, a, b) {
+    let w = count(desk, a, b);
+    if w == 0 {
         return j;
     }
-    desk::put_record(desk, at, j, a, b);
+    desk::put_record(desk, at, j, a, b, w);
     std::num::wrapping_add_u32(j, 1)
 }
 

@@ -1,6 +1,6 @@
-// read, into a list of 100 records, each 7,7 before the call. Each line has the length of the work buffer and how the file is made: modules=N, pairs=M,
+// read, into a list of 100 records, each 7,7,7 before the call. Each line has the length of the work buffer and how the file is made: modules=N, pairs=M,
 // LINES pair lines, the first AGAIN of them again, and MORE empty lines; then the number due and the number given, the head, the first three records,
-// how many of the list's words are 7 as before, and the work buffer, each word of which was 7.
+// how many of the list's words are 7 as before, and the work buffer, each word of which was 7. The counts are drawn, of 8 to 1,000.
 ghost use Prim.Native.Nat.{_≤_};
 use crate::desk;
 use crate::lent;
@@ -41,12 +41,19 @@ pub(crate) fn put_field(file: &mut [u8], at: usize, label: &[u8], value: u32) ->
     put_text(file, end, &digits[..k])
 }
 
+// The line of two modules and their count.
+pub(crate) fn put_counted(file: &mut [u8], at: usize, a: u32, b: u32, w: u32) -> usize {
+    let first = put_field(file, at, b"", a);
+    let second = put_field(file, first, b",", b);
+    let third = put_field(file, second, b",", w);
+    put_text(file, third, b"\n")
+}
+
 // Pair line i: a pair of two modules of 256 to 511, `i / 256 + 1` apart on the circle of these.
 fn put_pair(file: &mut [u8], at: usize, i: u32) -> usize {
     let step = std::num::wrapping_add_u32(std::num::wrapping_add_u32(i, 1), i / 256);
-    let first = put_field(file, at, b"pair=", 256 + i % 256);
-    let second = put_field(file, first, b",", 256 + step % 256);
-    put_text(file, second, b"\n")
+    let w = std::num::wrapping_add_u32(desk::count(desk::next(step), 993), 7);
+    put_counted(file, at, 256 + i % 256, 256 + step % 256, w)
 }
 
 // Line i after the head.
@@ -91,7 +98,8 @@ fn print_made(work: u32, made: File) {
 fn print_record(words: &[u32], j: u32) {
     let i = desk::place(0, j);
     print::field(b" ", desk::word_at(words, i));
-    print::field(b",", desk::word_at(words, desk::plus(i, 1)));
+    print::more(desk::word_at(words, desk::plus(i, 1)));
+    print::more(desk::word_at(words, desk::count_place(0, j)));
 }
 
 fn print_answer(due: u32, answer: Changed) {

@@ -118,7 +118,9 @@ module _ (h : Head) (ps : List Pair) (order cores work : List ℕ) (r : ℕ) (or
       rw (← peel-order) (
         refl,
         call .order-is ∙ same-taken r _ _ order (λ z. rw (same-list h ps once (peel-agreed z), leaving-plain (g h ps))),
-        call .cores-are ∙ same-taken r _ _ cores (λ z. rw (same-list h ps once (peel-agreed z), core-numbers-plain (g h ps) (held-lent h ps once (peel-agreed z)))),
+        call .cores-are ∙ same-taken r _ _ cores (λ z.
+            let a = peel-agreed z in
+            rw (same-list h ps once a, core-numbers-plain (g h ps) (held-lent h ps once a))),
         call .left,
       )
 

@@ -1,17 +1,20 @@
 -- What is printed of an audit.
---   ratio-small                            P and Q have at most four digits
+--   ratio-small                            P and Q have at most seven digits
 --   verdict-refused, verdict-accepted      its text
 -- Assumes nothing.
 use mathlib.Core.Path.{_≡_, refl, ap, _∙_}
 use mathlib.Core.List.{List, [], _∷_}
-use Prim.Native.Nat.{ℕ, _≤_}
+use Prim.Native.Nat.{ℕ}
 use native.Mathlib.Omega.{arith}
+use Rattle.theory.specs.Basics.{all}
 use Rattle.theory.proofs.Bounds.{size-bound}
+use Rattle.theory.proofs.Tests.{tests}
 use Rattle.lines.specs.Outcomes.{Outcome, refused, taken}
 use Rattle.lines.specs.Lines.{filled}
 use Rattle.pairfile.proofs.Accepts.{accepted}
 use Rattle.verify.specs.declared.Verdict.{Verdict}
 use Rattle.sheetfile.specs.Sheet.{Sheet}
+use Rattle.sheetfile.specs.Writer.{seven-digits}
 use Rattle.sheetfile.specs.Audit.{audit, verdict-of, Audits}
 use Rattle.sheetfile.proofs.BestSheets.{best-writable}
 use Rattle.texts.specs.Texts.{refusal-text, accepted-form, audit-text}
@@ -33,8 +36,8 @@ module _ {file sheet : List ℕ} {v : Verdict} (a : Audits file sheet v) where
     unfolding verdict-of audit-text
     verdict-accepted = let b = a .best z in rw (verdict-as (taken (b .0)) (b .1), b .1)
 
-    pub ratio-small : (v .p ≤ 9999) × (v .q ≤ 9999)
-    unfolding verdict-of
+    pub ratio-small : seven-digits (v .p ∷ v .q ∷ [])
+    unfolding verdict-of seven-digits all
     ratio-small =
         let b = a .best z in
         let s : Sheet = b .0 in
@@ -42,4 +45,7 @@ module _ {file sheet : List ℕ} {v : Verdict} (a : Audits file sheet v) where
         let same = verdict-as (taken s) (b .1) in
         let w = best-writable file (c .list) s (c .named) (c .optimal) (c .order) (c .core-size) in
         let few = size-bound (c .list) (s .members) (accepted 4096 file (c .list) (c .named) .list) (w .group) in
-        (omega (arith, ap (λ (x : Verdict). x .p) same, w .head-digits .0), omega (arith, ap (λ (x : Verdict). x .q) same, w .members-size, few))
+        simp tests (
+          omega (arith, ap (λ (x : Verdict). x .p) same, w .head-digits .0),
+          (omega (arith, ap (λ (x : Verdict). x .q) same, w .members-size, few), refl),
+        )

@@ -22,8 +22,8 @@ use Rattle.pairfile.specs.declared.Reading.{Reading}
 use Rattle.pairfile.proofs.Readings.{Sound, reading-refused, reading-taken}
 use Rattle.pairfile.proofs.Promises.{written-reads-back as file-back, reads-lists as file-lists}
 use Rattle.dimacs.specs.Edges.{read-dimacs, dimacs-of}
-use Rattle.dimacs.specs.Promise.{Written-reads-back as Dimacs-back, Reads-lists as Dimacs-lists, Written-fits}
-use Rattle.dimacs.proofs.Promises.{written-reads-back as dimacs-back, reads-lists as dimacs-lists, written-fits}
+use Rattle.dimacs.specs.Promise.{once-each, Written-reads-once, Reads-lists as Dimacs-lists, Written-fits}
+use Rattle.dimacs.proofs.Promises.{written-reads-once, reads-lists as dimacs-lists, written-fits}
 use Rattle.texts.specs.Texts.{refusal-text}
 use Rattle.texts.specs.Contracts.{Read-of}
 use Rattle.texts.specs.Converted.{
@@ -94,18 +94,18 @@ module _ (file : List ℕ) (g : Pairs) (short : is-long file ≡ false) (e : rea
   unfolding Dimacs-lists File-back pair-file
   from-same =
       let t = dimacs-lists 4096 file g e in
-      ap (read-file 4096) from-printed ∙ file-back 4096 g (t .list) (t .once) (t .fits)
+      ap (read-file 4096) from-printed ∙ file-back 4096 g (t .list) (t .fits)
 
 module _ (file : List ℕ) (g : Pairs) (e : read-file 4096 file ≡ taken g) where
   to-printed : to-dimacs-printed file ≡ dimacs-of g
   unfolding to-dimacs-printed converted
   to-printed = rw e
 
-  to-same : read-dimacs 4096 (to-dimacs-printed file) ≡ taken g
-  unfolding File-lists Dimacs-back
+  to-same : read-dimacs 4096 (to-dimacs-printed file) ≡ taken (once-each g)
+  unfolding File-lists Written-reads-once
   to-same =
       let t = file-lists 4096 file g e in
-      ap (read-dimacs 4096) to-printed ∙ dimacs-back 4096 g (t .list) (t .once) (t .fits)
+      ap (read-dimacs 4096) to-printed ∙ written-reads-once 4096 g (t .list) (t .fits)
 
   -- a file that is printed is not too long
   to-short : is-long (to-dimacs-printed file) ≡ false
@@ -126,4 +126,4 @@ from-then-to file g short e = to-printed (from-dimacs-printed file) g (from-same
 
 pub to-then-from : To-then-from
 unfolding To-then-from
-to-then-from file g e = from-printed (to-dimacs-printed file) g (to-short file g e) (to-same file g e)
+to-then-from file g e = from-printed (to-dimacs-printed file) (once-each g) (to-short file g e) (to-same file g e)

@@ -17,8 +17,8 @@ use Rattle.theory.specs.Refusals.{cause, refusal}
 use Rattle.theory.specs.Cases.{of-modules, tail, tail-found, row, starred, Meets, Each, Holds, Starred-cases}
 use Rattle.theory.proofs.Cases.{starred-cases}
 use Rattle.theory.proofs.Promises.{found-alone, found-outright}
-use Rattle.pairs.specs.Held.{same-ends, is-held, insert-pair, smaller-first-pair}
-use Rattle.pairs.specs.Causes.{is-module, module-unknown, self-paired, pair-causes}
+use Rattle.pairs.specs.Held.{same-ends, is-held, insert-pair, smaller-first-pair, stops-of}
+use Rattle.pairs.specs.Causes.{is-module, module-unknown, self-paired, pair-causes, count-outside, count-causes}
 use Rattle.lines.specs.Text.{text, between}
 use Rattle.lines.specs.Numbers.{is-digit, digits, is-number, value-on, value, number-of, spell, spelled}
 use Rattle.pairfile.specs.File.{
@@ -36,7 +36,7 @@ use Rattle.pairfile.specs.File.{
   read-pairs,
   read-file,
 }
-use Rattle.lines.specs.Lines.{is-place, first, second, with-numbers, after-number, after-byte, line-of, filled}
+use Rattle.lines.specs.Lines.{is-place, first, second, third, with-numbers, after-number, after-byte, line-of, filled}
 use Rattle.lines.specs.Outcomes.{taken, _>>=_, _>>_, passed, judge, line-or, line-due}
 use Rattle.sheetfile.specs.Sheet.{head-form, member-form}
 use Rattle.sheetfile.specs.Writer.{member-lines}
@@ -45,10 +45,10 @@ use Rattle.texts.specs.Example.{tail-file, tail-text, Tail-printed}
 
 -- the file names *tail*
 tail-named : read-file 4096 tail-file ≡ taken tail
-unfolding tail-file tail of-modules pair stands-before cause refusal same-ends is-held insert-pair smaller-first-pair is-module module-unknown
-    self-paired pair-causes text between is-digit digits is-number value-on value number-of modules-form pairs-form pair-form is-place first second with-numbers
-    after-number after-byte line-of _>>=_ _>>_ passed judge line-or line-due head-line modules-causes modules-line pairs-causes pairs-line
-    pair-line-causes pair-line end-causes read-pairs read-file
+unfolding tail-file tail of-modules pair stands-before cause refusal same-ends is-held insert-pair smaller-first-pair stops-of is-module module-unknown
+    self-paired pair-causes count-outside count-causes text between is-digit digits is-number value-on value number-of modules-form pairs-form pair-form
+    is-place first second third with-numbers after-number after-byte line-of _>>=_ _>>_ passed judge line-or line-due head-line modules-causes modules-line
+    pairs-causes pairs-line pair-line-causes pair-line end-causes read-pairs read-file
 tail-named = refl
 
 -- the seventh starred case

@@ -135,7 +135,7 @@ module _ {file members : List ℕ} {r : Answer} {members′ : List ℕ} (a : Ans
     unfolding answer-lines group-text group-answer
     lines-as = rw (n-as, group-as, taken-by g e)
 
-    text-length : length (answer-lines r (take (r .n) members′)) ≤ 6184
+    text-length : length (answer-lines r (take (r .n) members′)) ≤ 6196
     unfolding group-text certificate
     text-length =
         let best = found-best g list in
@@ -146,7 +146,7 @@ module _ {file members : List ℕ} {r : Answer} {members′ : List ℕ} (a : Ans
     pub modules-few : r .n ≤ 512
     modules-few = let g = named z in n-few (g .0) (g .1)
 
-    pub answer-length : length (answer-lines r (take (r .n) members′)) ≤ 6184
+    pub answer-length : length (answer-lines r (take (r .n) members′)) ≤ 6196
     answer-length = let g = named z in text-length (g .0) (g .1)
 
     not-refused : (k : ℕ) → read-file 4096 file ≡ refused k → ⊥
@@ -211,7 +211,7 @@ module _ {file members cores shares words : List ℕ} {r : Answer} {members′ c
     pub pairs-few : r .m ≤ 4096
     pairs-few = let g = named (s .answers) z in m-few (g .0) (g .1)
 
-    pub lines-length : length (sheet-lines r (take (r .n) members′) (take (r .n) cores′) words′ (take (r .m) shares′)) ≤ 98344
+    pub lines-length : length (sheet-lines r (take (r .n) members′) (take (r .n) cores′) words′ (take (r .m) shares′)) ≤ 136756
     lines-length =
         let g = named (s .answers) z in
         let best = certificate (g .0) (found-of (g .0)) (shares-of (g .0) (g .1)) in

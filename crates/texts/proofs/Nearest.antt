@@ -114,7 +114,9 @@ module _ (ps : List Pair) (up : rising ps ≡ true) (p : Pair) where
       let h = ltb-true upto (length ps) t in
       let q = getD ps upto p in
       nearest-at stands-after upto h (before-next h)
-      (λ r k s u. no (sym (not-upto r k (omega (arith, place-at ps up upto p h, ltb-true (place-of r ps) (place-of q ps) (sym (held-before ps up r q k) ∙ s)))) ∙ u)))
+      (λ r k s u.
+      let l = ltb-true (place-of r ps) (place-of q ps) (sym (held-before ps up r q k) ∙ s) in
+      no (sym (not-upto r k (omega (arith, place-at ps up upto p h, l))) ∙ u)))
       (λ t. rw (entry-none ps upto (ltb-false upto (length ps) t))
       (λ r h. not-upto r h (omega (arith, held-place r ps h, ltb-false upto (length ps) t))))
 

@@ -41,7 +41,7 @@ module _ {buffer : List ℕ} {n : ℕ} (room : 65536 ≤ length buffer) where
     due = λ file e. record { taken = λ g t. sheet-same e g (o .taken g (read-as e ∙ t)); refused = λ k t. o .refused k (read-as e ∙ t) };
   }
 
-  pub audit-read : {buffer′ : List ℕ} {k : ℕ} {text : List ℕ} → 100000 ≤ length buffer′ →
+  pub audit-read : {buffer′ : List ℕ} {k : ℕ} {text : List ℕ} → 140000 ≤ length buffer′ →
       text ≡ audit-text (audit (take n buffer) (take k buffer′)) → Audit-read buffer n buffer′ k text
   unfolding Audit-first
   audit-read {buffer′ = buffer′} room′ is = record {

@@ -4,7 +4,7 @@
 --   is-long, from-dimacs-printed           what `from_dimacs` prints; it takes files of up to 1,048,576 bytes
 --   to-dimacs-printed                      what `to_dimacs` prints
 --   From-dimacs-read, To-dimacs-read       what is right of whatever file was read
---   From-dimacs-same, To-dimacs-same       the file printed names the same list
+--   From-dimacs-same, To-dimacs-same       the file printed names the same list; a DIMACS file without the counts
 --   From-then-to, To-then-from             the two programs one after the other
 -- proofs/Converting.antt has a theorem for each promise, of the same name in small letters. Assumes nothing: these are definitions.
 use mathlib.Core.Path.{_≡_}

@@ -5,8 +5,7 @@ use denote.Triple.Table.{entered, cited}
 use Rattle.kandurzo.proofs.kandurzo_remove.Symbol as call-def
 use Rattle.kandurzo.proofs.kandurzo_remove.Symbol.{name as #call}
 use Rattle.kandurzo.proofs.kandurzo_remove.Met as call-thm
-use Rattle.kandurzo.proofs.Outcomes.{remove-outcome}
-use Rattle.kandurzo.proofs.InPlace.{meets}
+use Rattle.kandurzo.proofs.InPlace.{removes-in-place}
 use Rattle.kandurzo.proofs.kandurzo_remove_from.Key.{name as #this}
 use Rattle.kandurzo.proofs.kandurzo_remove_from as f
 use Rattle.kandurzo.proofs.kandurzo_remove_from.Statement as stated
@@ -17,5 +16,5 @@ unfolding code.routine tablesOf
 kandurzo-remove-from-spec 𝓤 H 𝓜 𝓖 𝓡 =
     entered 𝓤 H (tripleOf 𝓤 H (𝓖 .A) f.signature (f.spec 𝓤 H (𝓖 .A) (𝓜 .mem) (𝓡 .run)))
     (tables 𝓤 H 𝓜 𝓡 code.env .C) (tables 𝓤 H 𝓜 𝓡 code.env .Λ) #this code.function (code.unfolded 𝓤 H 𝓜 𝓡)
-    (meets #call remove-outcome 𝓤 H (𝓖 .A) (givenOf 𝓤 H 𝓜 𝓖) (tablesOf 𝓤 H 𝓜 (tables 𝓤 H 𝓜 𝓡 code.env))
+    (removes-in-place #call 𝓤 H (𝓖 .A) (givenOf 𝓤 H 𝓜 𝓖) (tablesOf 𝓤 H 𝓜 (tables 𝓤 H 𝓜 𝓡 code.env))
     (cited 𝓤 H _ 𝓜 𝓡 code.env #call call-def.routine code.calls-kandurzo·kandurzo-remove (call-thm.met 𝓤 H 𝓜 𝓖 𝓡)))

@@ -4,7 +4,6 @@ use native.Mathlib.Omega.{arith}
 use lib.Seq.{length-take-le}
 use Rattle.lines.specs.Text.{text}
 use Rattle.texts.specs.Texts.{accepted-form}
-use Rattle.lines.proofs.Lengths.{no-more, and-small}
 use Rattle.texts.proofs.Lengths.{refusal-length, accepted-length}
 use Rattle.texts.proofs.Files.{prints}
 use Rattle.texts.proofs.Audits.{ratio-small, verdict-refused, verdict-accepted}
@@ -39,25 +38,15 @@ write-line-requires : tie.Need-write-line-requires
 unfolding accepted-form text
 write-line-requires c κs =
     let a = c .before .before .before .before .before in
-    let small = ratio-small (a .audit .ensures) (c .before .before .before .if1 .left) in
-    omega (
-      arith,
-      accepted-length (and-small (a .audit .result .p) (small .0) (and-small (a .audit .result .q) (small .1) no-more)),
-      begin a .pre .1 .1,
-    )
+    omega (arith, accepted-length _ (ratio-small (a .audit .ensures) (c .before .before .before .if1 .left)), begin a .pre .1 .1)
 
 returns-2 : tie.Need-returns-2
 unfolding accepted-form text
 returns-2 c =
     let a = c .before .before .before .before .before .before .before .before in
     let z = c .before .before .before .before .before .before .if1 .left in
-    let small = ratio-small (a .audit .ensures) z in
     prints (audit-read (begin a .pre .0 .0) (begin a .pre .1 .0 .0) (verdict-accepted (a .audit .ensures) z)) (c .before .before .write-line .ensures)
-    (omega (
-      arith,
-      accepted-length (and-small (a .audit .result .p) (small .0) (and-small (a .audit .result .q) (small .1) no-more)),
-      begin a .pre .1 .1,
-    ))
+    (omega (arith, accepted-length _ (ratio-small (a .audit .ensures) z), begin a .pre .1 .1))
 
 pub audit-text-spec : {M : Type 1} → statement M
 audit-text-spec =

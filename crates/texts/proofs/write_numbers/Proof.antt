@@ -20,9 +20,6 @@ abbrev μ-loop : tie.MeasureT-loop
 loop-holds : tie.Need-loop-holds Inv-loop μ-loop
 loop-holds c = left-start _ _ _ (c .before .before .pre)
 
-cast-t12 : tie.Need-cast-t12 Inv-loop μ-loop
-cast-t12 c = omega (arith, c .shared-slice-known2 .given (c .before .before .loop .v))
-
 write-line-requires : tie.Need-write-line-requires Inv-loop μ-loop
 unfolding number-form text
 write-line-requires c κs =
@@ -52,7 +49,6 @@ write-numbers-spec =
     loop-holds
     (λ c. search needs)
     (λ c. search needs)
-    cast-t12
     (λ c. search needs)
     (λ c. search needs)
     write-line-requires

@@ -22,11 +22,6 @@ abbrev μ-loop : tie.MeasureT-loop
 loop-holds : tie.Need-loop-holds Inv-loop μ-loop
 loop-holds c = left-start _ _ _ (c .before .before .before .pre .1)
 
-cast-t22 : tie.Need-cast-t22 Inv-loop μ-loop
-cast-t22 c =
-    let l = c .before .before .before .before in
-    omega (arith, c .shared-slice-known5 .given (l .loop .j))
-
 write-line-requires : tie.Need-write-line-requires Inv-loop μ-loop
 unfolding share-form text
 write-line-requires c κs =
@@ -67,7 +62,6 @@ write-shares-spec =
     (λ c. search needs)
     (λ c. search needs)
     (λ c. search needs)
-    cast-t22
     (λ c. search needs)
     (λ c. search needs)
     write-line-requires

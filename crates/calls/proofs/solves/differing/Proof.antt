@@ -5,10 +5,10 @@ use Rattle.calls.proofs.solves.differing.Statement.{statement}
 use Rattle.calls.proofs.solves.differing.Tie as tie
 
 abbrev Inv-loop : tie.InvT-loop
-Inv-loop first second found₀ i₀ found i = Unit {0}
+Inv-loop first second n found₀ i₀ found i = Unit {0}
 
 abbrev μ-loop : tie.MeasureT-loop
-μ-loop first second found₀ i₀ found i = 512 - i
+μ-loop first second n found₀ i₀ found i = n - i
 
 pub differing-spec : {M : Type 1} → statement M
 differing-spec =

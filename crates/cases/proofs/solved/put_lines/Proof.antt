@@ -7,10 +7,10 @@ use Rattle.cases.proofs.solved.put_lines.Statement.{statement}
 use Rattle.cases.proofs.solved.put_lines.Tie as tie
 
 abbrev Inv-loop : tie.InvT-loop
-Inv-loop file₀ at count pair end₀ i₀ file end i = length file ≡ length file₀
+Inv-loop file₀ at count lines end₀ i₀ file end i = length file ≡ length file₀
 
 abbrev μ-loop : tie.MeasureT-loop
-μ-loop file₀ at count pair end₀ i₀ file end i = count - i
+μ-loop file₀ at count lines end₀ i₀ file end i = count - i
 
 pub put-lines-spec : {M : Type 1} → statement M
 put-lines-spec =

@@ -6,10 +6,10 @@ use Rattle.cases.proofs.written.differing_words.Statement.{statement}
 use Rattle.cases.proofs.written.differing_words.Tie as tie
 
 abbrev Inv-loop : tie.InvT-loop
-Inv-loop first second before count₀ i₀ count i = Unit {0}
+Inv-loop list again before count₀ i₀ count i = Unit {0}
 
 abbrev μ-loop : tie.MeasureT-loop
-μ-loop first second before count₀ i₀ count i = length first - i
+μ-loop list again before count₀ i₀ count i = length list - i
 
 pub differing-words-spec : {M : Type 1} → statement M
 differing-words-spec =
@@ -20,6 +20,7 @@ differing-words-spec =
     (λ c. search needs)
     (λ c. search needs)
     (λ c. search needs)
+    (λ c κs. search needs)
     (λ c κs. search needs)
     (λ c κs. search needs)
     (λ c. search needs)

@@ -7,7 +7,7 @@ use Rattle.readers.proofs.edges.every_size.Statement.{statement}
 use Rattle.readers.proofs.edges.every_size.Tie as tie
 
 abbrev Inv-loop : tie.InvT-loop
-Inv-loop name plan apart desk₀ n₀ desk n = length desk ≡ 282656
+Inv-loop name plan apart desk₀ n₀ desk n = length desk ≡ 286752
 
 abbrev μ-loop : tie.MeasureT-loop
 μ-loop name plan apart desk₀ n₀ desk n = plan .n - n
