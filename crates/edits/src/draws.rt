@@ -40,7 +40,8 @@ fn outside(state: u32, few: u32) -> u32 {
     std::num::wrapping_add_u32(65536, few)
 }
 
-// The stops for a pair whose count is x. Of sixteen times: two outside 1 to 1,000, one with which the count comes to 1,000, one to 1,001, one 1,000; else 1 to 9.
+// The stops for a pair whose count is x. Of sixteen times: two outside 1 to 1,000, one that makes the count 1,000, one that makes it 1,001, one 1,000; else
+// 1 to 9.
 fn drawn_stops(x: u32, state: u32) -> u32 {
     let kind = state % 16;
     let few = std::num::wrapping_add_u32(below(state, 9), 1);

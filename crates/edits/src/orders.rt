@@ -25,26 +25,35 @@ fn clear(m: u32, desk: &mut [u32]) {
     }
 }
 
-// Adds stops of record j that the second list has not: a part by chance, or all.
-fn part(plan: Plan, j: u32, all: bool, run: Run, desk: &mut [u32]) -> Run {
+// The next step for record j: so many of the stops that the second list has not, by chance, or all; none where it has all.
+fn lacking(j: u32, all: bool, state: u32, desk: &[u32]) -> Ask {
     let i = desk::place(0, j);
     let a = desk::word_at(desk, i);
     let b = desk::word_at(desk, desk::plus(i, 1));
     let x = desk::word_at(desk, desk::count_place(0, j));
     let lacks = std::num::wrapping_sub_u32(x, model::count_of(desk, a, b));
-    let state = desk::next(run.state);
-    if lacks == 0 {
-        return Run { state, ..run };
+    if all || lacks == 0 {
+        return draws::asked(true, a, b, lacks, state);
     }
     let some = std::num::wrapping_add_u32(draws::below(state, lacks), 1);
-    let ask = draws::asked(true, a, b, if all { lacks } else { some }, state);
+    draws::asked(true, a, b, some, state)
+}
+
+// That step, on the model and by add_to.
+fn part(plan: Plan, ask: Ask, run: Run, desk: &mut [u32]) -> Run {
+    if ask.w == 0 {
+        return Run {
+            state: ask.state,
+            ..run
+        };
+    }
     let number = steps::due(plan, ask, run.count, desk);
     let m = steps::modelled(number, ask, run.count, desk);
     let own = steps::own_step(plan, ask, run.own, number, Head { n: plan.n, m }, desk);
     Run {
         own,
         count: m,
-        state,
+        state: ask.state,
         ..run
     }
 }

@@ -162,21 +162,22 @@ pub(crate) fn compare_all(plan: Plan, desk: &mut [u32]) {
     }
 }
 
-// Alters the records due where that is what is altered.
-fn alter_records(plan: Plan, desk: &mut [u32]) {
-    if plan.altered == 3 {
-        desk::bump(desk, desk::plus(DUE, 199));
+// Where the records due are altered: the last number of record 99, its count, or past the desk.
+fn altered_place(what: u32) -> usize {
+    if what == 3 {
+        return desk::plus(DUE, 199);
     }
-    if plan.altered == 8 {
-        desk::bump(desk, desk::count_place(DUE, 99));
+    if what == 8 {
+        return desk::count_place(DUE, 99);
     }
+    4294967295
 }
 
 // Compares the records with the model's, held ones and those past them.
 pub(crate) fn look(plan: Plan, count: u32, desk: &mut [u32]) {
     let held = model::put_list(desk, DUE, plan.n);
     note(held == count, desk);
-    alter_records(plan, desk);
+    desk::bump(desk, altered_place(plan.altered));
     compare_all(plan, desk);
 }
 

@@ -11,7 +11,7 @@ use Rattle.edits.proofs.lent.add_100.Statement as stated
 use Rattle.edits.proofs.lent.add_100.Code as code
 
 abbrev others : List (Form 1)
-others = value head-sort ∷ value word ∷ value word ∷ []
+others = value head-sort ∷ value word ∷ value word ∷ value word ∷ []
 
 pub add-100-spec : {M : Type 1} → stated.statement M
 unfolding code.routine

@@ -10,7 +10,7 @@ abbrev Inv-loop : tie.InvT-loop
 Inv-loop plan head two desk₀ way₀ desk way = length desk ≡ length desk₀
 
 abbrev μ-loop : tie.MeasureT-loop
-μ-loop plan head two desk₀ way₀ desk way = 9 - way
+μ-loop plan head two desk₀ way₀ desk way = 13 - way
 
 pub disagree-spec : {M : Type 1} → statement M
 disagree-spec =

@@ -7,7 +7,7 @@ use Rattle.edits.proofs.runs.every_size.Statement.{statement}
 use Rattle.edits.proofs.runs.every_size.Tie as tie
 
 abbrev Inv-loop : tie.InvT-loop
-Inv-loop name plan tally₀ state₀ n₀ tally state n = length tally ≡ 16
+Inv-loop name plan tally₀ state₀ n₀ tally state n = length tally ≡ 32
 
 abbrev μ-loop : tie.MeasureT-loop
 μ-loop name plan tally₀ state₀ n₀ tally state n = plan .n - n

@@ -10,7 +10,7 @@ abbrev Inv-loop : tie.InvT-loop
 Inv-loop desk tally₀ i₀ tally i = length tally ≡ length tally₀
 
 abbrev μ-loop : tie.MeasureT-loop
-μ-loop desk tally₀ i₀ tally i = 16 - i
+μ-loop desk tally₀ i₀ tally i = 32 - i
 
 pub gather-spec : {M : Type 1} → statement M
 gather-spec =
