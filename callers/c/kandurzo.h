@@ -60,7 +60,7 @@ enum {
     KANDURZO_STACK_READ_DIMACS = 16384,
     KANDURZO_STACK_WRITE_DIMACS = 65536,
     KANDURZO_STACK_PEEL = 49152,
-    KANDURZO_STACK_SOLVE = 204800, /* the most: enough for every call */
+    KANDURZO_STACK_SOLVE = 184320, /* the most: enough for every call */
     KANDURZO_STACK_CHECK = 16384,
     KANDURZO_STACK_SURPLUS = 65536
 };

@@ -23,7 +23,7 @@ pub mod stack {
     /// Of [`peel`](super::peel).
     pub const PEEL: usize = 49152;
     /// Of [`solve`](super::solve); the most.
-    pub const SOLVE: usize = 204800;
+    pub const SOLVE: usize = 184320;
     /// Of [`check`](super::check).
     pub const CHECK: usize = 16384;
     /// Of [`surplus`](super::surplus).
