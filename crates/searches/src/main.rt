@@ -8,8 +8,8 @@
 // and core size are compared (modules `plain` and `sets`: up to 12 modules every set is counted), answers of solve with each other, and the sheet of each
 // is put to check. A line has the lists, their pairs, and their stops where those are not as many; of solve without push phases, how many chains units
 // moved along, the most slots of one, and how many searches reached nobody; along how many they moved where there were no links; how many lists the reader
-// refused, and how many comparisons differ. Then answers with one thing altered (module `altered` numbers the things), each of which must differ; a sheet
-// with no pairs has no share to alter.
+// refused or read with other stops, and how many comparisons differ. Then answers with one thing altered (module `altered` numbers the things), each of
+// which must differ; a sheet with no pairs has no share to alter.
 //
 // Then check and surplus (module `verdicts`): sheets of solve changed in one place each; every sheet of small lists, good and bad; the surplus of every
 // two sets of bytes of small lists, and of large groups around equal ratios. A line has how often check or surplus gave each answer.

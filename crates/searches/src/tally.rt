@@ -1,5 +1,5 @@
-// What was seen: lists, their pairs and the stops of these, lists that the reader refused, comparisons that differ, how often each of four answers was
-// given, what the searches for chains did, and the random state.
+// What was seen: lists, their pairs and the stops of these, lists that were not read as they were written, comparisons that differ, how often each of four
+// answers was given, what the searches for chains did, and the random state.
 use crate::entries::more;
 use flow::Searches;
 use numbers::greater;
@@ -87,7 +87,7 @@ impl Tally {
         self
     }
 
-    // What ends a line: lists that the reader refused, and comparisons that differ.
+    // What ends a line: lists that were not read as they were written, and comparisons that differ.
     fn print_faults(self) {
         field(b" unread=", self.unread);
         field(b" differ=", self.differ);

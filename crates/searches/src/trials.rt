@@ -7,6 +7,7 @@ use crate::files::put_file;
 use crate::lists::Listed;
 use crate::lists::Row;
 use crate::lists::list_at;
+use crate::plain::inside;
 use crate::search::search;
 use crate::surpluses::try_firsts;
 use crate::surpluses::try_sets;
@@ -58,8 +59,8 @@ fn ask_all(row: Row, list: Reading, words: &[u32], seen: Tally) -> Tally
     now
 }
 
-// Reads a list's file, the first `end` bytes of a text.
-fn read_list(row: Row, text: &[u8], end: u32, seen: Tally) -> Tally {
+// Reads a list's file, the first `end` bytes of a text, which has so many stops.
+fn read_list(row: Row, text: &[u8], end: u32, stops: u32, seen: Tally) -> Tally {
     let mut words = [0u32; 12288];
     let size = end as usize;
     if text.len() < size {
@@ -69,6 +70,9 @@ fn read_list(row: Row, text: &[u8], end: u32, seen: Tally) -> Tally {
     if list.number != 0 {
         return seen.not_read();
     }
+    if inside(0, list.m, &words, &words) != stops {
+        return seen.not_read();
+    }
     ask_all(row, list, &words, seen)
 }
 
@@ -76,12 +80,8 @@ fn read_list(row: Row, text: &[u8], end: u32, seen: Tally) -> Tally {
 fn try_list(row: Row, list: Listed, seen: Tally) -> Tally {
     let mut text = [0u8; 65536];
     let file = put_file(list, seen.state, &mut text);
-    read_list(
-        row,
-        &text,
-        file.end,
-        seen.made(file.taken, file.stops, file.state),
-    )
+    let now = seen.made(file.taken, file.stops, file.state);
+    read_list(row, &text, file.end, file.stops, now)
 }
 
 // The first `count` lists of a row, after what was seen before.

@@ -14,8 +14,9 @@ slice-aggregate-read-words c =
 
 ask-all-requires : tie.Need-ask-all-requires
 ask-all-requires c κs =
-    let r = c .before .before .before .before in
-    reading-holds (r .read-words .ensures) (file-sound _ _) (c .before .if2 .left) (omega (arith, r .read-words .kept .1 .1 .0))
+    let accepted = c .before .before .before .before .before in
+    let r = accepted .before .before .before in
+    reading-holds (r .read-words .ensures) (file-sound _ _) (accepted .if2 .left) (omega (arith, r .read-words .kept .1 .1 .0))
 
 pub read-list-spec : {M : Type 1} → statement M
 read-list-spec =
@@ -24,6 +25,11 @@ read-list-spec =
     (λ c κs. search needs)
     (λ c. search needs)
     slice-aggregate-read-words
+    (λ c. search needs)
+    (λ c κs. search needs)
+    (λ c κs. search needs)
+    (λ c. search needs)
+    (λ c. search needs)
     (λ c. search needs)
     (λ c κs. search needs)
     (λ c κs. search needs)
