@@ -26,20 +26,20 @@ fn times(x: u32, y: u32) -> u32 {
 }
 
 // The first module of record j, and the second.
-fn first(words: &[u32], j: usize) -> usize {
+fn low(words: &[u32], j: usize) -> usize {
     words::word_at(words, words::plus(j, j)) as usize
 }
 
-fn second(words: &[u32], j: usize) -> usize {
+fn high(words: &[u32], j: usize) -> usize {
     words::word_at(words, words::plus(words::plus(j, j), 1)) as usize
 }
 
 // The count of record j where both its modules are members.
 fn within(words: &[u32], members: &[u8], j: usize) -> u32 {
-    if print::byte_at(members, first(words, j)) != 1 {
+    if print::byte_at(members, low(words, j)) != 1 {
         return 0;
     }
-    if print::byte_at(members, second(words, j)) != 1 {
+    if print::byte_at(members, high(words, j)) != 1 {
         return 0;
     }
     words::count_at(words, j)
@@ -110,8 +110,8 @@ fn add_load(loads: &mut [u32], i: usize, x: u32) {
 // Adds what both modules of record j receive.
 fn add_loads(words: &[u32], q: u32, j: usize, share: u32, loads: &mut [u32]) {
     let rest = std::num::wrapping_sub_u32(units(words, q, j), share);
-    add_load(loads, first(words, j), share);
-    add_load(loads, second(words, j), rest);
+    add_load(loads, low(words, j), share);
+    add_load(loads, high(words, j), rest);
 }
 
 fn put_loads(words: &[u32], shares: &[u32], m: usize, q: u32, loads: &mut [u32]) {

@@ -11,7 +11,7 @@ use Rattle.calls.proofs.lent.add_4096.Statement as stated
 use Rattle.calls.proofs.lent.add_4096.Code as code
 
 abbrev others : List (Form 1)
-others = value head-sort ∷ value word ∷ value word ∷ []
+others = value head-sort ∷ value word ∷ value word ∷ value word ∷ []
 
 pub add-4096-spec : {M : Type 1} → stated.statement M
 unfolding code.routine

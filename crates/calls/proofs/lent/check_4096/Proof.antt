@@ -2,7 +2,7 @@
 use Rattle.verify.proofs.Verdict as D
 use Rattle.kandurzo.proofs.Types.{plain-verdict}
 use Rattle.kandurzo.proofs.kandurzo_check.Met as call
-use Rattle.kandurzo.proofs.Lending.{refl, List, [], _∷_, false, lit≤, Form, value, reads, writes, byte, half, word, head-sort, givenOf, bound, kinds-of}
+use Rattle.kandurzo.proofs.Lending.{refl, List, [], _∷_, false, lit≤, Form, value, reads, writes, byte, word, head-sort, givenOf, bound, kinds-of}
 use Rattle.kandurzo.proofs.Lending.{states, lent-forms, held-args, lent-args, meets-lent}
 use Rattle.calls.proofs.lent.held.Met as held
 use Rattle.calls.proofs.lent.check_4096.Key as key
@@ -11,7 +11,7 @@ use Rattle.calls.proofs.lent.check_4096.Statement as stated
 use Rattle.calls.proofs.lent.check_4096.Code as code
 
 abbrev others : List (Form 4)
-others = value head-sort ∷ reads 1 tt byte ∷ reads 2 tt half ∷ writes 3 tt word ∷ []
+others = value head-sort ∷ reads 1 tt byte ∷ reads 2 tt word ∷ writes 3 tt word ∷ []
 
 pub check-4096-spec : {M : Type 1} → stated.statement M
 unfolding code.routine

@@ -11,7 +11,7 @@ use Rattle.calls.proofs.lent.peel_4096.Statement as stated
 use Rattle.calls.proofs.lent.peel_4096.Code as code
 
 abbrev others : List (Form 4)
-others = value head-sort ∷ writes 1 tt half ∷ writes 2 tt half ∷ writes 3 tt word ∷ []
+others = value head-sort ∷ writes 1 tt half ∷ writes 2 tt word ∷ writes 3 tt word ∷ []
 
 pub peel-4096-spec : {M : Type 1} → stated.statement M
 unfolding code.routine

@@ -2,7 +2,7 @@
 use Rattle.kandurzo.proofs.Solved as D
 use Rattle.kandurzo.proofs.Types.{plain-solved}
 use Rattle.kandurzo.proofs.kandurzo_solve.Met as call
-use Rattle.kandurzo.proofs.Lending.{refl, List, [], _∷_, false, lit≤, Form, value, writes, byte, half, word, head-sort, givenOf, bound, kinds-of, states}
+use Rattle.kandurzo.proofs.Lending.{refl, List, [], _∷_, false, lit≤, Form, value, writes, byte, word, head-sort, givenOf, bound, kinds-of, states}
 use Rattle.kandurzo.proofs.Lending.{lent-forms, held-args, lent-args, meets-lent}
 use Rattle.calls.proofs.lent.held.Met as held
 use Rattle.calls.proofs.lent.solve_4096.Key as key
@@ -11,7 +11,7 @@ use Rattle.calls.proofs.lent.solve_4096.Statement as stated
 use Rattle.calls.proofs.lent.solve_4096.Code as code
 
 abbrev others : List (Form 5)
-others = value head-sort ∷ writes 1 tt byte ∷ writes 2 tt half ∷ writes 3 tt half ∷ writes 4 tt word ∷ []
+others = value head-sort ∷ writes 1 tt byte ∷ writes 2 tt word ∷ writes 3 tt word ∷ writes 4 tt word ∷ []
 
 pub solve-4096-spec : {M : Type 1} → stated.statement M
 unfolding code.routine
