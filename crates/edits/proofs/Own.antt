@@ -197,7 +197,8 @@ module _ (called : Name) {M : Type 1} (𝓤 : URA M) (H : Heap 𝓤) (A : Atoms 
         move ! (8 ∷ 0 ∷ []) $
         calls-rows ! (fmOf 𝓤 H (W .laws) 𝓣) (added-args l) u32 (plain-word W) (emp 𝓤) (λ r ws. Add-says h ps m n w (changed-to r (ws .0)) (ws .1 .0)) refl
         (id⊢ 𝓤 _) (λ ks. known (bound (added-args l) ks, tt))
-        (and-then ! (var ! (2 + 8) refl) (and-then ! (var ! (2 + 10) refl) (and-then ! (var ! (3 + 3) refl) (and-then ! (var ! (3 + 4) refl) (and-then ! (var ! (3 + 5) refl) (no-more !))))))
+        (and-then ! (var ! (2 + 8) refl) (and-then ! (var ! (2 + 10) refl) (and-then ! (var ! (3 + 3) refl) (and-then ! (var ! (3 + 4) refl)
+        (and-then ! (var ! (3 + 5) refl) (no-more !))))))
         (λ r zs r-fits sized said.
         opens-head W l ! (zs .0) (λ y-fits. move ! (1 ∷ 2 ∷ 3 ∷ 4 ∷ 5 ∷ 6 ∷ 7 ∷ 8 ∷ 0 ∷ []) $
         lands-in ! (2 + 7) empty (num (r-fits .1)) $
@@ -206,7 +207,8 @@ module _ (called : Name) {M : Type 1} (𝓤 : URA M) (H : Heap 𝓤) (A : Atoms 
         sets ! (2 + 0) empty (agg ! (and-then ! (var ! (2 + 7) refl) (and-then ! (var ! (2 + 11) refl) (no-more !))))
         (typed-as (plain-changed W) (changed-to r (zs .0)) (fits-all W r (zs .0) (r-fits .1) y-fits)) $
         leaves ! 2 (λ j. true) _ refl (look ! (2 + 0) refl) $
-        by ! (ends added-pars os (tt, (zs .1 .0, (tt, (tt, (tt, tt))))) (tt, (sized .1 .0, (tt, (tt, (tt, tt))))) D.the-row (plain-changed W) (changed-to r (zs .0))
+        by ! (ends added-pars os (tt, (zs .1 .0, (tt, (tt, (tt, tt))))) (tt, (sized .1 .0, (tt, (tt, (tt, tt))))) D.the-row (plain-changed W)
+        (changed-to r (zs .0))
         (fits-all W r (zs .0) (r-fits .1) y-fits) (fact 𝓤 _) (factI 𝓤 _ _ refl)
         (ends-at 𝓤 H A add.ended (stays add.ended added-kinds) added-nothing W (entry added-pars, tt) _ (changed-to r (zs .0))
         (tt, (zs .1 .0, (tt, (tt, (tt, tt))))) (tt, (sized .1 .0, (tt, (tt, (tt, tt))))))))))
@@ -214,7 +216,8 @@ module _ (called : Name) {M : Type 1} (𝓤 : URA M) (H : Heap 𝓤) (A : Atoms 
   pub adds-own : Triple 𝓤 (𝓣 .C called) (tripleOf 𝓤 H A add-to.signature (closing 𝓤 H A add-to.ended (added-clauses called 𝓤 H A W 𝓣))) →
       Meets 𝓤 H A add.signature (WpFn 𝓤 H (𝓣 .C) (𝓣 .Λ) (made 3 called)) (closing 𝓤 H A add.ended added-nothing)
   adds-own known = meets-by add.ended added-kinds 𝓤 H A W added-nothing 𝓣 (made 3 called) (λ κs qs bounds a g are. via 𝓤 _ (fst∗ 𝓤 _ (emp 𝓤))
-      (added-walk known (κs .0) (qs .0) (a .0) (a .1 .0 .ptr .0) (a .1 .0 .ptr .1) (a .1 .0 .name) (a .1 .0 .now) (a .1 .1 .0) (a .1 .1 .1 .0) (a .1 .1 .1 .1 .0)
+      (added-walk known (κs .0) (qs .0) (a .0) (a .1 .0 .ptr .0) (a .1 .0 .ptr .1) (a .1 .0 .name) (a .1 .0 .now)
+      (a .1 .1 .0) (a .1 .1 .1 .0) (a .1 .1 .1 .1 .0)
       (are .0) (are .1 .0 .0 .1) (are .1 .1 .0 .1) (are .1 .1 .1 .0 .1) (are .1 .1 .1 .1 .0 .1)))
 
 -- ---- remove, with two numbers

@@ -2,8 +2,8 @@
 // to the first. Head and held records must be those of the list itself. The calls are add_to, on the second list, which holds no pairs at first.
 use crate::desk;
 use crate::desk::OWN;
-use crate::desk::TALLY;
 use crate::draws;
+use crate::draws::Ask;
 use crate::model;
 use crate::steps;
 use crate::steps::Plan;
@@ -61,18 +61,15 @@ fn part(plan: Plan, ask: Ask, run: Run, desk: &mut [u32]) -> Run {
 // Step i of those drawn and, past them, of those that add what is left.
 fn step(plan: Plan, i: u32, run: Run, desk: &mut [u32]) -> Run {
     let head = run.head;
+    let state = desk::next(run.state);
     if i < plan.again {
-        return part(plan, draws::below(run.state, head.m), false, run, desk);
+        let some = lacking(draws::below(run.state, head.m), false, state, desk);
+        return part(plan, some, run, desk);
     }
     let past = std::num::wrapping_sub_u32(i, plan.again);
     let last = std::num::wrapping_sub_u32(head.m, 1);
-    part(
-        plan,
-        std::num::wrapping_sub_u32(last, past),
-        true,
-        run,
-        desk,
-    )
+    let rest = lacking(std::num::wrapping_sub_u32(last, past), true, state, desk);
+    part(plan, rest, run, desk)
 }
 
 // So many steps.
@@ -86,13 +83,18 @@ fn go(plan: Plan, many: u32, run: Run, desk: &mut [u32]) -> Run {
     now
 }
 
+// Alters a count where that is what is altered.
+fn alter(plan: Plan, desk: &mut [u32]) {
+    if plan.altered == 9 {
+        desk::bump(desk, desk::count_place(OWN, 0));
+    }
+}
+
 // Compares heads and held records.
 fn compare(plan: Plan, end: Run, desk: &mut [u32]) {
     let head = end.head;
     let own = end.own;
-    if plan.altered == 9 {
-        desk::bump(desk, desk::count_place(OWN, 0));
-    }
+    alter(plan, desk);
     steps::note(own.n == head.n && own.m == head.m, desk);
     steps::note(desk::same_records(desk, 0, OWN, head.m), desk);
     steps::count_in(desk, 2);

@@ -161,6 +161,13 @@ fn disagreeing(plan: Plan, head: Head, desk: &mut [u32]) {
     disagree(plan, head, two, desk);
 }
 
+// Fills every list.
+fn litter_all(desk: &mut [u32]) {
+    desk::litter(desk, 0);
+    desk::litter(desk, OWN);
+    desk::litter(desk, DUE);
+}
+
 // A run on the desk, from a list without pairs; the random state after it.
 fn run_on(plan: Plan, state: u32, desk: &mut [u32]) -> u32 {
     let begun = kandurzo::start(plan.n);
@@ -171,9 +178,7 @@ fn run_on(plan: Plan, state: u32, desk: &mut [u32]) -> u32 {
         count: 0,
         state,
     };
-    desk::litter(desk, 0);
-    desk::litter(desk, OWN);
-    desk::litter(desk, DUE);
+    litter_all(desk);
     let grown = steps::go(plan, plan.adds, false, run, desk);
     let end = steps::go(plan, plan.mixed, true, grown, desk);
     steps::look(plan, end.count, desk);

@@ -29,14 +29,21 @@ returns-3 c = (omega arith, (λ e. omega arith, c .before .before .before .befor
 returns-4 : tie.Need-returns-4 Inv-loop μ-loop
 returns-4 c = (omega arith, (λ e. omega arith, c .before .before .before .before .before .before .loop .inv .1))
 
+returns-5 : tie.Need-returns-5 Inv-loop μ-loop
+returns-5 c = (omega arith, (λ e. omega arith, c .before .before .before .before .before .before .before .before .loop .inv .1))
+
 loop-again : tie.Need-loop-again Inv-loop μ-loop
 unfolding Fits-records
 loop-again c =
-    let first = c .before .before in
-    (omega arith, below-more _ _ (first .before .before .before .before .loop .inv .1) (omega (arith, first .if3 .left), omega (arith, c .if4 .left)))
+    let second = c .before .before in
+    let first = second .before .before in (
+      omega arith,
+      below-more _ _ (first .before .before .before .before .loop .inv .1)
+          (omega (arith, first .if3 .left), omega (arith, second .if4 .left), omega (arith, c .if5 .left)),
+    )
 
-returns-5 : tie.Need-returns-5 Inv-loop μ-loop
-returns-5 c = (omega arith, (λ e. omega arith, c .before .loop .inv .1))
+returns-6 : tie.Need-returns-6 Inv-loop μ-loop
+returns-6 c = (omega arith, (λ e. omega arith, c .before .loop .inv .1))
 
 pub held-spec : {M : Type 1} → statement M
 held-spec =
@@ -58,5 +65,9 @@ held-spec =
     returns-4
     (λ c. omega arith)
     (λ c. omega arith)
+    (λ c. omega arith)
+    returns-5
+    (λ c. omega arith)
+    (λ c. omega arith)
     loop-again
-    returns-5)
+    returns-6)
