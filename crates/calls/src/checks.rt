@@ -8,12 +8,11 @@ use crate::words;
 use records::Head;
 use verify::Verdict;
 
-// What is altered: the list; the first member byte, the first share and the last; the lengths lent.
+// What is altered: the list; the first member byte and the first share; the lengths lent.
 pub(crate) struct Altered {
     pub(crate) damage: Damage,
     pub(crate) byte: u8,
     pub(crate) share: u32,
-    pub(crate) last: u32,
     pub(crate) members: usize,
     pub(crate) shares: usize,
     pub(crate) work: usize,
@@ -25,7 +24,6 @@ pub(crate) fn sound() -> Altered {
         damage: lists::none(),
         byte: 1,
         share: 5,
-        last: 5,
         members: 5,
         shares: 5,
         work: 16384,
@@ -57,7 +55,7 @@ pub(crate) fn tried(name: &[u8], due: u32, a: Altered) {
     let mut words = [0u32; 12288];
     let mut work = [7u32; 16400];
     let bytes = [a.byte, 1, 1, 1, 1, 2, 2, 2];
-    let sheet = [a.share, 0, 5, 5, a.last, 9, 9, 9];
+    let sheet = [a.share, 0, 5, 5, 5, 9, 9, 9];
     lists::cycle(a.damage, &mut words);
     let verdict = check_part(a, &mut words, &bytes, &sheet, &mut work);
     print::begin(b"check", name, due, verdict.number);
@@ -145,31 +143,12 @@ fn buffers() {
     );
 }
 
-// The pair 3,4 counts twice, with this share.
-fn twice(name: &[u8], due: u32, last: u32) {
-    let s = sound();
-    tried(
-        name,
-        due,
-        Altered {
-            damage: Damage {
-                count: 2,
-                ..s.damage
-            },
-            last,
-            ..s
-        },
-    );
-}
-
 // The sheet altered.
 fn altered_sheets() {
     let s = sound();
     tried(b"byte of 2", 7, Altered { byte: 2, ..s });
     tried(b"member dropped", 8, Altered { byte: 0, ..s });
     tried(b"share past Q", 8, Altered { share: 6, ..s });
-    twice(b"3,4 twice, its share W times Q", 9, 10);
-    twice(b"3,4 twice, its share past W times Q", 8, 11);
     tried(b"unit moved", 9, Altered { share: 4, ..s });
 }
 

@@ -144,11 +144,14 @@ fn add_pairs(kind: Kind, many: u32, words: &mut [u32]) -> Head {
 
 // The count of record j.
 fn count(counts: Counts, j: u32) -> u32 {
-    if counts.drawn && counts.top != 0 {
-        let state = words::next(words::next(std::num::wrapping_add_u32(j, 1)));
-        return std::num::wrapping_add_u32(state / 65536 % counts.top, 1);
+    if !counts.drawn {
+        return counts.top;
     }
-    counts.top
+    if counts.top == 0 {
+        return 0;
+    }
+    let state = words::next(words::next(std::num::wrapping_add_u32(j, 1)));
+    std::num::wrapping_add_u32(state / 65536 % counts.top, 1)
 }
 
 // Writes the counts of the first m records.

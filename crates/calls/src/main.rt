@@ -16,11 +16,11 @@ mod writes;
 
 use lists::Damage;
 
-// A way in which the list is altered, put to each call.
-fn damaged(name: &[u8], due: u32, damage: Damage) {
+// A list that is altered, put to each call: the number due from check, and from the others.
+fn each_call(name: &[u8], judged: u32, due: u32, damage: Damage) {
     checks::tried(
         name,
-        due,
+        judged,
         checks::Altered {
             damage,
             ..checks::sound()
@@ -42,7 +42,7 @@ fn damaged(name: &[u8], due: u32, damage: Damage) {
             ..solves::sound()
         },
     );
-    surpluses::damaged(name, due, damage);
+    surpluses::itself(name, due, damage);
     writes::tried(
         name,
         due,
@@ -53,34 +53,44 @@ fn damaged(name: &[u8], due: u32, damage: Damage) {
     );
 }
 
+// A way in which head and list disagree.
+fn damaged(name: &[u8], damage: Damage) {
+    each_call(name, 13, 13, damage);
+}
+
 // Heads that disagree with the list.
 fn heads() {
     let d = lists::none();
-    damaged(b"no modules", 13, Damage { n: 0, ..d });
-    damaged(b"513 modules", 13, Damage { n: 513, ..d });
-    damaged(b"over 4,096 pairs", 13, Damage { more: 4096, ..d });
-    damaged(
-        b"one pair more than was recorded",
-        13,
-        Damage { more: 1, ..d },
-    );
+    damaged(b"no modules", Damage { n: 0, ..d });
+    damaged(b"513 modules", Damage { n: 513, ..d });
+    damaged(b"over 4,096 pairs", Damage { more: 4096, ..d });
+    damaged(b"one pair more than was recorded", Damage { more: 1, ..d });
 }
 
 // Records that do.
 fn records() {
     let d = lists::none();
-    damaged(b"a record out of order", 13, Damage { first: 0, ..d });
-    damaged(b"a record of one module", 13, Damage { second: 3, ..d });
-    damaged(b"a module unknown", 13, Damage { second: 5, ..d });
-    damaged(b"a count of 0", 13, Damage { count: 0, ..d });
-    damaged(b"a count of 1,001", 13, Damage { count: 1001, ..d });
-    damaged(b"a count of 65,535", 13, Damage { count: 65535, ..d });
+    damaged(b"a record out of order", Damage { first: 0, ..d });
+    damaged(b"a record of one module", Damage { second: 3, ..d });
+    damaged(b"a module unknown", Damage { second: 5, ..d });
+    damaged(b"a count of 0", Damage { count: 0, ..d });
+    damaged(b"a count of 1,001", Damage { count: 1001, ..d });
+    damaged(b"a count of 65,535", Damage { count: 65535, ..d });
 }
 
-// A record past the held ones, which is nobody's concern.
-fn past() {
+// The pair 3,4 more often, which the sheet of check is not for; and a record past the held ones, which is nobody's concern.
+fn counts() {
     let d = lists::none();
-    damaged(b"a count of 1,001 past it", 0, Damage { past: 1001, ..d });
+    each_call(b"3,4 twice", 9, 0, Damage { count: 2, ..d });
+    each_call(b"3,4 three times", 9, 0, Damage { count: 3, ..d });
+    each_call(b"3,4 ten times", 9, 0, Damage { count: 10, ..d });
+    each_call(b"3,4 1,000 times", 9, 0, Damage { count: 1000, ..d });
+    each_call(
+        b"a count of 1,001 past it",
+        0,
+        0,
+        Damage { past: 1001, ..d },
+    );
 }
 
 fn main() {
@@ -91,5 +101,5 @@ fn main() {
     writes::run();
     heads();
     records();
-    past();
+    counts();
 }

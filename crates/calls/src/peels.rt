@@ -1,5 +1,5 @@
-// peel: the list *tail* of document 01, whose leaving order is 4,0,1,2,3 and whose core numbers are 3,3,3,3,1; and the same with 3,4 counted more often: 2,
-// 3 and 10 times, and as often as can be. Then 3 and 4 leave later, and at 1,000 their core numbers are 1,000.
+// peel: the list *tail* of document 01, whose leaving order is 4,0,1,2,3 and whose core numbers are 3,3,3,3,1. Where 3,4 counts three times or more, the
+// leaving order is 0,1,2,3,4; where it counts more often than that, the core numbers of 3 and 4 are its count.
 use crate::lent;
 use crate::lists;
 use crate::lists::Damage;
@@ -57,19 +57,6 @@ pub(crate) fn tried(name: &[u8], due: u32, a: Altered) {
     print::end_work(&work);
 }
 
-// The last pair with another count.
-fn counted(name: &[u8], count: u32) {
-    let s = sound();
-    tried(
-        name,
-        0,
-        Altered {
-            damage: Damage { count, ..s.damage },
-            ..s
-        },
-    );
-}
-
 pub(crate) fn run() {
     let s = sound();
     tried(b"as it is", 0, s);
@@ -83,10 +70,6 @@ pub(crate) fn run() {
             ..s
         },
     );
-    counted(b"3,4 twice", 2);
-    counted(b"3,4 three times", 3);
-    counted(b"3,4 ten times", 10);
-    counted(b"3,4 1,000 times", 1000);
     tried(b"short order", 12, Altered { order: 4, ..s });
     tried(b"short core numbers", 12, Altered { cores: 4, ..s });
     tried(b"short work", 12, Altered { work: 16383, ..s });

@@ -247,6 +247,7 @@ fn buffers() {
             ..s
         },
     );
+    tried(b"a count altered behind it", 0, Altered { raised: 1, ..s });
     tried(b"short members", 12, Altered { members: 4, ..s });
     tried(b"short core numbers", 12, Altered { cores: 4, ..s });
     tried(b"short shares", 12, Altered { shares: 6, ..s });
@@ -279,29 +280,6 @@ fn others() {
     tried_on(b"two of its pairs", 0, Head { n: 3, m: 2 }, s, &mut words);
 }
 
-// The last pair of *tail* with another count.
-fn counted(name: &[u8], count: u32) {
-    let s = sound();
-    tried(
-        name,
-        0,
-        Altered {
-            damage: Damage { count, ..s.damage },
-            ..s
-        },
-    );
-}
-
-// Lists with counts.
-fn small_counts() {
-    let s = sound();
-    counted(b"3,4 twice", 2);
-    counted(b"3,4 three times", 3);
-    counted(b"3,4 ten times", 10);
-    counted(b"3,4 1,000 times", 1000);
-    tried(b"a count altered behind it", 0, Altered { raised: 1, ..s });
-}
-
 fn large_counts() {
     let few = Counts {
         top: 9,
@@ -327,7 +305,6 @@ pub(crate) fn run() {
     let ones = lists::ones();
     buffers();
     others();
-    small_counts();
     large(b"512 modules, pairs by chance", Kind::Chance, 4096, ones);
     large(b"512 modules, a circle", Kind::Circle, 512, ones);
     large(b"512 modules, a wide circle", Kind::Circle, 4096, ones);

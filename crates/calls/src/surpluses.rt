@@ -48,7 +48,7 @@ fn found(name: &[u8], due: u32, a: Altered) {
 }
 
 // The found group against itself, on a list that is altered.
-pub(crate) fn damaged(name: &[u8], due: u32, damage: Damage) {
+pub(crate) fn itself(name: &[u8], due: u32, damage: Damage) {
     found(name, due, Altered { damage, ..sound() });
 }
 

@@ -176,46 +176,32 @@ fn pairs(plan: Plan, way: u32, count: u32) -> u32 {
     }
 }
 
-// What stands behind the lines of a DIMACS file: a line too many in way 2, no comment in way 3, the last LF missing in way 4, a module 0 in way 7, a module with itself in
-// way 8, the last pair again, turned, in way 9, a module 0 with itself in way 12. The file's length then.
-fn put_edge_end(file: &mut [u8], text: Text, way: u32) -> usize {
-    let end = text.end;
-    match way {
-        2 => reads::put_text(file, end, b"e 0 0\n"),
-        3 => reads::put_text(file, end, b"cx\n"),
-        4 => std::num::wrapping_sub_usize(end, 1),
-        7 => reads::put_text(file, end, b"e 0 1\n"),
-        8 => reads::put_text(file, end, b"e 1 1\n"),
-        9 => put_edge(file, end, text.b, text.a),
-        12 => reads::put_text(file, end, b"e 0 0\n"),
-        _ => end,
-    }
+// A module that no list has: 0 in a DIMACS file, where they are numbered from 1.
+fn unknown(plan: Plan) -> u32 {
+    if plan.dimacs { 4294967295 } else { 512 }
 }
 
-// A line that is damaged or too many: a module unknown in way 7, a module twice in way 8, the last pair again, turned, in way 9, a module unknown twice in
-// way 12; a count outside 1 to 1,000 in ways 13 to 15, of five digits in way 16, and outside beside a module unknown, a module twice, and the last pair again,
-// turned, in ways 20 to 22.
-fn last_line(text: Text, way: u32) -> Stops {
+// A line that is damaged or too many: a module unknown twice in ways 2 and 12, once in way 7, a module twice in way 8, the last pair again, turned, in way 9; a
+// count outside 1 to 1,000 in ways 13 to 15, of five digits in way 16, and outside beside a module unknown, a module twice, and the last pair again, turned, in
+// ways 20 to 22.
+fn last_line(plan: Plan, text: Text, way: u32) -> Stops {
+    let u = unknown(plan);
     let s = Stops { a: 0, b: 1, w: 1 };
     match way {
-        7 => Stops { a: 512, ..s },
-        8 => Stops { a: 1, ..s },
+        2 | 12 => Stops { a: u, b: u, ..s },
+        7 => Stops { a: u, ..s },
+        8 => Stops { b: 0, ..s },
         9 => Stops {
             a: text.b,
             b: text.a,
             w: 1000,
         },
-        12 => Stops {
-            a: 512,
-            b: 512,
-            ..s
-        },
         13 => Stops { w: 0, ..s },
         14 => Stops { w: 1001, ..s },
         15 => Stops { w: 9999, ..s },
         16 => Stops { w: 10000, ..s },
-        20 => Stops { b: 512, w: 0, ..s },
-        21 => Stops { a: 1, w: 1001, ..s },
+        20 => Stops { b: u, w: 0, ..s },
+        21 => Stops { b: 0, w: 1001, ..s },
         22 => Stops {
             a: text.b,
             b: text.a,
@@ -225,11 +211,11 @@ fn last_line(text: Text, way: u32) -> Stops {
     }
 }
 
-// What stands behind the lines of a pair file: no pair line in way 3, the last LF missing in way 4, a count with a leading zero in way 17, none in ways 18 and
-// 19, another line in ways 2, 7 to 9, 12 to 16 and from 20 on.
-fn put_pair_end(file: &mut [u8], text: Text, way: u32) -> usize {
+// What stands behind the lines: in way 3 no line of the file's form and no comment, in way 4 the last LF is missing; in a pair file a count with a leading zero
+// in way 17, none in ways 18 and 19; another line in ways 2, 7 to 9, 12 to 16 and from 20 on. The file's length then.
+fn put_end(plan: Plan, file: &mut [u8], text: Text, way: u32) -> usize {
     let end = text.end;
-    let line = last_line(text, way);
+    let line = last_line(plan, text, way);
     match way {
         0 | 1 | 5 | 6 | 10 | 11 => end,
         3 => reads::put_text(file, end, b"cx\n"),
@@ -237,15 +223,8 @@ fn put_pair_end(file: &mut [u8], text: Text, way: u32) -> usize {
         17 => reads::put_text(file, end, b"0,1,01\n"),
         18 => reads::put_text(file, end, b"pair=0,1\n"),
         19 => reads::put_text(file, end, b"0,1\n"),
-        _ => reads::put_counted(file, end, line.a, line.b, line.w),
+        _ => put_stops(plan, file, end, line.a, line.b, line.w),
     }
-}
-
-fn put_end(plan: Plan, file: &mut [u8], text: Text, way: u32) -> usize {
-    if plan.dimacs {
-        return put_edge_end(file, text, way);
-    }
-    put_pair_end(file, text, way)
 }
 
 // N and M in front of the lines.

@@ -167,7 +167,23 @@ fn read_pairs(plan: Plan, file: &[u8], desk: &mut [u32], work: &mut [u32]) -> Ch
     lent::read_100(desk, file, work)
 }
 
-// read or read_dimacs of the first bytes of the file, with the first words of the work buffer.
+// read_dimacs.
+fn read_edges(plan: Plan, file: &[u8], desk: &mut [u32], work: &mut [u32]) -> Changed {
+    if plan.len == 4096 {
+        return lent::read_dimacs_4096(desk, file, work);
+    }
+    lent::read_dimacs_100(desk, file, work)
+}
+
+// One or the other.
+fn read_either(plan: Plan, file: &[u8], desk: &mut [u32], work: &mut [u32]) -> Changed {
+    if plan.dimacs {
+        return read_edges(plan, file, desk, work);
+    }
+    read_pairs(plan, file, desk, work)
+}
+
+// The first bytes of the file, with the first words of the work buffer.
 fn read_part(
     plan: Plan,
     way: u32,
@@ -178,13 +194,7 @@ fn read_part(
 ) -> Changed {
     let end = reads::at_most(file.len(), size);
     let k = reads::at_most(work.len(), desk::wide(lent_words(way)));
-    if !plan.dimacs {
-        return read_pairs(plan, &file[0..end], desk, &mut work[0..k]);
-    }
-    if plan.len == 4096 {
-        return lent::read_dimacs_4096(desk, &file[0..end], &mut work[0..k]);
-    }
-    lent::read_dimacs_100(desk, &file[0..end], &mut work[0..k])
+    read_either(plan, &file[0..end], desk, &mut work[0..k])
 }
 
 // Reads the file, and compares what comes out.
@@ -202,7 +212,7 @@ fn read_file(plan: Plan, way: u32, count: u32, text: Text, file: &[u8], desk: &m
 
 // A list, in one way. In ways 9 and 22 it has to have a pair.
 fn one_way(plan: Plan, way: u32, state: u32, desk: &mut [u32]) {
-    let mut file = [0u8; 131072];
+    let mut file = [0u8; 65536];
     let count = fill(plan, state, desk);
     put_due(plan, way, desk);
     let text = put_file(plan, way, count, state, &mut file, desk);
