@@ -221,9 +221,9 @@ def quiet(seconds=4):
         pass
 
 
-def compare(program, path, programme):
+def compare(program, path, what):
     """Times by name, on how many modules Boost's weighted core numbers are others, and the density."""
-    out = subprocess.run([program, path, str(REPETITIONS), str(programme)], check=True, capture_output=True, text=True).stdout
+    out = subprocess.run([program, path, str(REPETITIONS), what], check=True, capture_output=True, text=True).stdout
     *lines, differs, last = out.splitlines()
     times = {name: float(value) for name, value in (line.rsplit(" ", 1) for line in lines)}
     times["differs"] = int(differs.split()[3])
@@ -239,8 +239,9 @@ def measure(program, folder, runs):
             with open(path, "w") as file:
                 file.write(f"modules={n}\npairs={len(pairs)}\n" + "".join(f"{a},{b},{w}\n" for a, b, w in pairs))
             first = seed == 0 and name in KINDS and sort in FULL
+            what = "programme" if first else "ours" if name not in KINDS else "all" if sort in FULL else "searches"
             quiet()
-            found, density = compare(program, path, int(first))
+            found, density = compare(program, path, what)
             found["pairs"] = len(pairs)
             if first and run == 0:
                 found |= by_networkx(n, pairs, density)
