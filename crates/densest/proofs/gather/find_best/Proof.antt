@@ -1,27 +1,13 @@
 -- `densest::gather::find_best` meets its contract: so does either search. Assumes nothing.
+use Prim.Native.Nat.{ℕ, _≤_}
+use native.Mathlib.Omega.{arith}
 use borrow.Author.Needs.{needs}
+use lib.ListN.{getD}
+use Rattle.theory.specs.Words.{Held-words}
+use Rattle.theory.proofs.Lists.{listed}
+use Rattle.slots.specs.Slots.{total}
+use Rattle.slots.specs.Buffers.{entry}
+use Rattle.slots.proofs.Words.{good-pair}
+use Rattle.slots.proofs.Totals.{total-const}
 use Rattle.densest.proofs.gather.find_best.Statement.{statement}
 use Rattle.densest.proofs.gather.find_best.Tie as tie
-
-find-in-core-requires : tie.Need-find-in-core-requires
-find-in-core-requires c κs = c .before .before .before .before .before .before .before .before .before .before .before .before .before .pre
-
-find-requires : tie.Need-find-requires
-find-requires c κs = c .before .before .before .before .before .before .before .before .before .before .before .before .pre .0
-
-pub find-best-spec : {M : Type 1} → statement M
-find-best-spec =
-    tie.close
-    (tie.spec
-    (λ c κs. search needs)
-    find-in-core-requires
-    (λ c. search needs)
-    (λ c. search needs)
-    (λ c. search needs)
-    (λ c. search needs)
-    (λ c. search needs)
-    find-requires
-    (λ c. search needs)
-    (λ c. search needs)
-    (λ c. search needs)
-    (λ c. search needs))
