@@ -129,8 +129,8 @@ uint32_t kandurzo_remove_from(kandurzo_head_t *head, kandurzo_pair_t *list, size
 
 /* Place: whether the pair of modules a and b, in either order, is held, and its place, or the place where it would go. Counted from 0 among the M held
  * records: all before it are smaller, and none from there on is, whatever the counts; it is M where all M are smaller. Where the pair is not held, add puts it
- * there (or refuses by 11, where no record is free); where it is, add raises the count of the record there, and remove takes that record. Changes nothing.
- * Refuses by 13, 5, 4. */
+ * there (or refuses by 18, or by 11 where no record is free); where it is, add raises the count of the record there (or refuses by 18 or 19), and remove takes
+ * that record. Changes nothing. Refuses by 13, 5, 4. */
 kandurzo_placed_t kandurzo_place(kandurzo_head_t head, const kandurzo_pair_t *list, size_t length, uint32_t a, uint32_t b);
 
 /* Read: a pair file, which is `modules=N`, `pairs=M` and M lines `A,B,W`, a pair with its stop count, each ended by LF. Makes a new head and writes the

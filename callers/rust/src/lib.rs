@@ -52,7 +52,7 @@ impl Refusal {
         self.0
     }
 
-    /// The documents' text, that of 11, 13 and 15 shortened.
+    /// The documents' text, that of 10, 11, 13 and 15 shortened.
     pub fn text(self) -> &'static str {
         match self.0 {
             1 => "a line is missing, isn't of the form due there, or lacks its LF",

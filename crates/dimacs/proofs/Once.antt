@@ -1,11 +1,12 @@
 -- A list that is written and read has the same pairs, each with the count 1.
 --   ones-listed     a list with the count 1 on each pair is a list
+--   plain-once      Written-plain: its file has no comments, and names the pairs in list order
 --   written-once    Written-reads-once: it is what is read of the file of that list
 -- Assumes nothing.
 use mathlib.Core.Path.{_≡_, refl, sym, ap, _∙_}
 use mathlib.Core.Bool.{Bool, true, _&&_}
-use mathlib.Core.List.{List, [], _∷_, map}
-use Prim.Native.Nat.{ℕ, _≤_}
+use mathlib.Core.List.{List, [], _∷_, _++_, map}
+use Prim.Native.Nat.{ℕ, _+_, _≤_}
 use native.Mathlib.Omega.{arith}
 use lib.ListN.{length}
 use Rattle.theory.specs.Basics.{all}
@@ -16,9 +17,12 @@ use Rattle.lines.specs.Outcomes.{taken}
 use Rattle.pairfile.specs.Promise.{Names, all-once}
 use Rattle.pairfile.proofs.Names.{ones, ones-length, ones-once, ones-named}
 use Rattle.pairfile.proofs.Naming.{names-self}
-use Rattle.dimacs.specs.Edges.{read-dimacs, dimacs-of}
-use Rattle.dimacs.specs.Promise.{once-each}
-use Rattle.dimacs.proofs.ReadsBack.{any-order}
+use Rattle.lines.specs.Lines.{filled}
+use Rattle.dimacs.specs.Comments.{without-comments}
+use Rattle.dimacs.specs.Edges.{edge-form, read-dimacs, edge-lines, dimacs-file, dimacs-of}
+use Rattle.dimacs.specs.Promise.{named, once-each}
+use Rattle.dimacs.proofs.Forms.{edges-more}
+use Rattle.dimacs.proofs.ReadsBack.{any-order, plain-written}
 
 -- the same pairs, the smaller module first, in the same order
 ends-same : (n : ℕ) (ps : List Pair) → all (ends-in-range n) (ones ps) ≡ all (ends-in-range n) ps
@@ -60,6 +64,19 @@ each-one : (ps : List Pair) → map (λ p. pair (p .a) (p .b)) ps ≡ ones ps
 unfolding ones
 each-one [] = refl
 each-one (p ∷ ps) = ap (λ (qs : List Pair). pair (p .a) (p .b) ∷ qs) (each-one ps)
+
+-- the lines leave the counts out
+lines-once : (ps : List Pair) → edge-lines (ones ps) ≡ edge-lines ps
+unfolding ones pair
+lines-once [] = refl
+lines-once (p ∷ ps) =
+    edges-more (pair (p .a) (p .b)) (ones ps) ∙ ap (λ (l : List ℕ). filled edge-form ((p .a + 1) ∷ (p .b + 1) ∷ []) ++ l) (lines-once ps) ∙ sym (edges-more p ps)
+
+pub plain-once : (g : Pairs) → is-list g ≡ true → (without-comments (dimacs-of g) ≡ dimacs-of g) × (named (dimacs-of g) ≡ once-each g .pairs)
+unfolding dimacs-of dimacs-file once-each all-once counts-once
+plain-once g e =
+    rw (each-one (g .pairs), ← (lines-once (g .pairs)), ← (ones-length (g .pairs)))
+    (plain-written (record { n = g .n; pairs = ones (g .pairs) }) (ones-listed g e) (ones-once (g .pairs)))
 
 pub written-once : (room : ℕ) (g : Pairs) → is-list g ≡ true → length (g .pairs) ≤ room → read-dimacs room (dimacs-of g) ≡ taken (once-each g)
 unfolding dimacs-of once-each Names all-once counts-once

@@ -1,11 +1,11 @@
 -- Document 02, item 1: what is promised of DIMACS files.
---   once-each, Written-reads-once    a list that is written and read is the same list, each pair with the count 1
+--   once-each, Written-reads-once    a list that is written and read has the same pairs, each with the count 1
 --   Written-reads-back     so a list of ones is the same list
 --   Written-plain          what is written has no comments and names the pairs in list order
 --   pair-on, named-on, named    the pairs named on a file's `e` lines, in file order, as written less 1
 --   Rewritten              an accepted file without comments, in list order and with the smaller module first, is rewritten byte for byte
 --   Taken-as, Reads-lists  whatever is taken is a list whose pairs are exactly those named less 1
---   Reads-back             the file of a list reads back as that list, for every order of its pairs, either module first
+--   Reads-back             the file of a list of ones reads back as that list, for every order of its pairs, either module first
 --   Reads-every            every file of different pairs is taken
 --   Comments-nothing       taking the comments out changes neither a file's number nor its list
 --   whole-lines, Comment-anywhere    nor does a comment put in at the start or behind any line
@@ -58,8 +58,7 @@ named bs = named-on (plain-lines bs)
 -- WHAT IS WRITTEN HAS NO COMMENTS, AND NAMES THE PAIRS IN LIST ORDER, the smaller module first
 unfoldable pub Written-plain : Type 0
 Written-plain =
-    (g : Pairs) → is-list g ≡ true → all-once (g .pairs) ≡ true →
-    (without-comments (dimacs-of g) ≡ dimacs-of g) × (named (dimacs-of g) ≡ g .pairs)
+    (g : Pairs) → is-list g ≡ true → (without-comments (dimacs-of g) ≡ dimacs-of g) × (named (dimacs-of g) ≡ once-each g .pairs)
 
 -- AN ACCEPTED FILE (one that is taken) WITHOUT COMMENTS, IN LIST ORDER AND WITH THE SMALLER MODULE FIRST, IS REWRITTEN BYTE FOR BYTE
 unfoldable pub Rewritten : Type 0
@@ -82,7 +81,7 @@ pub record Taken-as (room : ℕ) (bytes : List ℕ) (g : Pairs) : Type 0 where
 unfoldable pub Reads-lists : Type 0
 Reads-lists = (room : ℕ) (bytes : List ℕ) (g : Pairs) → read-dimacs room bytes ≡ taken g → Taken-as room bytes g
 
--- THE FILE OF A LIST READS BACK AS THAT LIST, for every order of its pairs and either module first on each line
+-- THE FILE OF A LIST OF ONES READS BACK AS THAT LIST, for every order of its pairs and either module first on each line
 unfoldable pub Reads-back : Type 0
 Reads-back =
     (room : ℕ) (g : Pairs) (lines : List Pair) → is-list g ≡ true → all-once (g .pairs) ≡ true → length (g .pairs) ≤ room →

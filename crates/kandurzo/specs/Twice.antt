@@ -3,7 +3,7 @@
 -- 5 too.
 --   Unrefused              what is lent to a reader, and the lines of a file up to one, give no number
 --   Five-before-four       a module paired with itself gives 5, be it one of the list's or not; two different modules give 4 where the list lacks one
---   Otherwise-as-before    the numbers of add and remove, and of a line of either file, beside those of the old orders, 4 before 5
+--   Otherwise-as-before    the numbers of add and remove, and of a line of either file, beside those of the same orders with 4 before 5
 -- A statement is a type; proofs/Promises.antt has a theorem for each, of the same name in small letters. Assumes nothing: these are definitions.
 use mathlib.Core.Path.{_≡_}
 use mathlib.Core.Bool.{true, _&&_, not}
@@ -66,8 +66,8 @@ pub record Five-before-four : Type 0 where
       Read-call read-dimacs (filled problem-form (n ∷ m ∷ []) ++ (edge-lines lines ++ (filled edge-form (a ∷ b ∷ []) ++ rest))) ps work r ps′ work′ →
       Five-else-four 1 n a b (r .number)
 
--- THE NUMBERS OF ADD AND REMOVE, AND OF A LINE OF EITHER FILE, ARE THOSE OF THE OLD ORDERS, but for a module of number N or more (in a DIMACS file, of number
--- 0 or above N) paired with itself: there, unless 13 or 17 comes first, the old order gives 4 and the new one 5
+-- THE NUMBERS OF ADD AND REMOVE, AND OF A LINE OF EITHER FILE, ARE THOSE OF THE SAME ORDERS WITH 4 BEFORE 5, but for a module of number N or more (in a DIMACS
+-- file, of number 0 or above N) paired with itself: there, unless 13 or 17 comes first, 4 before 5 gives 4 and the order that holds gives 5
 pub record Otherwise-as-before : Type 0 where
   -- add, with 4 before 5: 13, 4, 5, 18, 19, 11
   pub add : (h : Head) (ps : List Pair) (a b w : ℕ) (r : Changed) (ps′ : List Pair) → Add-says h ps a b w r ps′ →

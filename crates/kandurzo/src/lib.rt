@@ -216,7 +216,7 @@ pub extern "C" fn kandurzo_read(bytes: &[u8], list: &mut [Pair], work: &mut [u32
 pub use kandurzo_read as read;
 
 // Reads a DIMACS edge file: comments, one line `p edge N M`, M lines `e A B` with modules numbered from 1. Makes a new head, and writes the first M records in
-// rising order. Refuses by 12 (work), then line by line: 16, 2, 3, 11; 16, 17, 5, 4, 10; at the end 16, 17. A refused file leaves every record as it was.
+// rising order, each with the count 1. Refuses by 12 (work), then line by line: 16, 2, 3, 11; 16, 17, 5, 4, 10; at the end 16, 17. A refused file leaves every record as it was.
 #[no_mangle]
 pub extern "C" fn kandurzo_read_dimacs(bytes: &[u8], list: &mut [Pair], work: &mut [u32]) -> Changed
     ensures { λ r. ⌜ Read-call read-dimacs (now (bytes .entry)) (now (list .entry)) (now (work .entry)) r (now (list .exit)) (now (work .exit)) ⌝ }
@@ -232,8 +232,8 @@ pub extern "C" fn kandurzo_read_dimacs(bytes: &[u8], list: &mut [Pair], work: &m
 
 pub use kandurzo_read_dimacs as read_dimacs;
 
-// Writes the list as a DIMACS edge file into the front of the text, without comments, the pairs in list order, smaller module first, modules numbered from 1,
-// and answers its length; bytes past it stay. Refuses by 13, 12 (text shorter than 65,536 bytes).
+// Writes the list as a DIMACS edge file into the front of the text, without comments and counts, the pairs in list order, smaller module first, modules
+// numbered from 1, and answers its length; bytes past it stay. Refuses by 13, 12 (text shorter than 65,536 bytes).
 #[no_mangle]
 pub extern "C" fn kandurzo_write_dimacs(head: Head, list: &[Pair], text: &mut [u8]) -> Written
     ensures { λ r. ⌜ Write-call head (now (list .entry)) (now (text .entry)) r (now (text .exit)) ⌝ }
