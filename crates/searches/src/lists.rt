@@ -114,10 +114,20 @@ fn drawn(counts: u32, draw: u32) -> u32 {
     more(draw % counts)
 }
 
+// One heavy pair, 0,1, which no other stands before.
+fn heavy(passed: u32) -> u32 {
+    if passed == 0 {
+        return 1000;
+    }
+    1
+}
+
 // The stop count of a pair that a list takes, after `passed` others, with a draw of 0 to 65,535: of kind 8 the digit, of all others one that is drawn.
 pub(crate) fn stops(list: Listed, passed: u32, draw: u32) -> u32 {
     if list.kind == 8 {
         digit(list.i, passed)
+    } else if list.counts == 1002 {
+        heavy(passed)
     } else {
         drawn(list.counts, draw)
     }

@@ -1,6 +1,6 @@
 // The table of what is tried, a row a line: nine numbers with a space between them (struct `Row`, in its order), and behind a space, where a line of the
 // output ends with the row, its name. The sixth says which stop counts are drawn: 1 all are 1; k, up to 1,000, they are 1 to k; 0 all are 1,000; 1,001
-// they are 1 or 1,000.
+// they are 1 or 1,000; 1,002 the pair 0,1 has 1,000 and the others have 1.
 use crate::entries::more;
 use crate::entries::put_word;
 use crate::entries::word_at;
