@@ -5,6 +5,7 @@
 FOLDER takes the pair files. A time is the median over the runs; a run is itself a median of repetitions (see compare.cpp). The linear programme runs once a
 run on the first list of a kind, networkx once in all. Each list comes with stop counts of several sorts; COUNTS says which have all the tables.
 """
+import math
 import os
 import random
 import subprocess
@@ -106,19 +107,32 @@ KINDS = {
     "power law": power,
 }
 
-# ---- stop counts: of a pair, by sort
+# ---- stop counts: of the pairs of a list, by sort
 
 
-def tail(r):
-    """Few, seldom many: half of the pairs have 1, one in a hundred has 100 or more."""
-    return min(1000, int(1 / (1 - r.random())))
+def one_heavy(r, n, pairs):
+    """One pair has 1,000 stops, the others have one."""
+    heavy = r.randrange(len(pairs))
+    return [1000 if i == heavy else 1 for i in range(len(pairs))]
+
+
+def heavy_group(r, n, pairs):
+    """Pairs inside an eighth of the modules have 500 to 1,000 stops, the others 1 to 10."""
+    group = set(r.sample(range(n), max(2, n // 8)))
+    return [r.randint(500, 1000) if a in group and b in group else r.randint(1, 10) for a, b in pairs]
+
+
+def geometric(r, n, pairs):
+    """One stop more with chance nine in ten, ten on the average."""
+    return [min(1000, 1 + int(math.log(1 - r.random()) / math.log(0.9))) for _ in pairs]
 
 
 COUNTS = {
-    "ones": lambda r: 1,
-    "1 to 1,000": lambda r: r.randint(1, 1000),
-    "1 to 9": lambda r: r.randint(1, 9),
-    "heavy tail": tail,
+    "ones": lambda r, n, pairs: [1] * len(pairs),
+    "1 to 1,000": lambda r, n, pairs: [r.randint(1, 1000) for _ in pairs],
+    "one heavy pair": one_heavy,
+    "heavy group": heavy_group,
+    "geometric": geometric,
 }
 FULL = ["ones", "1 to 1,000"]  # those with all the tables; the others have one
 
@@ -147,8 +161,8 @@ def lists():
     for name, seed, n, pairs in shapes():
         for sort, count in COUNTS.items():
             if name in KINDS or sort in FULL:
-                r = random.Random(seed)
-                yield sort, name, seed, n, [(a, b, count(r)) for a, b in sorted(pairs)]
+                ordered = sorted(pairs)
+                yield sort, name, seed, n, [(a, b, w) for (a, b), w in zip(ordered, count(random.Random(seed), n, ordered))]
 
 
 # ---- networkx
@@ -221,9 +235,9 @@ def quiet(seconds=4):
         pass
 
 
-def compare(program, path, programme):
+def compare(program, path, what):
     """Times by name, on how many modules Boost's weighted core numbers are others, and the density."""
-    out = subprocess.run([program, path, str(REPETITIONS), str(programme)], check=True, capture_output=True, text=True).stdout
+    out = subprocess.run([program, path, str(REPETITIONS), what], check=True, capture_output=True, text=True).stdout
     *lines, differs, last = out.splitlines()
     times = {name: float(value) for name, value in (line.rsplit(" ", 1) for line in lines)}
     times["differs"] = int(differs.split()[3])
@@ -239,8 +253,9 @@ def measure(program, folder, runs):
             with open(path, "w") as file:
                 file.write(f"modules={n}\npairs={len(pairs)}\n" + "".join(f"{a},{b},{w}\n" for a, b, w in pairs))
             first = seed == 0 and name in KINDS and sort in FULL
+            what = "programme" if first else "ours" if name not in KINDS else "all" if sort in FULL else "searches"
             quiet()
-            found, density = compare(program, path, int(first))
+            found, density = compare(program, path, what)
             found["pairs"] = len(pairs)
             if first and run == 0:
                 found |= by_networkx(n, pairs, density)

@@ -1,9 +1,10 @@
 // Times Kandurzo beside libraries in use today, on one pair file, all in one process: one repetition of each, then the next, each in an order of its own.
 //
-//   compare FILE REPETITIONS LP
+//   compare FILE REPETITIONS WHAT
 //
-// Prints a line `NAME MICROSECONDS` for each (processor time, the median of the repetitions). LP is 1 to run the linear programme too, once. Every
-// density and every core number is compared with ours, but for Boost's weighted core numbers; a difference ends the program.
+// Prints a line `NAME MICROSECONDS` for each (processor time, the median of the repetitions). WHAT is `ours` to leave the others out, `searches` for solve,
+// check and peel, `all`, or `programme` for all and, once, the linear programme. Every density and every core number is compared with ours, but for Boost's
+// weighted core numbers; a difference ends the program.
 //
 // Solve. The others find the greatest ratio by minimum cuts in Goldberg's network and Dinkelbach's iteration: a cut that shows a denser group
 // raises the guess, until none does. Stop counts are capacities. Three ways to use it: `textbook` takes the whole list and Goldberg's own capacities, and
@@ -63,7 +64,7 @@ class Comparison {
     using Weighted = boost::adjacency_list<boost::vecS, boost::vecS, boost::undirectedS, boost::no_property, boost::property<boost::edge_weight_t, int>>;
     using Mapped = boost::adjacency_list<boost::setS, boost::vecS, boost::undirectedS, boost::no_property, boost::property<boost::edge_weight_t, int>>;
 
-    std::string file, capacities;  // the pair file; the same list as a maximum flow problem, for LEMON and igraph
+    std::string what, file, capacities;  // what is wanted; the pair file; the same list as a maximum flow problem, for LEMON and igraph
     Lent &lent;
     int n, m;
     bool ones;
@@ -76,7 +77,15 @@ class Comparison {
     Partners partners;
     std::vector<int> cores, weighted_cores;
 
-    void time(std::string name, std::function<void()> run, std::function<void()> after = [] {}) { all.push_back({name, run, after, {}}); }
+    bool wanted(const std::string &name) {
+        auto begins = [&](const char *call) { return name.rfind(call, 0) == 0; };
+        if (what == "ours") return name.find("ours") != std::string::npos || name.find("shuffled") != std::string::npos;
+        return what != "searches" || begins("solve") || begins("check") || begins("peel");
+    }
+
+    void time(std::string name, std::function<void()> run, std::function<void()> after = [] {}) {
+        if (wanted(name)) all.push_back({name, run, after, {}});
+    }
 
     kandurzo_changed_t read() {
         auto bytes = reinterpret_cast<const uint8_t *>(file.data());
@@ -127,7 +136,7 @@ class Comparison {
     }
 
   public:
-    Comparison(const char *path, Lent &lent) : file(text(path)), lent(lent), partners(0, {}) {
+    Comparison(const char *path, const char *what, Lent &lent) : what(what), file(text(path)), lent(lent), partners(0, {}) {
         open();
         cores.resize(n), weighted_cores.resize(n);
         igraph_vector_int_init(&ends, 2 * m), igraph_vector_int_init(&numbers, n);
@@ -341,6 +350,7 @@ class Comparison {
 
     void density() {
         int others = 0;
+        weigh(adjacent);
         for (int v = 0; v < n; v++) others += lent.cores[v] != uint32_t(weighted_cores[v]);
         printf("Boost-weighted differs on %d modules\n", others);
         printf("density %u %u\n", ours.p, ours.q);
@@ -348,9 +358,9 @@ class Comparison {
 };
 
 int main(int count, char **words) {
-    if (count != 4) fail("compare FILE REPETITIONS LP");
+    if (count != 4) fail("compare FILE REPETITIONS WHAT");
     static Lent lent;
-    static Comparison comparison(words[1], lent);
+    static Comparison comparison(words[1], words[3], lent);
     comparison.solves();
     comparison.peels();
     comparison.reads();
@@ -358,6 +368,6 @@ int main(int count, char **words) {
     comparison.adds();
     comparison.raises();
     comparison.run(atoi(words[2]));
-    if (atoi(words[3])) comparison.linear_programme();
+    if (words[3] == std::string("programme")) comparison.linear_programme();
     comparison.density();
 }

@@ -12,6 +12,7 @@ ghost use Rattle.densest.specs.Gather.{Gathered, Scattered};
 use crate::Effort;
 use crate::search::Ratio;
 use crate::search::find;
+use peel::total;
 
 // The pairs with both ends in the scope, in order, at the front of `gathered` (their ends) and of `counts` (their weights); how many they are. Every
 // pair is written behind those kept so far, and the place moves on where it is kept: no branch goes by chance.
@@ -120,7 +121,7 @@ fn find_in_core(
     best
 }
 
-// The found group: among the pairs inside the core where the group at hand has less than half of all pairs, else among all of them.
+// The found group: among the pairs inside the core where the group at hand has less than half of all stops inside, else among all of them.
 pub(crate) fn find_best(
     n: usize,
     m: usize,
@@ -140,7 +141,7 @@ pub(crate) fn find_best(
     ensures { λ r. ⌜ Group-found n m (now (ends .entry)) (now (weights .entry)) (now (scope .exit)) (now (hold .exit)) (now (group .exit))
         (r .p) (r .q) true ⌝ }
 {
-    if slots::wide(p) < m / 2 {
+    if p < total(m, weights) / 2 {
         return find_in_core(
             n,
             m,

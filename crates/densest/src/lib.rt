@@ -2,7 +2,7 @@
 //
 // It stands above the split search (crate `flow`) and knows only its promise. The densest remainder of the leaving order is the first group at
 // hand. Rounds lead from a group to a denser one until there is none (`search`: the Dinkelbach iteration for the maximal densest subgraph). Whatever
-// is as dense as the group at hand lies in the core of its ratio rounded up; so, where that group has less than half of the pairs, the rounds go over
+// is as dense as the group at hand lies in the core of its ratio rounded up; so, where that group has less than half of the stops, the rounds go over
 // the pairs inside that core only (`gather`). The units that the last round leaves make the load sheet (`sheet`).
 // Cost: peeling, and a few rounds over the core's pairs; ratios rise from round to round, so the rounds end. Nothing is refused, and 15 never comes.
 mod gather;

@@ -61,17 +61,31 @@ fn due(ask: Ask, number: u32, m: u32, desk: &[u32]) -> Placed {
     }
 }
 
+// Whether an answer is the one that is due.
+fn same(plan: Plan, answer: Placed, right: Placed) -> bool {
+    if steps::altered(plan, 5, answer.number) != right.number {
+        return false;
+    }
+    if steps::altered(plan, 6, answer.held) != right.held {
+        return false;
+    }
+    steps::altered(plan, 7, answer.at) == right.at
+}
+
+// A call of place, which says held where `held` is 1.
+fn count_held(desk: &mut [u32], held: u32) {
+    steps::count_in(desk, 7);
+    if held == 1 {
+        steps::count_in(desk, 8);
+    }
+}
+
 // Asks place, whose number must be this one, and compares.
 pub(crate) fn asked(plan: Plan, ask: Ask, number: u32, head: Head, desk: &mut [u32]) {
     let right = due(ask, number, head.m, desk);
     let answer = call(plan.len, ask, head, desk);
-    steps::note(steps::altered(plan, 5, answer.number) == number, desk);
-    steps::note(steps::altered(plan, 6, answer.held) == right.held, desk);
-    steps::note(steps::altered(plan, 7, answer.at) == right.at, desk);
-    steps::count_in(desk, 7);
-    if answer.held == 1 {
-        steps::count_in(desk, 8);
-    }
+    steps::note(same(plan, answer, right), desk);
+    count_held(desk, answer.held);
 }
 
 // The same before a step, where head and list agree.

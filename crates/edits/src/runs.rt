@@ -324,13 +324,8 @@ fn altered_run(name: &[u8], altered: u32, again: u32) {
     one(name, few);
 }
 
-// All runs.
-pub(crate) fn run_all() {
-    large_runs();
-    small_runs();
-    filled_run(b"edits, 4,096 records filled, 512 modules", 512, 12000);
-    filled_run(b"edits, 4,096 records filled, 100 modules", 100, 26000);
-    again_runs();
+// Runs with each thing altered.
+fn altered_runs() {
     altered_run(b"edits, number altered", 1, 0);
     altered_run(b"edits, number of pairs altered", 2, 0);
     altered_run(b"edits, records altered", 3, 0);
@@ -340,4 +335,14 @@ pub(crate) fn run_all() {
     altered_run(b"edits, place altered", 7, 0);
     altered_run(b"edits, stop count altered", 8, 0);
     altered_run(b"edits, stop count altered, of those added again", 9, 200);
+}
+
+// All runs.
+pub(crate) fn run_all() {
+    large_runs();
+    small_runs();
+    filled_run(b"edits, 4,096 records filled, 512 modules", 512, 12000);
+    filled_run(b"edits, 4,096 records filled, 100 modules", 100, 26000);
+    again_runs();
+    altered_runs();
 }

@@ -64,6 +64,12 @@ pub(crate) fn count_in(desk: &mut [u32], entry: u32) {
     desk::bump(desk, desk::plus(TALLY, desk::wide(entry)));
 }
 
+// A step that is answered by this number.
+fn count_step(desk: &mut [u32], number: u32) {
+    count_in(desk, 1);
+    count_in(desk, number);
+}
+
 pub(crate) fn note(same: bool, desk: &mut [u32]) {
     if !same {
         count_in(desk, 3);
@@ -77,6 +83,15 @@ pub(crate) fn altered(plan: Plan, what: u32, x: u32) -> u32 {
     } else {
         x
     }
+}
+
+// Whether an answer is this number with such a head; `what` and `pairs` alter its number and its number of pairs.
+fn answers(plan: Plan, what: u32, pairs: u32, answer: Changed, number: u32, due: Head) -> bool {
+    let head = answer.head;
+    if altered(plan, what, answer.number) != number {
+        return false;
+    }
+    head.n == due.n && altered(plan, pairs, head.m) == due.m
 }
 
 // The call by value.
@@ -117,11 +132,9 @@ pub(crate) fn own_step(
         return own;
     }
     let answer = own_call(ask, own, desk);
-    let head = answer.head;
-    note(altered(plan, 4, answer.number) == number, desk);
-    note(head.n == due.n && head.m == due.m, desk);
+    note(answers(plan, 4, 10, answer, number, due), desk);
     count_in(desk, 6);
-    head
+    answer.head
 }
 
 // Both calls: the answers must be this number with such a head. The heads after them stand in `run`.
@@ -135,10 +148,8 @@ pub(crate) fn made(
 ) -> Run {
     let answer = call(plan.len, ask, run.head, desk);
     let head = answer.head;
-    note(altered(plan, 1, answer.number) == number, desk);
-    note(head.n == due.n && altered(plan, 2, head.m) == due.m, desk);
-    count_in(desk, 1);
-    count_in(desk, number);
+    note(answers(plan, 1, 2, answer, number, due), desk);
+    count_step(desk, number);
     let own = own_step(plan, ask, run.own, number, due, desk);
     Run {
         head,

@@ -138,15 +138,15 @@ fn number(n: usize, order: &[u32], finals: &[u32], cores: &mut [u32], place: &mu
     }
 }
 
-// The final degrees in all: the inside count of all modules.
-fn total(n: usize, finals: &[u32]) -> u32
-    requires { ⌜ n ≤ length (now finals) ⌝ }
-    requires { ⌜ total n (entry (now finals)) ≤ 4096000 ⌝ }
-    ensures { λ r. ⌜ r ≡ total n (entry (now (finals .entry))) ⌝ }
+// The first n numbers in all: of final degrees, and of the weights of all pairs, the inside count of all modules.
+pub fn total(n: usize, numbers: &[u32]) -> u32
+    requires { ⌜ n ≤ length (now numbers) ⌝ }
+    requires { ⌜ total n (entry (now numbers)) ≤ 4096000 ⌝ }
+    ensures { λ r. ⌜ r ≡ total n (entry (now (numbers .entry))) ⌝ }
 {
     let mut sum = 0;
     for i in 0..n {
-        sum += finals[i];
+        sum += numbers[i];
     }
     sum
 }

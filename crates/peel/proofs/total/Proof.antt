@@ -9,10 +9,10 @@ use Rattle.peel.proofs.total.Statement.{statement}
 use Rattle.peel.proofs.total.Tie as tie
 
 abbrev Inv-loop : tie.InvT-loop
-Inv-loop n finals sum₀ i₀ sum i = (sum ≡ total i (entry finals)) × (i ≤ n)
+Inv-loop n numbers sum₀ i₀ sum i = (sum ≡ total i (entry numbers)) × (i ≤ n)
 
 abbrev μ-loop : tie.MeasureT-loop
-μ-loop n finals sum₀ i₀ sum i = n - i
+μ-loop n numbers sum₀ i₀ sum i = n - i
 
 loop-holds : tie.Need-loop-holds Inv-loop μ-loop
 unfolding total
@@ -23,14 +23,14 @@ unfolding entry
 add-sum c =
     let a = c .before .before .before .args in
     let l = c .before .before .loop in
-    omega (arith, l .inv .0, total-next (l .i) (entry (a .finals .now)), total-upto (l .i + 1) (a .n) (entry (a .finals .now)) (omega arith))
+    omega (arith, l .inv .0, total-next (l .i) (entry (a .numbers .now)), total-upto (l .i + 1) (a .n) (entry (a .numbers .now)) (omega arith))
 
 loop-again : tie.Need-loop-again Inv-loop μ-loop
 unfolding entry
 loop-again c =
     let a = c .before .before .before .args in
     let l = c .before .before .loop in
-    (omega (arith, l .inv .0, total-next (l .i) (entry (a .finals .now))), omega arith)
+    (omega (arith, l .inv .0, total-next (l .i) (entry (a .numbers .now))), omega arith)
 
 returns : tie.Need-returns Inv-loop μ-loop
 returns c =
