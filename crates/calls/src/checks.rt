@@ -116,40 +116,50 @@ fn counted_sheets() {
     with_each(1000, 3001);
 }
 
-fn buffers() {
+// The cycle, its head with N, and so much of the buffers.
+fn lent_so(name: &[u8], due: u32, n: u32, members: usize, shares: usize, work: usize) {
     let s = sound();
-    tried(b"as it is", 0, s);
     tried(
-        b"longer buffers",
-        0,
+        name,
+        due,
         Altered {
-            members: 7,
-            shares: 8,
-            work: 16390,
+            damage: Damage { n, ..s.damage },
+            members,
+            shares,
+            work,
             ..s
         },
     );
-    tried(b"short members", 12, Altered { members: 4, ..s });
-    tried(b"short shares", 12, Altered { shares: 4, ..s });
-    tried(b"short work", 12, Altered { work: 16383, ..s });
+}
+
+fn buffers() {
+    lent_so(b"as it is", 0, 5, 5, 5, 16384);
+    lent_so(b"longer buffers", 0, 5, 7, 8, 16390);
+    lent_so(b"short members", 12, 5, 4, 5, 16384);
+    lent_so(b"short shares", 12, 5, 5, 4, 16384);
+    lent_so(b"short work", 12, 5, 5, 5, 16383);
+    lent_so(b"no modules, and short members", 13, 0, 4, 5, 16384);
+}
+
+// The cycle with this first byte and this first share.
+fn sheet(name: &[u8], due: u32, byte: u8, share: u32) {
     tried(
-        b"no modules, and short members",
-        13,
+        name,
+        due,
         Altered {
-            damage: Damage { n: 0, ..s.damage },
-            members: 4,
-            ..s
+            byte,
+            share,
+            ..sound()
         },
     );
 }
 
 // The sheet altered.
 fn altered_sheets() {
-    let s = sound();
-    tried(b"byte of 2", 7, Altered { byte: 2, ..s });
-    tried(b"member dropped", 8, Altered { byte: 0, ..s });
-    tried(b"share past Q", 8, Altered { share: 6, ..s });
-    tried(b"unit moved", 9, Altered { share: 4, ..s });
+    sheet(b"byte of 2", 7, 2, 5);
+    sheet(b"member dropped", 8, 0, 5);
+    sheet(b"share past Q", 8, 1, 6);
+    sheet(b"unit moved", 9, 1, 4);
 }
 
 pub(crate) fn run() {

@@ -53,44 +53,51 @@ fn each_call(name: &[u8], judged: u32, due: u32, damage: Damage) {
     );
 }
 
-// A way in which head and list disagree.
-fn damaged(name: &[u8], damage: Damage) {
-    each_call(name, 13, 13, damage);
-}
-
-// Heads that disagree with the list.
-fn heads() {
-    let d = lists::none();
-    damaged(b"no modules", Damage { n: 0, ..d });
-    damaged(b"513 modules", Damage { n: 513, ..d });
-    damaged(b"over 4,096 pairs", Damage { more: 4096, ..d });
-    damaged(b"one pair more than was recorded", Damage { more: 1, ..d });
-}
-
-// Records that do.
-fn records() {
-    let d = lists::none();
-    damaged(b"a record out of order", Damage { first: 0, ..d });
-    damaged(b"a record of one module", Damage { second: 3, ..d });
-    damaged(b"a module unknown", Damage { second: 5, ..d });
-    damaged(b"a count of 0", Damage { count: 0, ..d });
-    damaged(b"a count of 1,001", Damage { count: 1001, ..d });
-    damaged(b"a count of 65,535", Damage { count: 65535, ..d });
-}
-
-// The pair 3,4 more often, which the sheet of check is not for; and a record past the held ones, which is nobody's concern.
-fn counts() {
-    let d = lists::none();
-    each_call(b"3,4 twice", 9, 0, Damage { count: 2, ..d });
-    each_call(b"3,4 three times", 9, 0, Damage { count: 3, ..d });
-    each_call(b"3,4 ten times", 9, 0, Damage { count: 10, ..d });
-    each_call(b"3,4 1,000 times", 9, 0, Damage { count: 1000, ..d });
+// A head and a last record that disagree with the list: N, how many more pairs than there are, and the record.
+fn damaged(name: &[u8], n: u32, more: u32, first: u32, second: u32, count: u32) {
     each_call(
-        b"a count of 1,001 past it",
-        0,
-        0,
-        Damage { past: 1001, ..d },
+        name,
+        13,
+        13,
+        Damage {
+            n,
+            more,
+            first,
+            second,
+            count,
+            past: 0,
+        },
     );
+}
+
+fn heads() {
+    damaged(b"no modules", 0, 0, 3, 4, 1);
+    damaged(b"513 modules", 513, 0, 3, 4, 1);
+    damaged(b"over 4,096 pairs", 5, 4096, 3, 4, 1);
+    damaged(b"one pair more than was recorded", 5, 1, 3, 4, 1);
+}
+
+fn records() {
+    damaged(b"a record out of order", 5, 0, 0, 4, 1);
+    damaged(b"a record of one module", 5, 0, 3, 3, 1);
+    damaged(b"a module unknown", 5, 0, 3, 5, 1);
+    damaged(b"a count of 0", 5, 0, 3, 4, 0);
+    damaged(b"a count of 1,001", 5, 0, 3, 4, 1001);
+    damaged(b"a count of 65,535", 5, 0, 3, 4, 65535);
+}
+
+// The pair 3,4 more often, and the count of the record past the list; check has another number due where its sheet is not for this count.
+fn counted(name: &[u8], judged: u32, count: u32, past: u32) {
+    let d = lists::none();
+    each_call(name, judged, 0, Damage { count, past, ..d });
+}
+
+fn counts() {
+    counted(b"3,4 twice", 9, 2, 0);
+    counted(b"3,4 three times", 9, 3, 0);
+    counted(b"3,4 ten times", 9, 10, 0);
+    counted(b"3,4 1,000 times", 9, 1000, 0);
+    counted(b"a count of 1,001 past it", 0, 1, 1001);
 }
 
 fn main() {

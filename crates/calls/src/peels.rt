@@ -57,29 +57,26 @@ pub(crate) fn tried(name: &[u8], due: u32, a: Altered) {
     print::end_work(&work);
 }
 
-pub(crate) fn run() {
+// The list *tail*, its head with N, and so much of the buffers.
+fn lent_so(name: &[u8], due: u32, n: u32, order: usize, cores: usize, work: usize) {
     let s = sound();
-    tried(b"as it is", 0, s);
     tried(
-        b"longer buffers",
-        0,
+        name,
+        due,
         Altered {
-            order: 8,
-            cores: 6,
-            work: 16390,
-            ..s
+            damage: Damage { n, ..s.damage },
+            order,
+            cores,
+            work,
         },
     );
-    tried(b"short order", 12, Altered { order: 4, ..s });
-    tried(b"short core numbers", 12, Altered { cores: 4, ..s });
-    tried(b"short work", 12, Altered { work: 16383, ..s });
-    tried(
-        b"no modules, and short order",
-        13,
-        Altered {
-            damage: Damage { n: 0, ..s.damage },
-            order: 4,
-            ..s
-        },
-    );
+}
+
+pub(crate) fn run() {
+    lent_so(b"as it is", 0, 5, 5, 5, 16384);
+    lent_so(b"longer buffers", 0, 5, 8, 6, 16390);
+    lent_so(b"short order", 12, 5, 4, 5, 16384);
+    lent_so(b"short core numbers", 12, 5, 5, 4, 16384);
+    lent_so(b"short work", 12, 5, 5, 5, 16383);
+    lent_so(b"no modules, and short order", 13, 0, 4, 5, 16384);
 }

@@ -52,30 +52,20 @@ pub(crate) fn itself(name: &[u8], due: u32, damage: Damage) {
     found(name, due, Altered { damage, ..sound() });
 }
 
+// Two sets on the list as it is.
+fn two(name: &[u8], due: u32, value: i64, first: &[u8], second: &[u8]) {
+    tried(name, due, value, first, second, sound());
+}
+
 // Two sets of which one is the found group.
 fn groups() {
-    let s = sound();
     let group = [1, 1, 1, 1, 0];
-    found(b"found group against itself, 0", 0, s);
-    tried(
-        b"0 and 1 against it, -8",
-        0,
-        -8,
-        &[1, 1, 0, 0, 0],
-        &group,
-        s,
-    );
-    tried(
-        b"all five against it, -2",
-        0,
-        -2,
-        &[1, 1, 1, 1, 1],
-        &group,
-        s,
-    );
-    tried(b"it against 0 and 1, 8", 0, 8, &group, &[1, 1, 0, 0, 0], s);
-    tried(b"no member", 7, 0, &[0, 0, 0, 0, 0], &group, s);
-    tried(b"byte of 2", 7, 0, &group, &[2, 1, 1, 1, 0], s);
+    found(b"found group against itself, 0", 0, sound());
+    two(b"0 and 1 against it, -8", 0, -8, &[1, 1, 0, 0, 0], &group);
+    two(b"all five against it, -2", 0, -2, &[1, 1, 1, 1, 1], &group);
+    two(b"it against 0 and 1, 8", 0, 8, &group, &[1, 1, 0, 0, 0]);
+    two(b"no member", 7, 0, &[0, 0, 0, 0, 0], &group);
+    two(b"byte of 2", 7, 0, &group, &[2, 1, 1, 1, 0]);
 }
 
 // The pair 3,4 with another count.
@@ -95,33 +85,37 @@ fn counted(name: &[u8], value: i64, first: &[u8], count: u32) {
 // Groups against 3 and 4, the last time with the value of a list of ones.
 fn counts() {
     let group = [1, 1, 1, 1, 0];
+    let all = [1, 1, 1, 1, 1];
     counted(b"3,4 ten times, 0 to 3 against them, -28", -28, &group, 10);
     counted(
-        b"3,4 1,000 times, all five against them, -2,988",
+        b"3,4 1,000 times, all against them, -2,988",
         -2988,
-        &[1, 1, 1, 1, 1],
+        &all,
         1000,
     );
     counted(b"3,4 twice, 0 to 3 against them, 8", 8, &group, 2);
 }
 
-fn lengths() {
+// The found group against itself, the head with N, and so much of the sets.
+fn lent_so(name: &[u8], due: u32, n: u32, firsts: usize, seconds: usize) {
     let s = sound();
-    let damage = Damage { n: 0, ..s.damage };
-    let longer = Altered {
-        firsts: 6,
-        seconds: 8,
-        ..s
-    };
-    let both = Altered {
-        damage,
-        firsts: 4,
-        ..s
-    };
-    found(b"short first set", 12, Altered { firsts: 4, ..s });
-    found(b"short second set", 12, Altered { seconds: 4, ..s });
-    found(b"longer sets, 0", 0, longer);
-    found(b"no modules, and short first set", 13, both);
+    let damage = Damage { n, ..s.damage };
+    found(
+        name,
+        due,
+        Altered {
+            damage,
+            firsts,
+            seconds,
+        },
+    );
+}
+
+fn lengths() {
+    lent_so(b"short first set", 12, 5, 4, 5);
+    lent_so(b"short second set", 12, 5, 5, 4);
+    lent_so(b"longer sets, 0", 0, 5, 6, 8);
+    lent_so(b"no modules, and short first set", 13, 0, 4, 5);
 }
 
 pub(crate) fn run() {

@@ -145,37 +145,46 @@ pub(crate) fn tried(name: &[u8], due: u32, a: Altered) {
 
 // ---- what is tried
 
-fn buffers() {
+// The list *tail*, its head with N, so much of the text, and the byte due that is altered.
+fn lent_so(name: &[u8], due: u32, n: u32, text: usize, byte: usize) {
     let s = sound();
-    tried(b"as it is", 0, s);
-    tried(b"longer text", 0, Altered { text: 65600, ..s });
-    tried(b"short text", 12, Altered { text: 65535, ..s });
-    tried(b"text of the file's length", 12, Altered { text: 53, ..s });
-    tried(b"no text", 12, Altered { text: 0, ..s });
     tried(
-        b"no modules, and short text",
-        13,
+        name,
+        due,
         Altered {
-            damage: Damage { n: 0, ..s.damage },
-            text: 65535,
-            ..s
+            damage: Damage { n, ..s.damage },
+            text,
+            byte,
         },
     );
-    tried(b"first byte due altered", 0, Altered { byte: 1, ..s });
-    tried(b"last byte due altered", 0, Altered { byte: 53, ..s });
-    tried(b"byte past it altered", 0, Altered { byte: 54, ..s });
+}
+
+fn buffers() {
+    lent_so(b"as it is", 0, 5, 65536, 0);
+    lent_so(b"longer text", 0, 5, 65600, 0);
+    lent_so(b"short text", 12, 5, 65535, 0);
+    lent_so(b"text of the file's length", 12, 5, 53, 0);
+    lent_so(b"no text", 12, 5, 0, 0);
+    lent_so(b"no modules, and short text", 13, 0, 65535, 0);
+    lent_so(b"first byte due altered", 0, 5, 65536, 1);
+    lent_so(b"last byte due altered", 0, 5, 65536, 53);
+    lent_so(b"byte past it altered", 0, 5, 65536, 54);
+}
+
+// A list of n modules and m pairs.
+fn other(name: &[u8], n: u32, m: u32, words: &mut [u32]) {
+    tried_on(name, 0, Head { n, m }, sound(), words);
 }
 
 // Lists with other files.
 fn others() {
     let mut words = [0u32; 12288];
-    let s = sound();
-    tried_on(b"one module", 0, Head { n: 1, m: 0 }, s, &mut words);
-    tried_on(b"no pairs", 0, Head { n: 512, m: 0 }, s, &mut words);
+    other(b"one module", 1, 0, &mut words);
+    other(b"no pairs", 512, 0, &mut words);
     lists::triangles(&mut words);
-    tried_on(b"two triangles", 0, Head { n: 6, m: 6 }, s, &mut words);
-    tried_on(b"one of them", 0, Head { n: 6, m: 3 }, s, &mut words);
-    tried_on(b"two of its pairs", 0, Head { n: 3, m: 2 }, s, &mut words);
+    other(b"two triangles", 6, 6, &mut words);
+    other(b"one of them", 6, 3, &mut words);
+    other(b"two of its pairs", 3, 2, &mut words);
 }
 
 // A list of 512 modules.

@@ -11,7 +11,7 @@ small : {x y : ℕ} → x ≤ 65535 → y ≤ 65535 → x * y < 2 ^ 32
 small few few′ = lt-of-le-of-lt (mul-le-mul few few′) (lit< tt)
 
 mul-result : tie.Need-mul-result
-mul-result c = small (omega arith) (omega arith)
+mul-result c = record { fits = small (omega arith) (omega arith) }
 
 pub times-spec : {M : Type 1} → statement M
 times-spec = tie.close (tie.spec (λ c. search needs) (λ c. search needs) mul-result (λ c. search needs))
