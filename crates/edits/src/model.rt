@@ -1,4 +1,4 @@
-// The plain model of a list: a table of 512 by 512 modules on the desk, which has each pair's stop count in both orders, and 0 where the pair is not in the list.
+// The plain model of a list: a table of 512 by 512 modules on the desk, which has each pair's stop count, in both orders; 0 where it is not in the list.
 use crate::desk;
 use crate::desk::TABLE;
 

@@ -85,7 +85,8 @@ pub(crate) fn altered(plan: Plan, what: u32, x: u32) -> u32 {
     }
 }
 
-// Whether an answer is this number with such a head; `what` and `pairs` alter its number and its number of pairs.
+// Whether an answer is this number with such a head. Its number is altered where the plan alters `what`, its number of pairs where it alters `pairs`; no plan
+// alters 10.
 fn answers(plan: Plan, what: u32, pairs: u32, answer: Changed, number: u32, due: Head) -> bool {
     let head = answer.head;
     if altered(plan, what, answer.number) != number {
