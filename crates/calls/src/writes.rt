@@ -1,6 +1,6 @@
-// write_dimacs: the list *tail* of document 01, other small lists, and lists of 512 modules; counts are not in the file. Each line has the length written, and how many of the text's
-// 65,600 bytes are not as due: the file of the list, made here a second time from its records, and past it, or after a refusal from the first on, the bytes
-// that were there before.
+// write_dimacs: the list *tail* of document 01, other small lists, and lists of 512 modules; counts are not in the file. Each line has the length written,
+// and how many of the text's 65,600 bytes are not as due: the file of the list, made here a second time from its records, and past it, or after a refusal
+// from the first on, the bytes that were there before.
 use crate::lent;
 use crate::lists;
 use crate::lists::Counts;

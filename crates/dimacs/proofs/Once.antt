@@ -70,7 +70,8 @@ lines-once : (ps : List Pair) → edge-lines (ones ps) ≡ edge-lines ps
 unfolding ones pair
 lines-once [] = refl
 lines-once (p ∷ ps) =
-    edges-more (pair (p .a) (p .b)) (ones ps) ∙ ap (λ (l : List ℕ). filled edge-form ((p .a + 1) ∷ (p .b + 1) ∷ []) ++ l) (lines-once ps) ∙ sym (edges-more p ps)
+    let line : List ℕ = filled edge-form ((p .a + 1) ∷ (p .b + 1) ∷ []) in
+    edges-more (pair (p .a) (p .b)) (ones ps) ∙ ap (λ (l : List ℕ). line ++ l) (lines-once ps) ∙ sym (edges-more p ps)
 
 pub plain-once : (g : Pairs) → is-list g ≡ true → (without-comments (dimacs-of g) ≡ dimacs-of g) × (named (dimacs-of g) ≡ once-each g .pairs)
 unfolding dimacs-of dimacs-file once-each all-once counts-once

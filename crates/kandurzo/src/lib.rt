@@ -216,7 +216,8 @@ pub extern "C" fn kandurzo_read(bytes: &[u8], list: &mut [Pair], work: &mut [u32
 pub use kandurzo_read as read;
 
 // Reads a DIMACS edge file: comments, one line `p edge N M`, M lines `e A B` with modules numbered from 1. Makes a new head, and writes the first M records in
-// rising order, each with the count 1. Refuses by 12 (work), then line by line: 16, 2, 3, 11; 16, 17, 5, 4, 10; at the end 16, 17. A refused file leaves every record as it was.
+// rising order, each with the count 1. Refuses by 12 (work), then line by line: 16, 2, 3, 11; 16, 17, 5, 4, 10; at the end 16, 17. A refused file leaves every
+// record as it was.
 #[no_mangle]
 pub extern "C" fn kandurzo_read_dimacs(bytes: &[u8], list: &mut [Pair], work: &mut [u32]) -> Changed
     ensures { λ r. ⌜ Read-call read-dimacs (now (bytes .entry)) (now (list .entry)) (now (work .entry)) r (now (list .exit)) (now (work .exit)) ⌝ }
