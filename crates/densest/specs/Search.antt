@@ -1,7 +1,9 @@
 -- What the functions under `solve` take and leave; only this crate cites it.
 --   Candidate                  a ratio that some group reaches
---   Cored, Link-room           buffers that have the core numbers; buffers for the links
+--   Cored, Leaving-room        buffers that have the core numbers; buffers for leaving order and places
 --   Searchable                 what rounds start from
+--   no-load, Opened            what a round begins with
+--   Counted, Denser-counted    a group's inside count and size; of one that is denser than p over q
 --   Round                      what one round learns
 --   Group-found                what all rounds learn
 --   first-left, sheet-share    who of a pair left first; a pair's share, from its slots and the leaving places
@@ -11,13 +13,13 @@ use mathlib.Core.Bool.{Bool, true, false, cond}
 use mathlib.Core.List.{List}
 use Prim.Native.Nat.{ℕ, _+_, _*_, _≤_, _<_}
 use lib.Dec.{ltb}
-use lib.ListN.{length, getD}
+use lib.ListN.{length, getD, replicate}
 use Rattle.theory.specs.Lists.{Pairs}
 use Rattle.theory.specs.Groups.{size, is-group, holds-pair, inside, Found}
 use Rattle.theory.specs.Cores.{core, core-number}
 use Rattle.theory.specs.Splits.{units, rounded-up}
 use Rattle.theory.specs.Words.{word-pair, list-in, Held-words}
-use Rattle.slots.specs.Slots.{held-by, Room}
+use Rattle.slots.specs.Slots.{held-by, Room, Loads}
 use Rattle.slots.specs.Split.{Split}
 
 -- some group of the list has a ratio of p over q or more; p and q are small enough for words
@@ -43,10 +45,32 @@ pub record Searchable (n m p q : ℕ) (ends weights cores scope hold group : Lis
   pub group-long : length group ≡ n
   pub room : Room m hold
 
--- links are free: they only say where to look first
-pub record Link-room (n m : ℕ) (first next : List ℕ) : Type 0 where
-  pub first-long : n ≤ length first
-  pub next-long : 2 * m ≤ length next
+-- leaving order and places are free here: they only say where to begin
+pub record Leaving-room (n : ℕ) (order place : List ℕ) : Type 0 where
+  pub order-long : n ≤ length order
+  pub place-long : 512 ≤ length place
+
+-- no module has a load of its own
+unfoldable pub no-load : List ℕ
+no-load = replicate {A = ℕ} 512 0
+
+-- the scope is the core of p over q rounded up, hold a split inside it at share size q, and load has its loads
+pub record Opened (n m p q : ℕ) (ends weights scope hold load : List ℕ) : Type 0 where
+  pub scope-is : scope ≡ core (list-in n m ends weights) (rounded-up p q)
+  pub split : Split m q ends weights scope hold
+  pub room : Room m hold
+  pub loads : Loads n m no-load ends hold load
+
+-- a and b are the group's inside count and size
+pub record Counted (n m : ℕ) (ends weights group : List ℕ) (a b : ℕ) : Type 0 where
+  pub inside-count : a ≡ inside (list-in n m ends weights) group
+  pub modules : b ≡ size group
+
+-- they are those of a group with a higher ratio than p over q
+pub record Denser-counted (n m p q : ℕ) (ends weights group : List ℕ) (a b : ℕ) : Type 0 where
+  pub counted : Counted n m ends weights group a b
+  pub is-a-group : is-group (list-in n m ends weights) group ≡ true
+  pub denser : p * size group < inside (list-in n m ends weights) group * q
 
 -- the scope is the core of p over q rounded up, and hold a split inside it at share size q; true: no load is above p, and the group is the found
 -- group; false: the group is denser than p over q

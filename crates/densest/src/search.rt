@@ -1,53 +1,25 @@
 // Rounds: the found group among the pairs of a list, and a split at its size.
 //
 // A round asks for a split at a group's size with no load above its inside count, inside the core of the group's ratio rounded up. Where there is
-// none, `flow` hands over a denser group, and the next round starts from that; where there is one, what does not drain is the found group. A round
+// none, it hands over a denser group, and the next round starts from that; where there is one, what does not drain is the found group. A round
 // at the found group's size makes the split that the load sheet is written from; mostly it is the last one. (The Dinkelbach iteration.)
 ghost use mathlib.Core.Bool.{true};
 ghost use Prim.Native.Nat.{_≤_};
-ghost use Rattle.densest.specs.Search.{Link-room, Searchable, Round, Group-found};
+ghost use Rattle.arcs.specs.Arcs.{Arc-room};
+ghost use Rattle.densest.specs.Search.{Leaving-room, Searchable, Group-found};
 use crate::Effort;
-use flow::Ended;
+use crate::round::round;
 use flow::Searches;
 use flow::no_searches;
 use flow::together;
 
-// A group's inside count and size, whether the last round made a split at that size, and what the searches of all rounds did.
+// A group's inside count and size, whether the last round made a split at that size, whether arcs are laid, and what the searches of all rounds did.
 pub(crate) struct Ratio {
     pub(crate) p: u32,
     pub(crate) q: u32,
     pub(crate) settled: bool,
+    pub(crate) laid: bool,
     pub(crate) searches: Searches,
-}
-
-// One round: a split at share size q inside the core of p over q rounded up, near the one that hold has at share size `old`, and what `flow`
-// makes of it, with at most so many push phases first.
-fn round(
-    n: usize,
-    m: usize,
-    phases: usize,
-    p: u32,
-    q: u32,
-    old: u32,
-    ends: &[u32],
-    weights: &[u32],
-    cores: &[u32],
-    first: &[u32],
-    next: &[u32],
-    scope: &mut [u8],
-    hold: &mut [u32],
-    group: &mut [u8],
-) -> Ended
-    requires { ⌜ Searchable n m p q (now ends) (now weights) (now cores) (now scope) (now hold) (now group) ⌝ }
-    requires { ⌜ Link-room n m (now first) (now next) ⌝ }
-    ensures { λ r. ⌜ Round n m p q (now (ends .entry)) (now (weights .entry)) (now (scope .exit)) (now (hold .exit)) (now (group .exit))
-        (r .settled) ⌝ }
-{
-    let own = [0u32; 512];
-    let k = numbers::rounded_up(p, q);
-    groups::mark_at_least(n, k, cores, scope);
-    slots::spread(n, m, q, old, ends, weights, scope, hold);
-    flow::flow(n, m, p, phases, &own, scope, ends, first, next, hold, group)
 }
 
 // Rounds from a group of inside count p0 and size q0 on, until one finds a split; the found group's inside count and size.
@@ -55,19 +27,25 @@ fn search(
     n: usize,
     m: usize,
     phases: usize,
+    linked: usize,
     p0: u32,
     q0: u32,
     ends: &[u32],
     weights: &[u32],
     cores: &[u32],
-    first: &[u32],
-    next: &[u32],
+    order: &[u32],
+    place: &[u32],
+    starts: &mut [u32],
+    arcs: &mut [u32],
     scope: &mut [u8],
     hold: &mut [u32],
     group: &mut [u8],
 ) -> Ratio
     requires { ⌜ Searchable n m p0 q0 (now ends) (now weights) (now cores) (now scope) (now hold) (now group) ⌝ }
-    requires { ⌜ Link-room n m (now first) (now next) ⌝ }
+    requires { ⌜ Leaving-room n (now order) (now place) ⌝ }
+    requires { ⌜ Arc-room n (now starts) (now arcs) ⌝ }
+    requires { ⌜ linked ≤ m ⌝ }
+    ensures { λ r. ⌜ Arc-room n (now (starts .exit)) (now (arcs .exit)) ⌝ }
     ensures { λ r. ⌜ Group-found n m (now (ends .entry)) (now (weights .entry)) (now (scope .exit)) (now (hold .exit)) (now (group .exit)) (r .p) (r .q)
         (r .settled) ⌝ }
 {
@@ -76,37 +54,42 @@ fn search(
     let mut old = 0;
     let mut done = false;
     let mut settled = false;
+    let mut laid = false;
     let mut searches = no_searches();
     while !done {
-        let ended = round(
+        let turn = round(
             n,
             m,
             phases,
+            linked,
+            laid,
             p,
             q,
             old,
             ends,
             weights,
             cores,
-            first,
-            next,
+            order,
+            place,
+            starts,
+            arcs,
             scope,
             hold,
             group,
         );
-        let inside = groups::inside_count(n, m, ends, weights, group);
-        let size = groups::group_size(n, group);
-        settled = numbers::same(inside, size, p, q);
-        searches = together(searches, ended.searches);
-        done = ended.settled;
+        settled = numbers::same(turn.p, turn.q, p, q);
+        searches = together(searches, turn.searches);
+        done = turn.settled;
+        laid = turn.laid;
         old = q;
-        p = inside;
-        q = size;
+        p = turn.p;
+        q = turn.q;
     }
     Ratio {
         p,
         q,
         settled,
+        laid,
         searches,
     }
 }
@@ -116,18 +99,23 @@ fn last_round(
     n: usize,
     m: usize,
     phases: usize,
+    linked: usize,
     best: Ratio,
     ends: &[u32],
     weights: &[u32],
     cores: &[u32],
-    first: &[u32],
-    next: &[u32],
+    order: &[u32],
+    place: &[u32],
+    starts: &mut [u32],
+    arcs: &mut [u32],
     scope: &mut [u8],
     hold: &mut [u32],
     group: &mut [u8],
 ) -> Ratio
     requires { ⌜ Searchable n m (best .p) (best .q) (now ends) (now weights) (now cores) (now scope) (now hold) (now group) ⌝ }
-    requires { ⌜ Link-room n m (now first) (now next) ⌝ }
+    requires { ⌜ Leaving-room n (now order) (now place) ⌝ }
+    requires { ⌜ Arc-room n (now starts) (now arcs) ⌝ }
+    requires { ⌜ linked ≤ m ⌝ }
     requires { ⌜ Group-found n m (now ends) (now weights) (now scope) (now hold) (now group) (best .p) (best .q) (best .settled) ⌝ }
     ensures { λ r. ⌜ Group-found n m (now (ends .entry)) (now (weights .entry)) (now (scope .exit)) (now (hold .exit)) (now (group .exit))
         (r .p) (r .q) true ⌝ }
@@ -135,18 +123,22 @@ fn last_round(
     if best.settled {
         return best;
     }
-    let ended = round(
+    let turn = round(
         n,
         m,
         phases,
+        linked,
+        best.laid,
         best.p,
         best.q,
         best.q,
         ends,
         weights,
         cores,
-        first,
-        next,
+        order,
+        place,
+        starts,
+        arcs,
         scope,
         hold,
         group,
@@ -154,8 +146,9 @@ fn last_round(
     Ratio {
         p: best.p,
         q: best.q,
-        settled: ended.settled,
-        searches: together(best.searches, ended.searches),
+        settled: turn.settled,
+        laid: turn.laid,
+        searches: together(best.searches, turn.searches),
     }
 }
 
@@ -176,30 +169,35 @@ pub(crate) fn find(
     ends: &[u32],
     weights: &[u32],
     cores: &[u32],
+    order: &[u32],
+    place: &[u32],
     scope: &mut [u8],
     hold: &mut [u32],
     group: &mut [u8],
 ) -> Ratio
     requires { ⌜ Searchable n m p q (now ends) (now weights) (now cores) (now scope) (now hold) (now group) ⌝ }
+    requires { ⌜ Leaving-room n (now order) (now place) ⌝ }
     ensures { λ r. ⌜ Group-found n m (now (ends .entry)) (now (weights .entry)) (now (scope .exit)) (now (hold .exit)) (now (group .exit))
         (r .p) (r .q) true ⌝ }
 {
-    let mut first = [0u32; 512];
-    let mut next = [0u32; 8192];
+    let mut starts = [0u32; 513];
+    let mut arcs = [0u32; 8192];
     let phases = effort.phases;
-    let linked = fewer(effort.links, m);
-    slots::links(n, linked, ends, &mut first, &mut next);
+    let linked = fewer(effort.arcs, m);
     let best = search(
         n,
         m,
         phases,
+        linked,
         p,
         q,
         ends,
         weights,
         cores,
-        &first,
-        &next,
+        order,
+        place,
+        &mut starts,
+        &mut arcs,
         scope,
         hold,
         group,
@@ -208,12 +206,15 @@ pub(crate) fn find(
         n,
         m,
         phases,
+        linked,
         best,
         ends,
         weights,
         cores,
-        &first,
-        &next,
+        order,
+        place,
+        &mut starts,
+        &mut arcs,
         scope,
         hold,
         group,
