@@ -145,7 +145,6 @@ pub record Turn (n m q j : ℕ) (ends weights scope hold₀ own hold load : List
 
 module _ {n m q j : ℕ} {ends weights scope hold₀ own hold load : List ℕ} {a b u x : ℕ}
     (t : Turn n m q j ends weights scope hold₀ own hold load a b u x) where
-
   -- the units after it
   abbrev laid : List ℕ
   laid = set (set hold (2 * j) x) (2 * j + 1) (u - x)
@@ -169,7 +168,7 @@ module _ {n m q j : ℕ} {ends weights scope hold₀ own hold load : List ℕ} {
   added-before v h =
       t .upto .added v h
       ∙ sym (ap (λ (y : ℕ). getD own v 0 + y) (held-before (2 * j) ends hold laid v (λ i l.
-          getD-set-other (set hold (2 * j) x) (2 * j + 1) i (u - x) 0 (λ z. omega arith) ∙ getD-set-other hold (2 * j) i x 0 (λ z. omega arith))))
+      getD-set-other (set hold (2 * j) x) (2 * j + 1) i (u - x) 0 (λ z. omega arith) ∙ getD-set-other hold (2 * j) i x 0 (λ z. omega arith))))
 
   a-low : a < n
   a-low = omega (arith, t .first, t .low, t .list .below (2 * j) (omega arith))
@@ -183,7 +182,6 @@ module _ {n m q j : ℕ} {ends weights scope hold₀ own hold load : List ℕ} {
 
   -- and then the second's with the rest
   module _ {load₁ : List ℕ} (e₁ : load₁ ≡ set load a (getD load a 0 + x)) where
-
     added-first : Added n (2 * j + 1) own ends laid load₁
     added-first = rw e₁ (rw at-first at (loads-next n (2 * j) own ends laid load a (t .first) (omega (arith, a-low, t .own-small .long, t .upto .load-long)) added-before))
 

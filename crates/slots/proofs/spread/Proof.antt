@@ -1,8 +1,7 @@
 -- `slots::spread` meets its contract: the pairs passed hold their units, and the loads have what they hold. Assumes nothing.
 use native.Mathlib.Omega.{arith}
-use mathlib.Core.Path.{_≡_}
-use Prim.Native.Nat.{_+_, _*_, _-_, _≤_, _<_}
-use lib.ListN.{length, length-set}
+use Prim.Native.Nat.{_+_, _*_, _-_, _<_}
+use lib.ListN.{length-set}
 use Rattle.slots.specs.Rows.{first-end, second-end}
 use Rattle.slots.proofs.Spreading.{Spread-upto, Turn, spread-start, spread-fits, spread-fits-too, spread-next, spread-end}
 use Rattle.slots.proofs.spread.Statement.{statement}
@@ -40,7 +39,7 @@ turn : (c : tie.After-first-part Inv-loop μ-loop) →
     let l = inside (ended c) in
     let a = begin l .args in
     Turn (a .n) (a .m) (a .q) (l .loop .j) (a .ends .now) (a .weights .now) (a .scope .now) (a .hold .now) (a .load .now) (l .loop .hold) (l .loop .load)
-        (ended c .before .first-end .result) (ended c .second-end .result) (c .before .before .pair-units .result) (c .first-part .result)
+    (ended c .before .first-end .result) (ended c .second-end .result) (c .before .before .pair-units .result) (c .first-part .result)
 unfolding first-end second-end
 turn c =
     let l = inside (ended c) in
@@ -61,18 +60,6 @@ turn c =
 
 loop-holds : tie.Need-loop-holds Inv-loop μ-loop
 loop-holds c = spread-start (c .before .before .before .before .before .before .pre .1 .1 .1 .1 .0 .long)
-
-first-end-requires : tie.Need-first-end-requires Inv-loop μ-loop
-first-end-requires c κs = let e = begin (c .before) .pre .0 in (omega (arith, e .few), omega (arith, e .long))
-
-second-end-requires : tie.Need-second-end-requires Inv-loop μ-loop
-second-end-requires c κs = let e = begin (c .before .before) .pre .0 in (omega (arith, e .few), omega (arith, e .long))
-
-mul-pair-units : tie.Need-mul-pair-units Inv-loop μ-loop
-mul-pair-units c = omega (arith, begin (inside c) .pre .0 .few)
-
-shared-slice-read-pair-units : tie.Need-shared-slice-read-pair-units Inv-loop μ-loop
-shared-slice-read-pair-units c = omega (arith, begin (inside (c .before)) .pre .1 .0 .long)
 
 shared-slice-read-pair-units-2 : tie.Need-shared-slice-read-pair-units-2 Inv-loop μ-loop
 shared-slice-read-pair-units-2 c = let l = modules-low (c .before .before) in omega arith
@@ -125,10 +112,10 @@ spread-spec =
     μ-loop
     (λ c κs. c .before .before .before .before .before .pre .1 .1 .1 .0)
     loop-holds
-    first-end-requires
-    second-end-requires
-    mul-pair-units
-    shared-slice-read-pair-units
+    (λ c κs. omega arith)
+    (λ c κs. omega arith)
+    (λ c. omega arith)
+    (λ c. omega arith)
     shared-slice-read-pair-units-2
     shared-slice-read-pair-units-3
     pair-units-requires
