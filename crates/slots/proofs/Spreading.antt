@@ -1,13 +1,13 @@
 -- A split and its loads, pair by pair.
 --   Split-upto                         the pairs below j hold their units, the others what they did
 --   split-start, split-next, split-end no pair, one pair more, all pairs
---   scope-most, split-upto-room        no pair has more than 512,000 units
+--   units-most, scope-most, split-upto-room    no pair has more than 512,000 units
 --   Spread-upto                        and the loads have what these pairs hold
 --   spread-start, spread-end           no pair, all pairs
 --   Turn, spread-fits, spread-fits-too, spread-next    one pair more: the sums fit 32 bits
 -- Assumes nothing.
 use mathlib.Core.Path.{_≡_, refl, sym, _∙_, ap}
-use mathlib.Core.Bool.{Bool, true, false, _&&_, cond}
+use mathlib.Core.Bool.{_&&_, cond}
 use mathlib.Core.List.{List}
 use mathlib.Core.Logic.{⊎-elim}
 use Prim.Native.Nat.{ℕ, _+_, _*_, _-_, _≤_, _<_}
@@ -24,7 +24,7 @@ use Rattle.slots.specs.Split.{scope-units, Weights, Split}
 use Rattle.slots.proofs.Choice.{eq-or-ne, lt-or-le}
 use Rattle.slots.proofs.Totals.{total-ext}
 use Rattle.slots.proofs.Mates.{mate-even, by-pair}
-use Rattle.slots.proofs.Held.{Added, held-zero, loads-next, loads-fit}
+use Rattle.slots.proofs.Held.{Added, held-zero, cond-most, loads-next, loads-fit}
 
 -- the pairs below j hold their units, the others what they did
 pub record Split-upto (m q j : ℕ) (ends weights scope hold₀ hold : List ℕ) : Type 0 where
@@ -79,15 +79,18 @@ pub split-end : {m q j : ℕ} {ends weights scope hold₀ hold : List ℕ} → S
     Split m q ends weights scope hold
 split-end w h = record { long = w .room; whole = λ i l. w .whole i (omega arith) }
 
-units-most : (b : Bool) (w q : ℕ) → w ≤ 1000 → q ≤ 512 → cond b (w * q) 0 ≤ 512000
-units-most true w q a h = omega (arith, mul-le-mul-right q a, mul-le-mul-left 1000 h)
-units-most false w q a h = omega arith
+pub units-most : (w q : ℕ) → w ≤ 1000 → q ≤ 512 → w * q ≤ 512000
+units-most w q a h = omega (arith, mul-le-mul-right q a, mul-le-mul-left 1000 h)
 
 -- no pair has more than 512,000 units
 pub scope-most : (m q : ℕ) (ends weights scope : List ℕ) → Weights m weights → q ≤ 512 → (j : ℕ) → j < m → scope-units q ends weights scope j ≤ 512000
 unfolding scope-units units word-pair
 scope-most m q ends weights scope w h j l =
-    units-most (holds-pair scope (word-pair ends weights j)) (getD weights j 0) q (w .small j l) h
+    omega (
+      arith,
+      cond-most (holds-pair scope (word-pair ends weights j)) (getD weights j 0 * q),
+      units-most (getD weights j 0) q (w .small j l) h,
+    )
 
 -- so there is room where there was
 pub split-upto-room : {m q j : ℕ} {ends weights scope hold₀ hold : List ℕ} → Weights m weights → q ≤ 512 → Room m hold₀ →
@@ -183,7 +186,9 @@ module _ {n m q j : ℕ} {ends weights scope hold₀ own hold load : List ℕ} {
   -- and then the second's with the rest
   module _ {load₁ : List ℕ} (e₁ : load₁ ≡ set load a (getD load a 0 + x)) where
     added-first : Added n (2 * j + 1) own ends laid load₁
-    added-first = rw e₁ (rw at-first at (loads-next n (2 * j) own ends laid load a (t .first) (omega (arith, a-low, t .own-small .long, t .upto .load-long)) added-before))
+    added-first =
+        let long : a < length load = omega (arith, a-low, t .own-small .long, t .upto .load-long) in
+        rw e₁ (rw at-first at (loads-next n (2 * j) own ends laid load a (t .first) long added-before))
 
     long₁ : length load₁ ≡ length own
     long₁ = rw e₁ (length-set load a (getD load a 0 + x) ∙ t .upto .load-long)
@@ -196,8 +201,9 @@ module _ {n m q j : ℕ} {ends weights scope hold₀ own hold load : List ℕ} {
         Spread-upto n m q (j + 1) ends weights scope hold₀ own laid load₂
     spread-next e₂ =
         let d : 2 * j + 1 + 1 ≡ 2 * (j + 1) = omega arith in
+        let long : b < length load₁ = omega (arith, b-low, t .own-small .long, long₁) in
         record {
           split = next;
-          added = rw e₂ (rw (d, at-second) at (loads-next n (2 * j + 1) own ends laid load₁ b (t .second) (omega (arith, b-low, t .own-small .long, long₁)) added-first));
+          added = rw e₂ (rw (d, at-second) at (loads-next n (2 * j + 1) own ends laid load₁ b (t .second) long added-first));
           load-long = rw e₂ (length-set load₁ b (getD load₁ b 0 + (u - x)) ∙ long₁);
         }

@@ -234,12 +234,7 @@ fn pair_units(w: u32, q: u32, a: u8, b: u8) -> u32
     requires { ⌜ q ≤ 512 ⌝ }
     ensures { λ r. ⌜ r ≡ cond (eqb a 1 && eqb b 1) (w * q) 0 ⌝ }
 {
-    if a == 1 {
-        if b == 1 {
-            return w * q;
-        }
-    }
-    0
+    numbers::pick_upto(numbers::both(a, b), w * q, 524288)
 }
 
 // What units at share size `old` are at q, in 1,048,576ths: 0 where `old` is 0, else free.
