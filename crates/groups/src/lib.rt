@@ -32,13 +32,6 @@ pub fn two_ends(n: usize, m: usize, j: usize, ends: &[u32]) -> TwoEnds
     }
 }
 
-// Whether both bytes are 1.
-pub fn both(a: u8, b: u8) -> bool
-    ensures { λ r. ⌜ r ≡ (eqb a 1 && eqb b 1) ⌝ }
-{
-    if a == 1 { b == 1 } else { false }
-}
-
 // Whether both ends of pair j are in a group.
 pub fn inner(n: usize, m: usize, j: usize, ends: &[u32], group: &[u8]) -> bool
     requires { ⌜ Ends n m (now ends) ⌝ }
@@ -48,7 +41,7 @@ pub fn inner(n: usize, m: usize, j: usize, ends: &[u32], group: &[u8]) -> bool
     let pair = two_ends(n, m, j, ends);
     let a = pair.a;
     let b = pair.b;
-    both(group[a], group[b])
+    numbers::both(group[a], group[b])
 }
 
 // The inside count of a group.
@@ -60,7 +53,7 @@ pub fn inside_count(n: usize, m: usize, ends: &[u32], weights: &[u32], group: &[
     let mut count = 0;
     let mut j = 0;
     while j < m {
-        count = count + numbers::pick(inner(n, m, j, ends, group), weights[j]);
+        count = count + numbers::pick_upto(inner(n, m, j, ends, group), weights[j], 1024);
         j = j + 1;
     }
     count

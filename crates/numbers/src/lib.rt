@@ -54,11 +54,26 @@ pub fn between(c: u8, low: u8, high: u8) -> bool
     low <= c && c <= high
 }
 
+// Whether two bytes are both 1.
+pub fn both(a: u8, b: u8) -> bool
+    ensures { λ r. ⌜ r ≡ (eqb a 1 && eqb b 1) ⌝ }
+{
+    if a == 1 { b == 1 } else { false }
+}
+
 // x where a test holds, else 0.
 pub fn pick(test: bool, x: u32) -> u32
     ensures { λ r. ⌜ r ≡ cond test x 0 ⌝ }
 {
     if test { x } else { 0 }
+}
+
+// The same, as a minimum: where chance decides the test, the compiler makes no jump of it. `top` is at least x.
+pub fn pick_upto(test: bool, x: u32, top: u32) -> u32
+    requires { ⌜ x ≤ top ⌝ }
+    ensures { λ r. ⌜ r ≡ cond test x 0 ⌝ }
+{
+    lesser(x, pick(test, top))
 }
 
 // 1 where a test holds, else 0: how far a place moves on.

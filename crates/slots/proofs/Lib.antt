@@ -1,4 +1,4 @@
--- Laws of the definitions of specs/, for whoever works with slots; and the steps of loops of this crate (Spreading, Passing).
+-- Laws of the definitions of specs/, for whoever works with slots; and the steps of a loop of this crate (Passing).
 pub mod Choice
 pub mod Totals
 pub mod Mates
@@ -9,5 +9,5 @@ pub mod Counting
 pub mod Linking
 pub mod Rows
 pub mod Buffers
-mod Spreading
+pub mod Spreading
 mod Passing

@@ -234,27 +234,34 @@ fn pair_units(w: u32, q: u32, a: u8, b: u8) -> u32
     requires { ⌜ q ≤ 512 ⌝ }
     ensures { λ r. ⌜ r ≡ cond (eqb a 1 && eqb b 1) (w * q) 0 ⌝ }
 {
-    if a == 1 {
-        if b == 1 {
-            return w * q;
-        }
-    }
-    0
+    numbers::pick_upto(numbers::both(a, b), w * q, 524288)
 }
 
-// The part of u units that a pair's first end gets: half of them, or what x at share size `old` is at q. At most all, else free.
-fn first_part(u: u32, q: u32, old: u32, x: u32) -> u32
+// What units at share size `old` are at q, in 1,048,576ths: 0 where `old` is 0, else free.
+fn scale_of(q: u32, old: u32) -> u64
     requires { ⌜ q ≤ 512 ⌝ }
+    ensures { λ r. ⌜ r ≤ 536870912 ⌝ }
+{
+    if old == 0 {
+        return 0;
+    }
+    (q as u64) * 1048576 / (old as u64)
+}
+
+// The part of u units that a pair's first end gets: half of them where `scale` is 0, or x of them scaled. At most all, else free.
+fn first_part(u: u32, scale: u64, x: u32) -> u32
+    requires { ⌜ scale ≤ 536870912 ⌝ }
     requires { ⌜ x ≤ 512000 ⌝ }
     ensures { λ r. ⌜ r ≤ u ⌝ }
 {
-    if old == 0 {
+    if scale == 0 {
         return u / 2;
     }
-    numbers::lesser(x * q / old, u)
+    numbers::lesser((((x as u64) * scale + 524288) / 1048576) as u32, u)
 }
 
-// A split at share size q inside the scope: near the one that hold has at share size `old`, or in halves where `old` is 0.
+// A split at share size q inside the scope: near the one that hold has at share size `old`, or in halves where `old` is 0. And the loads: `load` has the
+// modules' own before, and all of them after.
 pub fn spread(
     n: usize,
     m: usize,
@@ -264,22 +271,28 @@ pub fn spread(
     weights: &[u32],
     scope: &[u8],
     hold: &mut [u32],
+    load: &mut [u32],
 )
     requires { ⌜ Ends n m (now ends) ⌝ }
     requires { ⌜ Weights m (now weights) ⌝ }
     requires { ⌜ length (now scope) ≡ n ⌝ }
     requires { ⌜ q ≤ 512 ⌝ }
     requires { ⌜ Room m (now hold) ⌝ }
+    requires { ⌜ Own n (now load) ⌝ }
     ensures { λ r. ⌜ Split m q (now (ends .entry)) (now (weights .entry)) (now (scope .entry)) (now (hold .exit)) ⌝ }
+    ensures { λ r. ⌜ Loads n m (now (load .entry)) (now (ends .entry)) (now (hold .exit)) (now (load .exit)) ⌝ }
 {
+    let scale = scale_of(q, old);
     let mut j = 0;
     while j < m {
         let a = first_end(j, ends);
         let b = second_end(j, ends);
         let u = pair_units(weights[j], q, scope[a], scope[b]);
-        let x = first_part(u, q, old, hold[2 * j]);
+        let x = first_part(u, scale, hold[2 * j]);
         hold[2 * j] = x;
         hold[2 * j + 1] = u - x;
+        add(a, x, load);
+        add(b, u - x, load);
         j = j + 1;
     }
 }

@@ -23,22 +23,29 @@ loop-holds c = (c .before .before .before .pre .0, c .before .before .before .pr
 inner-requires : tie.Need-inner-requires Inv-loop μ-loop
 inner-requires c κs = let i = c .before .loop .inv in (list-ends _ _ _ _ (i .0 .listed) (i .0 .ends-long), (omega arith, i .1))
 
-mul-pick : tie.Need-mul-pick Inv-loop μ-loop
-mul-pick c = let l = c .before .before .loop .inv .0 .weights-long in omega arith
+mul-pick-upto : tie.Need-mul-pick-upto Inv-loop μ-loop
+mul-pick-upto c = let l = c .before .before .loop .inv .0 .weights-long in omega arith
 
-shared-slice-read-pick : tie.Need-shared-slice-read-pick Inv-loop μ-loop
-shared-slice-read-pick c = let l = c .before .before .before .loop .inv .0 .weights-long in omega arith
+shared-slice-read-pick-upto : tie.Need-shared-slice-read-pick-upto Inv-loop μ-loop
+shared-slice-read-pick-upto c = let l = c .before .before .before .loop .inv .0 .weights-long in omega arith
 
--- what pair j adds is at most its weight, 1,000
-adds-few : (c : tie.After-pick Inv-loop μ-loop) → c .pick .result ≤ 1000
+-- the weight of pair j
+light : (c : tie.After-shared-slice-known4 Inv-loop μ-loop) →
+    getD (c .before .before .before .before .before .before .before .args .weights .now) (c .before .before .before .loop .j) 0 ≤ 1000
+light c = let l = c .before .before .before .loop in good-pair _ _ _ _ (l .inv .0 .listed) (l .j) (omega arith) .light
+
+pick-upto-requires : tie.Need-pick-upto-requires Inv-loop μ-loop
+pick-upto-requires c κs = omega (arith, light c)
+
+-- what it adds is at most that
+adds-few : (c : tie.After-pick-upto Inv-loop μ-loop) → c .pick-upto .result ≤ 1000
 adds-few c =
-    let l = c .before .before .before .before .loop in
     let a = c .before .before .before .before .before .before .before .before .args in
     omega (
       arith,
-      c .pick .ensures,
-      cond-most (c .before .before .inner .result) (getD (a .weights .now) (l .j) 0),
-      good-pair (a .n) (a .m) (a .ends .now) (a .weights .now) (l .inv .0 .listed) (l .j) (omega arith) .light,
+      c .pick-upto .ensures,
+      cond-most (c .before .before .inner .result) (getD (a .weights .now) (c .before .before .before .before .loop .j) 0),
+      light (c .before),
     )
 
 add-count : tie.Need-add-count Inv-loop μ-loop
@@ -55,7 +62,7 @@ loop-again c =
       l .inv .1,
       omega arith,
       omega arith,
-      upto-next (a .ends .now) (a .weights .now) (a .group .now) (l .j) _ _ _ (l .inv .4) (c .before .before .inner .ensures) (c .pick .ensures),
+      upto-next (a .ends .now) (a .weights .now) (a .group .now) (l .j) _ _ _ (l .inv .4) (c .before .before .inner .ensures) (c .pick-upto .ensures),
     )
 
 returns : tie.Need-returns Inv-loop μ-loop
@@ -74,9 +81,9 @@ inside-count-spec =
     μ-loop
     loop-holds
     inner-requires
-    mul-pick
-    shared-slice-read-pick
-    (λ c κs. tt)
+    mul-pick-upto
+    shared-slice-read-pick-upto
+    pick-upto-requires
     add-count
     (λ c. omega arith)
     (λ c. omega arith)

@@ -1,7 +1,7 @@
--- `groups::both` meets its contract. Assumes nothing.
+-- `numbers::both` meets its contract. Assumes nothing.
 use borrow.Author.Tests.{eq-eqb, ne-eqb}
-use Rattle.groups.proofs.both.Statement.{statement}
-use Rattle.groups.proofs.both.Tie as tie
+use Rattle.numbers.proofs.both.Statement.{statement}
+use Rattle.numbers.proofs.both.Tie as tie
 
 returns : tie.Need-returns
 returns c = rw (eq-eqb (c .before .args .a) 1 (c .if1 .taken))
