@@ -14,14 +14,14 @@ mod search;
 
 use drain::drain;
 use numbers::greater;
-use push::phases;
 use search::settle;
-use slots::loads;
 use std::num::wrapping_add_u32;
 ghost use mathlib.Core.Path.{_≡_};
-ghost use Prim.Native.Nat.{_*_, _≤_, _<_};
+ghost use mathlib.Core.List.{List};
+ghost use Prim.Native.Nat.{ℕ, _≤_, _<_};
 ghost use lib.ListN.{length};
-ghost use Rattle.slots.specs.Slots.{Ends, Room, Own};
+ghost use Rattle.slots.specs.Slots.{Ends, Room, Loads, Covers};
+ghost use Rattle.arcs.specs.Arcs.{Arc-room};
 ghost use Rattle.flow.specs.Flow.{Flowed};
 ghost use Rattle.flow.specs.Search.{Marked};
 ghost use Rattle.flow.specs.Searches.{no-searches, together as Searches·together};
@@ -96,31 +96,27 @@ pub fn flow(
     n: usize,
     m: usize,
     p: u32,
-    most: usize,
-    own: &[u32],
     scope: &[u8],
     ends: &[u32],
-    first: &[u32],
-    next: &[u32],
+    starts: &[u32],
+    arcs: &[u32],
     hold: &mut [u32],
+    load: &mut [u32],
     group: &mut [u8],
 ) -> Ended
     requires { ⌜ n ≤ 512 ⌝ }
     requires { ⌜ Ends n m (now ends) ⌝ }
-    requires { ⌜ Own n (now own) ⌝ }
     requires { ⌜ Room m (now hold) ⌝ }
-    requires { ⌜ (n ≤ length (now first)) × (2 * m ≤ length (now next)) ⌝ }
+    requires { ⌜ Covers n m (now ends) (now hold) (now load) ⌝ }
+    requires { ⌜ Arc-room n (now starts) (now arcs) ⌝ }
     requires { ⌜ (length (now scope) ≡ n) × (length (now group) ≡ n) ⌝ }
-    ensures { λ r. ⌜ Flowed n m p (now (own .entry)) (now (scope .entry)) (now (ends .entry)) (now (hold .entry)) (now (hold .exit))
-        (now (group .exit)) (r .settled) ⌝ }
+    ensures { λ r. ⌜ ((own : List ℕ) → Loads n m own (now (ends .entry)) (now (hold .entry)) (now (load .entry)) →
+        Flowed n m p own (now (scope .entry)) (now (ends .entry)) (now (hold .entry)) (now (hold .exit)) (now (group .exit)) (r .settled)) ⌝ }
 {
-    let mut load = [0u32; 512];
     let mut rank = [0u32; 512];
-    loads(n, m, own, ends, hold, &mut load);
-    phases(n, m, p, most, scope, ends, first, next, hold, &mut load);
-    let split = settle(n, m, p, ends, first, next, hold, &mut load, &mut rank);
+    let split = settle(n, m, p, ends, starts, arcs, hold, load, &mut rank);
     if split.settled {
-        drain(n, m, p, scope, ends, first, next, hold, &load, &mut rank);
+        drain(n, m, p, scope, ends, starts, arcs, hold, load, &mut rank);
         mark(n, &rank, group);
         return split;
     }
