@@ -3,7 +3,7 @@
 --   leads-none, leads-not, leads-test    the three ways that `leading` goes
 --   leads-pair, leads-below         which slot of a pair may lead out; none of the slots before one does
 --   closed-empty                    of a closed set: a slot from a member to another module holds nothing
---   Leads-out, leads-out, leads-out-at    what is known of a slot that leads out; the same where it goes by another name
+--   Leads-out, leads-out            what is known of a slot that leads out
 -- Assumes nothing.
 use mathlib.Core.Path.{_≡_, sym, ap, _∙_}
 use mathlib.Core.Bool.{true, false}
@@ -102,8 +102,3 @@ leads-out {n} {m} {ends} {hold} {rank} {k} e lr lk ld =
       up = f .1 .0;
       down = f .1 .1;
     }
-
--- the same where the slot goes by another name
-pub leads-out-at : {n m : ℕ} {ends hold rank : List ℕ} {k s : ℕ} → k ≡ s → Ends n m ends → n ≤ length rank → s < 2 * m →
-    leads ends hold rank s ≡ true → Leads-out n m ends hold rank k
-leads-out-at z e lr ls ld = rw z (leads-out e lr ls ld)

@@ -1,10 +1,8 @@
 // Once no load is above p: modules of the scope loaded below p drain, and so does whoever could pass units on to them. What stays is the largest set
 // loaded p throughout.
 use crate::exits::exit;
-use crate::exits::leading_back;
-use arcs::slot_of;
+use crate::exits::exit_back;
 use slots::is_sink;
-use slots::other;
 use slots::wide;
 ghost use mathlib.Core.Path.{_≡_};
 ghost use mathlib.Core.Bool.{_&&_, cond};
@@ -95,14 +93,16 @@ fn spill(
     ensures { λ r. ⌜ Drains n m (now (ends .entry)) (now (hold .entry)) (now (rank .entry)) (now (queue .entry)) tail (now (rank .exit))
         (now (queue .exit)) r ⌝ }
 {
+    let slots = 2 * m;
     let mut t = tail;
     let mut x = wide(starts[u]);
     let stop = wide(starts[u + 1]);
     while x < stop {
         let arc = arcs[x];
         x = x + 1;
-        if leading_back(n, m, arc, ends, hold, rank) {
-            release(n, m, other(slot_of(arc)), t, ends, rank, queue);
+        let o = exit_back(n, m, arc, ends, hold, rank);
+        if o < slots {
+            release(n, m, o, t, ends, rank, queue);
             t = t + 1;
         }
     }

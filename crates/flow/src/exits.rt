@@ -8,9 +8,9 @@ use slots::second_end;
 use slots::wide;
 ghost use mathlib.Core.Path.{_≡_};
 ghost use mathlib.Core.Bool.{true};
-ghost use Prim.Native.Nat.{_*_, _/_, _≤_, _<_};
+ghost use Prim.Native.Nat.{_*_, _≤_, _<_};
 ghost use lib.ListN.{length};
-ghost use Rattle.slots.specs.Slots.{mate, Ends};
+ghost use Rattle.slots.specs.Slots.{Ends};
 ghost use Rattle.flow.specs.Search.{leads, Exit};
 
 // Whether slot s holds units and leads out of the set of modules with a rank.
@@ -38,53 +38,62 @@ pub(crate) fn leading(
     false
 }
 
-// Whether the slot of an arc leads out. The neighbour's rank is looked at first: most often it says no.
-pub(crate) fn leading_along(
+// The slot of an arc, if it leads out; else 2m. The neighbour's rank is looked at first.
+pub(crate) fn exit_along(
     n: usize,
     m: usize,
     arc: u32,
     ends: &[u32],
     hold: &[u32],
     rank: &[u32],
-) -> bool
+) -> usize
+    requires { ⌜ n ≤ 512 ⌝ }
     requires { ⌜ Ends n m (now ends) ⌝ }
     requires { ⌜ 2 * m ≤ length (now hold) ⌝ }
-    requires { ⌜ (n ≤ 512) × (512 ≤ length (now rank)) ⌝ }
-    ensures { λ r. ⌜ (r ≡ true → (arc / 512 < 2 * m) × (leads (now (ends .entry)) (now (hold .entry)) (now (rank .entry)) (arc / 512) ≡ true)) ⌝ }
+    requires { ⌜ 512 ≤ length (now rank) ⌝ }
+    ensures { λ r. ⌜ (r < 2 * m → leads (now (ends .entry)) (now (hold .entry)) (now (rank .entry)) r ≡ true) ⌝ }
 {
+    let slots = 2 * m;
     if rank[neighbour(arc)] == 0 {
         let k = slot_of(arc);
-        if k < 2 * m {
-            return leading(n, m, k, ends, hold, rank);
+        if k < slots {
+            if leading(n, m, k, ends, hold, rank) {
+                return k;
+            }
         }
     }
-    false
+    slots
 }
 
-// Whether the other slot of an arc's pair, the neighbour's, leads out.
-pub(crate) fn leading_back(
+// The other slot of an arc's pair, which is the neighbour's, if it leads out; else 2m.
+pub(crate) fn exit_back(
     n: usize,
     m: usize,
     arc: u32,
     ends: &[u32],
     hold: &[u32],
     rank: &[u32],
-) -> bool
+) -> usize
+    requires { ⌜ n ≤ 512 ⌝ }
     requires { ⌜ Ends n m (now ends) ⌝ }
     requires { ⌜ 2 * m ≤ length (now hold) ⌝ }
-    requires { ⌜ (n ≤ 512) × (512 ≤ length (now rank)) ⌝ }
-    ensures { λ r. ⌜ (r ≡ true → (arc / 512 < 2 * m) × (leads (now (ends .entry)) (now (hold .entry)) (now (rank .entry)) (mate (arc / 512)) ≡ true)) ⌝ }
+    requires { ⌜ 512 ≤ length (now rank) ⌝ }
+    ensures { λ r. ⌜ (r < 2 * m → leads (now (ends .entry)) (now (hold .entry)) (now (rank .entry)) r ≡ true) ⌝ }
 {
+    let slots = 2 * m;
     if rank[neighbour(arc)] > 0 {
         let k = slot_of(arc);
-        if k < 2 * m {
-            return leading(n, m, other(k), ends, hold, rank);
+        if k < slots {
+            let o = other(k);
+            if leading(n, m, o, ends, hold, rank) {
+                return o;
+            }
         }
     }
-    false
+    slots
 }
 
-// The first slot that leads out, or 2m. Of a pair with both ends in the set or both outside it no slot does; else only that of the end in the set may.
+// The first slot that leads out, or 2m. No slot does of a pair with both ends in the set or both outside it; else that of the end in the set may.
 pub(crate) fn exit(n: usize, m: usize, ends: &[u32], hold: &[u32], rank: &[u32]) -> usize
     requires { ⌜ Ends n m (now ends) ⌝ }
     requires { ⌜ 2 * m ≤ length (now hold) ⌝ }

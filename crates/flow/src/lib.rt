@@ -1,13 +1,13 @@
 // The split search (document 01, "The list and its calls"): "the set search stands above the split search and knows only its promise".
 //
-// Units lie in slots (crate `slots`). Given a bound p, `flow` moves units within their pairs until no load is above p; or it finds a set of modules
-// in which more than p a module stays, however units move. It knows loads and units, nothing of ratios and best groups.
+// Units lie in slots (crate `slots`). Given a bound p and the loads, `flow` moves units within their pairs until no load is above p; or it finds a set
+// of modules in which more than p a module stays, however units move. It knows loads and units, nothing of ratios and best groups.
 // How: a module loaded above p sends units along a chain of slots that hold some, found breadth first, to the first module loaded below p
-// (augmenting paths). Where no chain leads to one, the modules reached are such a set (a minimum cut). Push phases (crate `push`) go first and
-// leave little to search; they promise nothing but that a split stays one. Once no load is above p, modules of the
-// scope loaded below p drain, and so does whoever could pass units on to them: what stays is the largest set loaded p throughout.
-// Cost: a search takes a step for each slot of the modules that it reaches. Links say where to look first; that nothing leads out of a set is
-// found by one scan over all slots. There are at most as many searches as units lie above p. Nothing is refused.
+// (augmenting paths). Where no chain leads to one, the modules reached are such a set (a minimum cut). Once no load is above p, modules of the
+// scope loaded below p drain, and so does whoever could pass units on to them: what stays is the largest set loaded p throughout. Push phases (crate
+// `push`) leave little to search: they go before, in the caller, and the promise does not depend on them.
+// Cost: a search takes a step for each arc of the modules that it reaches. Arcs (crate `arcs`) say where to look first; that nothing leads out of a
+// set is found by one scan over all pairs. There are at most as many searches as units lie above p. Nothing is refused.
 mod drain;
 mod exits;
 mod search;
@@ -91,7 +91,7 @@ fn mark(n: usize, rank: &[u32], group: &mut [u8])
 }
 
 // Settled: units lie in hold so that no load is above p, and `group` is the largest tight set inside the scope. Else more than p a module stays in
-// `group`. At most `most` phases balance the loads first: any number of them keeps the promise.
+// `group`. That holds for whatever loads modules have of their own, if `load` is their loads; afterwards `load` is free.
 pub fn flow(
     n: usize,
     m: usize,

@@ -2,10 +2,9 @@
 // then units are pulled along the chain.
 use crate::Ended;
 use crate::exits::exit;
-use crate::exits::leading_along;
+use crate::exits::exit_along;
 use crate::no_searches;
 use crate::with_chain;
-use arcs::slot_of;
 use numbers::lesser;
 use slots::clear;
 use slots::other;
@@ -94,8 +93,9 @@ fn search(
             while x < stop {
                 let arc = arcs[x];
                 x = x + 1;
-                if leading_along(n, m, arc, ends, hold, rank) {
-                    let v = visit(n, m, slot_of(arc), tail, ends, rank, from, &mut queue);
+                let k = exit_along(n, m, arc, ends, hold, rank);
+                if k < slots {
+                    let v = visit(n, m, k, tail, ends, rank, from, &mut queue);
                     tail = tail + 1;
                     if load[v] < p {
                         break 'scan v;

@@ -1,54 +1,43 @@
 -- `flow::drain::spill` meets its contract: along the arcs, who leads out drains. The measure is the arcs left. Assumes nothing.
 use native.Mathlib.Omega.{arith}
-use mathlib.Core.Path.{_≡_, refl, sym, ap, _∙_}
+use mathlib.Core.Path.{_≡_, refl, sym, _∙_}
 use Prim.Native.Nat.{_+_, _*_, _-_, _≤_, _<_}
 use lib.ListN.{length}
-use Rattle.slots.specs.Slots.{mate, Ends}
-use Rattle.slots.proofs.Mates.{mates}
+use Rattle.slots.specs.Slots.{Ends}
 use Rattle.flow.specs.Drain.{zeros, Drains}
-use Rattle.flow.proofs.Leads.{Leads-out, leads-out-at}
+use Rattle.flow.proofs.Leads.{Leads-out, leads-out}
 use Rattle.flow.proofs.Draining.{drains-none, drains-more, release-room, release-drains}
 use Rattle.flow.proofs.drain.spill.Statement.{statement}
 use Rattle.flow.proofs.drain.spill.Tie as tie
 
 abbrev Inv-loop : tie.InvT-loop
-Inv-loop n m u tail ends starts arcs hold rank₀ queue₀ t₀ x₀ stop rank queue t x =
+Inv-loop n m u tail ends starts arcs hold rank₀ queue₀ slots t₀ x₀ stop rank queue t x =
     Drains n m ends hold rank₀ queue₀ tail rank queue t × Ends n m ends × (stop ≤ 8192) × (512 ≤ length rank) × (length rank ≡ length rank₀)
     × (length queue ≡ 512) × (t ≤ zeros n rank)
 
 abbrev μ-loop : tie.MeasureT-loop
-μ-loop n m u tail ends starts arcs hold rank₀ queue₀ t₀ x₀ stop rank queue t x = stop - x
+μ-loop n m u tail ends starts arcs hold rank₀ queue₀ slots t₀ x₀ stop rank queue t x = stop - x
 
 -- the function's entry
 abbrev begin : tie.At-loop Inv-loop μ-loop → tie.Start Inv-loop μ-loop
 begin c = c .before .before .before .before .before .before .before .before .before .before .before
 
 -- from a slot that leads out back to the loop
-abbrev arc-of : tie.After-other Inv-loop μ-loop → tie.Then1 Inv-loop μ-loop
-arc-of c = c .before .before
-
 abbrev loop-of : tie.Then1 Inv-loop μ-loop → tie.At-loop Inv-loop μ-loop
 loop-of c = c .before .before .before .before .before
 
--- the slot, and the neighbour's
-slot-low : (c : tie.After-slot-of Inv-loop μ-loop) → c .slot-of .result < 2 * begin (loop-of (c .before)) .args .m
-slot-low c = omega (arith, c .slot-of .ensures, c .before .before .leading-back .ensures (c .before .if1 .taken) .0)
-
-out : (c : tie.After-other Inv-loop μ-loop) → let l = loop-of (arc-of c) in let a = begin l .args in
-    Leads-out (a .n) (a .m) (a .ends .now) (a .hold .now) (l .loop .rank) (c .other .result)
+out : (c : tie.Then1 Inv-loop μ-loop) → let l = loop-of c in let a = begin l .args in
+    Leads-out (a .n) (a .m) (a .ends .now) (a .hold .now) (l .loop .rank) (c .before .exit-back .result)
 out c =
-    let l = loop-of (arc-of c) in
-    let a = begin l .args in
+    let l = loop-of c in
     let i = l .loop .inv in
-    let f = arc-of c .before .leading-back .ensures (arc-of c .if1 .taken) in
-    leads-out-at (c .other .ensures ∙ ap mate (c .before .slot-of .ensures)) (i .1) (omega (arith, i .3, begin l .pre .0 .0))
-    (mates (a .m) _ .low (f .0)) (f .1)
+    leads-out (i .1) (omega (arith, i .3, begin l .pre .0 .0)) (c .if1 .taken) (c .before .exit-back .ensures (c .if1 .taken))
 
-room : (c : tie.After-other Inv-loop μ-loop) → loop-of (arc-of c) .loop .t < begin (loop-of (arc-of c)) .args .n
-room c = release-room (out c) (loop-of (arc-of c) .loop .inv .6)
+room : (c : tie.Then1 Inv-loop μ-loop) → loop-of c .loop .t < begin (loop-of c) .args .n
+room c = release-room (out c) (loop-of c .loop .inv .6)
 
-in-queue : (c : tie.After-other Inv-loop μ-loop) → loop-of (arc-of c) .loop .t < 512
-in-queue c = omega (arith, room c, begin (loop-of (arc-of c)) .pre .0 .0)
+in-queue : (c : tie.Then1 Inv-loop μ-loop) → loop-of c .loop .t < 512
+in-queue c = omega (arith, room c, begin (loop-of c) .pre .0 .0)
 
 loop-holds : tie.Need-loop-holds Inv-loop μ-loop
 loop-holds c =
@@ -57,14 +46,14 @@ loop-holds c =
     let r = q .1 .1 .1 .1 in
     (drains-none, q .1 .0, omega (arith, c .wide2 .ensures, q .1 .1 .0 .within (s .args .u + 1) (omega arith)), r .0, refl, r .1, r .2)
 
-leading-back-requires : tie.Need-leading-back-requires Inv-loop μ-loop
-leading-back-requires c κs =
-    let l = c .before .before .before in let i = l .loop .inv in (i .1, (begin l .pre .1 .1 .1 .0, (begin l .pre .0 .0, i .3)))
+exit-back-requires : tie.Need-exit-back-requires Inv-loop μ-loop
+exit-back-requires c κs =
+    let l = c .before .before .before in let i = l .loop .inv in (begin l .pre .0 .0, (i .1, (begin l .pre .1 .1 .1 .0, i .3)))
 
 release-requires : tie.Need-release-requires Inv-loop μ-loop
 release-requires c κs =
     let o = c .before .before in
-    let i = loop-of (arc-of o) .loop .inv in
+    let i = loop-of o .loop .inv in
     (i .1, (out o .slot, (out o .long, (in-queue o, i .5))))
 
 add-t : tie.Need-add-t Inv-loop μ-loop
@@ -73,7 +62,7 @@ add-t c = omega (arith, in-queue (c .before .before .before .before .before .bef
 loop-again : tie.Need-loop-again Inv-loop μ-loop
 loop-again c =
     let o = c .before .before .before .before .before .before .before in
-    let i = loop-of (arc-of o) .loop .inv in
+    let i = loop-of o .loop .inv in
     let r = c .before .before .before .before .release in
     let d = release-drains (out o) (omega (arith, in-queue o, i .5)) (r .ensures) in
     let k = r .kept .1 .1 .1 .1 .1 in
@@ -87,6 +76,7 @@ spill-spec =
     μ-loop
     (λ c. omega arith)
     (λ c. omega arith)
+    (λ c. omega arith)
     (λ c κs. tt)
     (λ c. omega arith)
     (λ c. omega arith)
@@ -96,9 +86,7 @@ spill-spec =
     (λ c. omega arith)
     (λ c. omega arith)
     (λ c. omega arith)
-    leading-back-requires
-    (λ c κs. tt)
-    (λ c κs. omega (arith, slot-low c, begin (loop-of (c .before)) .pre .1 .0 .few))
+    exit-back-requires
     release-requires
     add-t
     (λ c. omega arith)

@@ -4,7 +4,7 @@ use native.Mathlib.Omega.{arith}
 use mathlib.Core.Path.{_≡_, refl, sym, _∙_}
 use Prim.Native.Nat.{ℕ, _+_, _*_, _-_, _≤_, _<_}
 use lib.ListN.{length, length-set}
-use Rattle.flow.proofs.Leads.{Leads-out, leads-out, leads-out-at}
+use Rattle.flow.proofs.Leads.{Leads-out, leads-out}
 use Rattle.flow.proofs.Visiting.{Search-input, Scan, scan-start, visit-room, scan-on, scan-found, scan-shut}
 use Rattle.flow.proofs.search.search.Statement.{statement}
 use Rattle.flow.proofs.search.search.Tie as tie
@@ -36,10 +36,10 @@ scan-of c = c .before .before .before .before
 abbrev exit-of : tie.After-visit Inv-loop μ-loop Inv-scan μ-scan → tie.Else2 Inv-loop μ-loop Inv-scan μ-scan
 exit-of c = c .before .before .before .before
 
-abbrev loop-of : tie.After-slot-of Inv-loop μ-loop Inv-scan μ-scan → tie.At-loop Inv-loop μ-loop Inv-scan μ-scan
-loop-of c = c .before .before .before .before .before .before
+abbrev loop-of : tie.Then4 Inv-loop μ-loop Inv-scan μ-scan → tie.At-loop Inv-loop μ-loop Inv-scan μ-scan
+loop-of c = c .before .before .before .before .before
 
-abbrev arc-of : tie.After-visit2 Inv-loop μ-loop Inv-scan μ-scan → tie.After-slot-of Inv-loop μ-loop Inv-scan μ-scan
+abbrev arc-of : tie.After-visit2 Inv-loop μ-loop Inv-scan μ-scan → tie.Then4 Inv-loop μ-loop Inv-scan μ-scan
 arc-of c = c .before .before .before .before
 
 abbrev outer : tie.At-loop Inv-loop μ-loop Inv-scan μ-scan → tie.At-scan Inv-loop μ-loop Inv-scan μ-scan
@@ -71,14 +71,13 @@ exit-low : (c : tie.After-visit Inv-loop μ-loop Inv-scan μ-scan) → c .visit 
 exit-low c = omega (arith, c .visit .ensures .at, exit-way (exit-of c) .mate-low)
 
 -- the slot of the arc
-arc-way : (c : tie.After-slot-of Inv-loop μ-loop Inv-scan μ-scan) → let l = loop-of c in let a = begin (outer l) .args in
-    Leads-out (a .n) (a .m) (a .ends .now) (a .hold .now) (l .loop .rank) (c .slot-of .result)
+arc-way : (c : tie.Then4 Inv-loop μ-loop Inv-scan μ-scan) → let l = loop-of c in let a = begin (outer l) .args in
+    Leads-out (a .n) (a .m) (a .ends .now) (a .hold .now) (l .loop .rank) (c .before .exit-along .result)
 arc-way c =
     let i = loop-of c .loop .inv in
-    let f = c .before .before .leading-along .ensures (c .before .if4 .taken) in
-    leads-out-at (c .slot-of .ensures) (i .1 .pairs) (le-both (i .1 .small) (i .2)) (f .0) (f .1)
+    leads-out (i .1 .pairs) (le-both (i .1 .small) (i .2)) (c .if4 .taken) (c .before .exit-along .ensures (c .if4 .taken))
 
-arc-room : (c : tie.After-slot-of Inv-loop μ-loop Inv-scan μ-scan) → loop-of c .loop .tail < begin (outer (loop-of c)) .args .n
+arc-room : (c : tie.Then4 Inv-loop μ-loop Inv-scan μ-scan) → loop-of c .loop .tail < begin (outer (loop-of c)) .args .n
 arc-room c = visit-room (loop-of c .loop .inv .0) (arc-way c)
 
 arc-low : (c : tie.After-visit2 Inv-loop μ-loop Inv-scan μ-scan) → c .visit2 .result < begin (outer (loop-of (arc-of c))) .args .n
@@ -97,14 +96,9 @@ root-low : (c : tie.After-slice-known3 Inv-loop μ-loop Inv-scan μ-scan) →
     c .before .before .before .before .before .before .before .before .before .before .before .args .root < length
     (c .before .before .clear .last .1 .0)
 root-low c =
-    let q = c .before .before .before .before .before .before .before .before .before .before .before .pre .1 .1 .1 .1 in
-    omega (
-      arith,
-      c .before .before .clear .kept .1 .0,
-      q .0 .0,
-      q .1 .0,
-      c .before .before .before .before .before .before .before .before .before .before .before .pre .0,
-    )
+    let q = c .before .before .before .before .before .before .before .before .before .before .before .pre in
+    let r = q .1 .1 .1 .1 in
+    omega (arith, c .before .before .clear .kept .1 .0, q .0, r .0 .0, r .1 .0)
 
 mul-slots : tie.Need-mul-slots Inv-loop μ-loop Inv-scan μ-scan
 mul-slots c = omega (arith, c .before .before .before .before .before .before .before .pre .1 .0 .few)
@@ -149,10 +143,9 @@ slice-aggregate-visit c = sym (c .before .before .before .before .before .before
 
 visit-requires : tie.Need-visit-requires Inv-loop μ-loop Inv-scan μ-scan
 visit-requires c κs =
-    let i = c .before .before .before .before .before .before .before .scan .inv in (
-      i .1 .pairs,
-      (exit-way (c .before .before .before) .slot, (exit-way (c .before .before .before) .long, (i .3, (omega (arith, exit-room (c .before .before .before)), i .0 .queue-long)))),
-    )
+    let w = exit-way (c .before .before .before) in
+    let i = c .before .before .before .before .before .before .before .scan .inv in
+    (i .1 .pairs, (w .slot, (w .long, (i .3, (omega (arith, exit-room (c .before .before .before)), i .0 .queue-long)))))
 
 add-tail : tie.Need-add-tail Inv-loop μ-loop Inv-scan μ-scan
 add-tail c = omega (arith, exit-room (c .before .before .before .before .before .before .before .before .before))
@@ -210,18 +203,17 @@ scan-again-2 c =
     let j = outer (c .before) .scan .inv in
     (i .0, i .1, i .2, i .3, i .4, refl, i .7 ∙ j .6, i .8 ∙ j .7)
 
-leading-along-requires : tie.Need-leading-along-requires Inv-loop μ-loop Inv-scan μ-scan
-leading-along-requires c κs = let i = c .before .before .before .loop .inv in (i .1 .pairs, (i .1 .hold-long, (i .1 .small, i .2)))
+exit-along-requires : tie.Need-exit-along-requires Inv-loop μ-loop Inv-scan μ-scan
+exit-along-requires c κs = let i = c .before .before .before .loop .inv in (i .1 .small, (i .1 .pairs, (i .1 .hold-long, i .2)))
 
 slice-aggregate-visit-2 : tie.Need-slice-aggregate-visit-2 Inv-loop μ-loop Inv-scan μ-scan
-slice-aggregate-visit-2 c = sym (c .before .before .before .before .before .before .before .before .before .loop .inv .0 .queue-long)
+slice-aggregate-visit-2 c = sym (c .before .before .before .before .before .before .before .before .loop .inv .0 .queue-long)
 
 visit-requires-2 : tie.Need-visit-requires-2 Inv-loop μ-loop Inv-scan μ-scan
 visit-requires-2 c κs =
-    let i = c .before .before .before .before .before .before .before .before .before .loop .inv in (
-      i .1 .pairs,
-      (arc-way (c .before .before .before) .slot, (arc-way (c .before .before .before) .long, (i .3, (omega (arith, arc-room (c .before .before .before)), i .0 .queue-long)))),
-    )
+    let w = arc-way (c .before .before .before) in
+    let i = c .before .before .before .before .before .before .before .before .loop .inv in
+    (i .1 .pairs, (w .slot, (w .long, (i .3, (omega (arith, arc-room (c .before .before .before)), i .0 .queue-long)))))
 
 add-tail-2 : tie.Need-add-tail-2 Inv-loop μ-loop Inv-scan μ-scan
 add-tail-2 c = omega (arith, arc-room (c .before .before .before .before .before .before .before .before .before))
@@ -332,8 +324,7 @@ search-spec =
     (λ c. omega arith)
     (λ c. omega arith)
     (λ c. omega arith)
-    leading-along-requires
-    (λ c κs. tt)
+    exit-along-requires
     slice-aggregate-visit-2
     visit-requires-2
     add-tail-2
