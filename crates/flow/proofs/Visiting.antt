@@ -13,17 +13,17 @@ use lib.ListN.{length, getD, set, length-set}
 use lib.Seq.{getD-set-same, getD-set-other}
 use Rattle.slots.specs.Slots.{mate, Ends}
 use Rattle.slots.proofs.Choice.{eq-or-ne, stored-more}
+use Rattle.arcs.specs.Arcs.{Arc-room}
 use Rattle.flow.specs.Search.{Step, Tree, Full, Visited, Chain-found, Exit}
 use Rattle.flow.specs.Drain.{zeros}
 use Rattle.flow.proofs.Leads.{Leads-out}
 use Rattle.flow.proofs.Zeros.{zeros-all, zeros-up}
 
 -- what the search is given
-pub record Search-input (n m : ℕ) (ends first next hold load : List ℕ) : Type 0 where
+pub record Search-input (n m : ℕ) (ends starts arcs hold load : List ℕ) : Type 0 where
   pub small : n ≤ 512
   pub pairs : Ends n m ends
-  pub first-long : n ≤ length first
-  pub next-long : 2 * m ≤ length next
+  pub room : Arc-room n starts arcs
   pub hold-long : 2 * m ≤ length hold
   pub load-long : n ≤ length load
 

@@ -1,5 +1,5 @@
 -- How many numbers are 0.
---   is-zero                         1 where a number is 0
+--   is-zero, zero-not, zero-most    1 where a number is 0, else 0
 --   zeros-all, zeros-most           all of them; at most all
 --   zeros-up, zeros-down            one is 0 no more; one becomes 0
 --   zeros-next                      one place more
@@ -23,10 +23,10 @@ use Rattle.flow.specs.Drain.{zeros}
 abbrev pub is-zero : ℕ → ℕ
 is-zero x = cond (eqb x 0) 1 0
 
-zero-not : (x : ℕ) → 0 < x → is-zero x ≡ 0
+pub zero-not : (x : ℕ) → 0 < x → is-zero x ≡ 0
 zero-not x h = rw (ne-eqb x 0 (λ e. omega arith))
 
-zero-most : (x : ℕ) → is-zero x ≤ 1
+pub zero-most : (x : ℕ) → is-zero x ≤ 1
 zero-most x = go (eqb x 0)
   where
     go : (b : Bool) → cond b 1 0 ≤ 1

@@ -1,11 +1,8 @@
 // Once no load is above p: modules of the scope loaded below p drain, and so does whoever could pass units on to them. What stays is the largest set
 // loaded p throughout.
 use crate::exits::exit;
-use crate::exits::leading;
-use slots::first_link;
+use crate::exits::exit_back;
 use slots::is_sink;
-use slots::next_link;
-use slots::other;
 use slots::wide;
 ghost use mathlib.Core.Path.{_≡_};
 ghost use mathlib.Core.Bool.{_&&_, cond};
@@ -13,6 +10,7 @@ ghost use Prim.Native.Nat.{_*_, _≤_, _<_};
 ghost use lib.Dec.{leb, eqb};
 ghost use lib.ListN.{length};
 ghost use Rattle.slots.specs.Slots.{Ends};
+ghost use Rattle.arcs.specs.Arcs.{Arc-room};
 ghost use Rattle.flow.specs.Drain.{zeros, Drain-start, Released, Drains, Drained};
 
 // 1 where a module of scope byte s and load x is in the scope and loaded p or more, else 0.
@@ -74,33 +72,36 @@ fn release(
     queue[tail] = e;
 }
 
-// Along the links of u: who holds units of a pair with a module that has drained drains too. The queue's new length.
+// Along the arcs of u: who holds units of a pair with a module that has drained drains too. The queue's new length.
 fn spill(
     n: usize,
     m: usize,
     u: usize,
     tail: usize,
     ends: &[u32],
-    first: &[u32],
-    next: &[u32],
+    starts: &[u32],
+    arcs: &[u32],
     hold: &[u32],
     rank: &mut [u32],
     queue: &mut [u32],
 ) -> usize
     requires { ⌜ (n ≤ 512) × (u < n) ⌝ }
     requires { ⌜ Ends n m (now ends) ⌝ }
-    requires { ⌜ (n ≤ length (now first)) × (2 * m ≤ length (now next)) × (2 * m ≤ length (now hold)) ⌝ }
-    requires { ⌜ (n ≤ length (now rank)) × (length (now queue) ≡ 512) × (tail ≤ zeros n (now rank)) ⌝ }
+    requires { ⌜ Arc-room n (now starts) (now arcs) ⌝ }
+    requires { ⌜ 2 * m ≤ length (now hold) ⌝ }
+    requires { ⌜ (512 ≤ length (now rank)) × (length (now queue) ≡ 512) × (tail ≤ zeros n (now rank)) ⌝ }
     ensures { λ r. ⌜ Drains n m (now (ends .entry)) (now (hold .entry)) (now (rank .entry)) (now (queue .entry)) tail (now (rank .exit))
         (now (queue .exit)) r ⌝ }
 {
+    let slots = 2 * m;
     let mut t = tail;
-    let mut s = first_link(u, 2 * m, first);
-    while s > 0 {
-        let k = s - 1;
-        let o = other(k);
-        s = next_link(k, next);
-        if leading(n, m, o, ends, hold, rank) {
+    let mut x = wide(starts[u]);
+    let stop = wide(starts[u + 1]);
+    while x < stop {
+        let arc = arcs[x];
+        x = x + 1;
+        let o = exit_back(n, m, arc, ends, hold, rank);
+        if o < slots {
             release(n, m, o, t, ends, rank, queue);
             t = t + 1;
         }
@@ -115,16 +116,17 @@ pub(crate) fn drain(
     p: u32,
     scope: &[u8],
     ends: &[u32],
-    first: &[u32],
-    next: &[u32],
+    starts: &[u32],
+    arcs: &[u32],
     hold: &[u32],
     load: &[u32],
     rank: &mut [u32],
 )
     requires { ⌜ n ≤ 512 ⌝ }
     requires { ⌜ Ends n m (now ends) ⌝ }
-    requires { ⌜ (n ≤ length (now first)) × (2 * m ≤ length (now next)) × (2 * m ≤ length (now hold)) ⌝ }
-    requires { ⌜ (n ≤ length (now scope)) × (n ≤ length (now load)) × (n ≤ length (now rank)) ⌝ }
+    requires { ⌜ Arc-room n (now starts) (now arcs) ⌝ }
+    requires { ⌜ 2 * m ≤ length (now hold) ⌝ }
+    requires { ⌜ (n ≤ length (now scope)) × (n ≤ length (now load)) × (512 ≤ length (now rank)) ⌝ }
     ensures { λ r. ⌜ Drained n m p (now (scope .entry)) (now (ends .entry)) (now (hold .entry)) (now (load .entry)) (now (rank .exit)) ⌝ }
 {
     let slots = 2 * m;
@@ -135,7 +137,7 @@ pub(crate) fn drain(
         if at < tail {
             let u = wide(queue[at]);
             at = at + 1;
-            tail = spill(n, m, u, tail, ends, first, next, hold, rank, &mut queue);
+            tail = spill(n, m, u, tail, ends, starts, arcs, hold, rank, &mut queue);
         } else {
             let out = exit(n, m, ends, hold, rank);
             if out == slots {

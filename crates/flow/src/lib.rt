@@ -1,27 +1,27 @@
 // The split search (document 01, "The list and its calls"): "the set search stands above the split search and knows only its promise".
 //
-// Units lie in slots (crate `slots`). Given a bound p, `flow` moves units within their pairs until no load is above p; or it finds a set of modules
-// in which more than p a module stays, however units move. It knows loads and units, nothing of ratios and best groups.
+// Units lie in slots (crate `slots`). Given a bound p and the loads, `flow` moves units within their pairs until no load is above p; or it finds a set
+// of modules in which more than p a module stays, however units move. It knows loads and units, nothing of ratios and best groups.
 // How: a module loaded above p sends units along a chain of slots that hold some, found breadth first, to the first module loaded below p
-// (augmenting paths). Where no chain leads to one, the modules reached are such a set (a minimum cut). Push phases (crate `push`) go first and
-// leave little to search; they promise nothing but that a split stays one. Once no load is above p, modules of the
-// scope loaded below p drain, and so does whoever could pass units on to them: what stays is the largest set loaded p throughout.
-// Cost: a search takes a step for each slot of the modules that it reaches. Links say where to look first; that nothing leads out of a set is
-// found by one scan over all slots. There are at most as many searches as units lie above p. Nothing is refused.
+// (augmenting paths). Where no chain leads to one, the modules reached are such a set (a minimum cut). Once no load is above p, modules of the
+// scope loaded below p drain, and so does whoever could pass units on to them: what stays is the largest set loaded p throughout. Push phases (crate
+// `push`) leave little to search: they go before, in the caller, and the promise does not depend on them.
+// Cost: a search takes a step for each arc of the modules that it reaches. Arcs (crate `arcs`) say where to look first; that nothing leads out of a
+// set is found by one scan over all pairs. There are at most as many searches as units lie above p. Nothing is refused.
 mod drain;
 mod exits;
 mod search;
 
 use drain::drain;
 use numbers::greater;
-use push::phases;
 use search::settle;
-use slots::loads;
 use std::num::wrapping_add_u32;
 ghost use mathlib.Core.Path.{_≡_};
-ghost use Prim.Native.Nat.{_*_, _≤_, _<_};
+ghost use mathlib.Core.List.{List};
+ghost use Prim.Native.Nat.{ℕ, _≤_, _<_};
 ghost use lib.ListN.{length};
-ghost use Rattle.slots.specs.Slots.{Ends, Room, Own};
+ghost use Rattle.slots.specs.Slots.{Ends, Room, Loads, Covers};
+ghost use Rattle.arcs.specs.Arcs.{Arc-room};
 ghost use Rattle.flow.specs.Flow.{Flowed};
 ghost use Rattle.flow.specs.Search.{Marked};
 ghost use Rattle.flow.specs.Searches.{no-searches, together as Searches·together};
@@ -91,36 +91,32 @@ fn mark(n: usize, rank: &[u32], group: &mut [u8])
 }
 
 // Settled: units lie in hold so that no load is above p, and `group` is the largest tight set inside the scope. Else more than p a module stays in
-// `group`. At most `most` phases balance the loads first: any number of them keeps the promise.
+// `group`. That holds for whatever loads modules have of their own, if `load` is their loads; afterwards `load` is free.
 pub fn flow(
     n: usize,
     m: usize,
     p: u32,
-    most: usize,
-    own: &[u32],
     scope: &[u8],
     ends: &[u32],
-    first: &[u32],
-    next: &[u32],
+    starts: &[u32],
+    arcs: &[u32],
     hold: &mut [u32],
+    load: &mut [u32],
     group: &mut [u8],
 ) -> Ended
     requires { ⌜ n ≤ 512 ⌝ }
     requires { ⌜ Ends n m (now ends) ⌝ }
-    requires { ⌜ Own n (now own) ⌝ }
     requires { ⌜ Room m (now hold) ⌝ }
-    requires { ⌜ (n ≤ length (now first)) × (2 * m ≤ length (now next)) ⌝ }
+    requires { ⌜ Covers n m (now ends) (now hold) (now load) ⌝ }
+    requires { ⌜ Arc-room n (now starts) (now arcs) ⌝ }
     requires { ⌜ (length (now scope) ≡ n) × (length (now group) ≡ n) ⌝ }
-    ensures { λ r. ⌜ Flowed n m p (now (own .entry)) (now (scope .entry)) (now (ends .entry)) (now (hold .entry)) (now (hold .exit))
-        (now (group .exit)) (r .settled) ⌝ }
+    ensures { λ r. ⌜ ((own : List ℕ) → Loads n m own (now (ends .entry)) (now (hold .entry)) (now (load .entry)) →
+        Flowed n m p own (now (scope .entry)) (now (ends .entry)) (now (hold .entry)) (now (hold .exit)) (now (group .exit)) (r .settled)) ⌝ }
 {
-    let mut load = [0u32; 512];
     let mut rank = [0u32; 512];
-    loads(n, m, own, ends, hold, &mut load);
-    phases(n, m, p, most, scope, ends, first, next, hold, &mut load);
-    let split = settle(n, m, p, ends, first, next, hold, &mut load, &mut rank);
+    let split = settle(n, m, p, ends, starts, arcs, hold, load, &mut rank);
     if split.settled {
-        drain(n, m, p, scope, ends, first, next, hold, &load, &mut rank);
+        drain(n, m, p, scope, ends, starts, arcs, hold, load, &mut rank);
         mark(n, &rank, group);
         return split;
     }

@@ -2,11 +2,10 @@
 // then units are pulled along the chain.
 use crate::Ended;
 use crate::exits::exit;
-use crate::exits::leading;
+use crate::exits::exit_along;
 use crate::no_searches;
 use crate::with_chain;
 use numbers::lesser;
-use slots::capped;
 use slots::clear;
 use slots::other;
 use slots::shift;
@@ -16,6 +15,7 @@ ghost use mathlib.Core.Path.{_≡_};
 ghost use Prim.Native.Nat.{_*_, _≤_, _<_};
 ghost use lib.ListN.{length, getD};
 ghost use Rattle.slots.specs.Slots.{Ends, Room, Covers};
+ghost use Rattle.arcs.specs.Arcs.{Arc-room};
 ghost use Rattle.flow.specs.Search.{Visited, Tree, Chain-found, Pulled, Settled};
 
 // The module that slot k leads to is visited, as number `tail` of the queue.
@@ -52,8 +52,8 @@ fn search(
     p: u32,
     root: usize,
     ends: &[u32],
-    first: &[u32],
-    next: &[u32],
+    starts: &[u32],
+    arcs: &[u32],
     hold: &[u32],
     load: &[u32],
     rank: &mut [u32],
@@ -61,9 +61,9 @@ fn search(
 ) -> usize
     requires { ⌜ n ≤ 512 ⌝ }
     requires { ⌜ Ends n m (now ends) ⌝ }
-    requires { ⌜ (n ≤ length (now first)) × (2 * m ≤ length (now next)) ⌝ }
+    requires { ⌜ Arc-room n (now starts) (now arcs) ⌝ }
     requires { ⌜ (2 * m ≤ length (now hold)) × (n ≤ length (now load)) ⌝ }
-    requires { ⌜ (n ≤ length (now rank)) × (n ≤ length (now from)) ⌝ }
+    requires { ⌜ (512 ≤ length (now rank)) × (n ≤ length (now from)) ⌝ }
     requires { ⌜ (root < n) × (p ≤ getD (now load) root 0) ⌝ }
     ensures { λ r. ⌜ Chain-found n m p root (now (ends .entry)) (now (hold .entry)) (now (load .entry)) (now (rank .exit)) (now (from .exit)) r ⌝ }
 {
@@ -88,18 +88,19 @@ fn search(
         } else {
             let u = wide(queue[at]);
             at = at + 1;
-            let mut s = capped(first[u], slots);
-            while s > 0 {
-                let k = s - 1;
-                let t = capped(next[k], k);
-                if leading(n, m, k, ends, hold, rank) {
+            let mut x = wide(starts[u]);
+            let stop = wide(starts[u + 1]);
+            while x < stop {
+                let arc = arcs[x];
+                x = x + 1;
+                let k = exit_along(n, m, arc, ends, hold, rank);
+                if k < slots {
                     let v = visit(n, m, k, tail, ends, rank, from, &mut queue);
                     tail = tail + 1;
                     if load[v] < p {
                         break 'scan v;
                     }
                 }
-                s = t;
             }
         }
     };
@@ -152,8 +153,8 @@ pub(crate) fn settle(
     m: usize,
     p: u32,
     ends: &[u32],
-    first: &[u32],
-    next: &[u32],
+    starts: &[u32],
+    arcs: &[u32],
     hold: &mut [u32],
     load: &mut [u32],
     rank: &mut [u32],
@@ -162,7 +163,8 @@ pub(crate) fn settle(
     requires { ⌜ Ends n m (now ends) ⌝ }
     requires { ⌜ Room m (now hold) ⌝ }
     requires { ⌜ Covers n m (now ends) (now hold) (now load) ⌝ }
-    requires { ⌜ (n ≤ length (now first)) × (2 * m ≤ length (now next)) × (n ≤ length (now rank)) ⌝ }
+    requires { ⌜ Arc-room n (now starts) (now arcs) ⌝ }
+    requires { ⌜ 512 ≤ length (now rank) ⌝ }
     ensures { λ r. ⌜ Settled n m p (now (ends .entry)) (now (hold .entry)) (now (load .entry)) (now (hold .exit)) (now (load .exit))
         (now (rank .exit)) (r .settled) ⌝ }
 {
@@ -179,8 +181,8 @@ pub(crate) fn settle(
                 p,
                 root,
                 ends,
-                first,
-                next,
+                starts,
+                arcs,
                 hold,
                 load,
                 rank,

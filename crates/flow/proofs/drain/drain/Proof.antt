@@ -12,12 +12,12 @@ use Rattle.flow.proofs.drain.drain.Statement.{statement}
 use Rattle.flow.proofs.drain.drain.Tie as tie
 
 abbrev Inv-loop : tie.InvT-loop
-Inv-loop n m p scope ends first next hold load rank₀ slots queue₀ tail₀ at₀ rank queue tail at =
-    Draining n m p scope ends hold load rank queue tail × Ends n m ends × (slots ≡ 2 * m) × (at ≤ tail) × (n ≤ length rank)
+Inv-loop n m p scope ends starts arcs hold load rank₀ slots queue₀ tail₀ at₀ rank queue tail at =
+    Draining n m p scope ends hold load rank queue tail × Ends n m ends × (slots ≡ 2 * m) × (at ≤ tail) × (512 ≤ length rank)
     × (length rank ≡ length rank₀) × (length queue ≡ 512) × (tail ≤ n) × (n ≤ 512)
 
 abbrev μ-loop : tie.MeasureT-loop
-μ-loop n m p scope ends first next hold load rank₀ slots queue₀ tail₀ at₀ rank queue tail at = (n - at) + (n - zeros n rank)
+μ-loop n m p scope ends starts arcs hold load rank₀ slots queue₀ tail₀ at₀ rank queue tail at = (n - at) + (n - zeros n rank)
 
 -- the function's entry
 abbrev begin : tie.At-loop Inv-loop μ-loop → tie.Start Inv-loop μ-loop
@@ -29,7 +29,7 @@ out c =
     let i = c .before .before .before .before .loop .inv in
     let x = c .before .exit .ensures in
     let l : c .before .exit .result < 2 * begin (c .before .before .before .before) .args .m = omega (arith, x .within) in
-    leads-out (i .1) (i .4) l (x .found l)
+    leads-out (i .1) (omega (arith, i .4, i .8)) l (x .found l)
 
 room : (c : tie.Else2 Inv-loop μ-loop) → c .before .before .before .before .loop .tail < begin (c .before .before .before .before) .args .n
 room c = release-room (out c) (c .before .before .before .before .loop .inv .0 .count)
@@ -40,7 +40,7 @@ mul-slots c = omega (arith, c .before .before .before .before .before .before .b
 start-drain-requires : tie.Need-start-drain-requires Inv-loop μ-loop
 start-drain-requires c κs =
     let q = c .before .before .before .before .before .before .before .before .before .pre in
-    (q .0, ((q .1 .1 .1 .0, q .1 .1 .1 .1), (q .1 .1 .1 .2, refl)))
+    let f = q .1 .1 .1 .1 in (q .0, ((f .0, f .1), (omega (arith, f .2, q .0), refl)))
 
 loop-holds : tie.Need-loop-holds Inv-loop μ-loop
 loop-holds c =
@@ -50,7 +50,7 @@ loop-holds c =
       q .1 .0,
       refl,
       omega arith,
-      omega (arith, l .kept .1 .1 .1 .1 .0, q .1 .1 .1 .2),
+      omega (arith, l .kept .1 .1 .1 .1 .0, q .1 .1 .1 .1 .2),
       refl,
       l .kept .1 .1 .1 .1 .1 .0,
       omega (
@@ -70,7 +70,7 @@ spill-requires c κs =
     let q = begin (c .before .before .before .before) .pre in
     let i = c .before .before .before .before .loop .inv in (
       (q .0, omega (arith, c .before .before .wide .ensures, i .0 .queued (c .before .before .before .before .loop .at) (omega arith))),
-      (i .1, (q .1 .1 .0, (i .4, i .6, i .0 .count))),
+      (i .1, (q .1 .1 .0, (q .1 .1 .1 .0, (i .4, i .6, i .0 .count)))),
     )
 
 loop-less : tie.Need-loop-less Inv-loop μ-loop
@@ -105,7 +105,7 @@ loop-again c =
     )
 
 exit-requires : tie.Need-exit-requires Inv-loop μ-loop
-exit-requires c κs = let i = c .before .before .loop .inv in (i .1, (begin (c .before .before) .pre .1 .1 .0 .2, i .4))
+exit-requires c κs = let i = c .before .before .loop .inv in (i .1, (begin (c .before .before) .pre .1 .1 .1 .0, omega (arith, i .4, i .8)))
 
 same-length : tie.Need-same-length Inv-loop μ-loop
 same-length c =
@@ -120,7 +120,7 @@ slice-aggregate-release c = sym (c .before .before .before .before .before .befo
 release-requires : tie.Need-release-requires Inv-loop μ-loop
 release-requires c κs =
     let i = c .before .before .before .before .before .before .loop .inv in
-    (i .1, (out (c .before .before) .slot, (i .4, (omega (arith, room (c .before .before)), i .6))))
+    (i .1, (out (c .before .before) .slot, (out (c .before .before) .long, (omega (arith, room (c .before .before)), i .6))))
 
 add-tail : tie.Need-add-tail Inv-loop μ-loop
 add-tail c = omega (arith, room (c .before .before .before .before .before .before))

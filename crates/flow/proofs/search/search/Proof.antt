@@ -1,4 +1,4 @@
--- `flow::search::search` meets its contract. The measures: the modules not yet looked at and those not reached; the link. Assumes nothing.
+-- `flow::search::search` meets its contract. The measures: the modules not yet looked at and those not reached; the arcs left. Assumes nothing.
 use borrow.Author.Needs.{needs}
 use native.Mathlib.Omega.{arith}
 use mathlib.Core.Path.{_≡_, refl, sym, _∙_}
@@ -10,20 +10,20 @@ use Rattle.flow.proofs.search.search.Statement.{statement}
 use Rattle.flow.proofs.search.search.Tie as tie
 
 abbrev Inv-loop : tie.InvT-loop
-Inv-loop n m p root ends first next hold load rank₀ from₀ slots queue₀ at tail₀ u s₀ rank from queue tail s =
-    Scan n m p root ends hold load rank from queue tail × Search-input n m ends first next hold load × (n ≤ length rank) × (n ≤ length from)
-    × (at ≤ tail) × (tail₀ ≤ tail) × (s ≤ 2 * m) × (length rank ≡ length rank₀) × (length from ≡ length from₀)
+Inv-loop n m p root ends starts arcs hold load rank₀ from₀ slots queue₀ at tail₀ u x₀ stop rank from queue tail x =
+    Scan n m p root ends hold load rank from queue tail × Search-input n m ends starts arcs hold load × (512 ≤ length rank) × (n ≤ length from)
+    × (at ≤ tail) × (tail₀ ≤ tail) × (stop ≤ 8192) × (length rank ≡ length rank₀) × (length from ≡ length from₀)
 
 abbrev μ-loop : tie.MeasureT-loop
-μ-loop n m p root ends first next hold load rank₀ from₀ slots queue₀ at tail₀ u s₀ rank from queue tail s = s
+μ-loop n m p root ends starts arcs hold load rank₀ from₀ slots queue₀ at tail₀ u x₀ stop rank from queue tail x = stop - x
 
 abbrev Inv-scan : tie.InvT-scan
-Inv-scan n m p root ends first next hold load rank₀ from₀ slots queue₀ at₀ tail₀ rank from queue at tail =
-    Scan n m p root ends hold load rank from queue tail × Search-input n m ends first next hold load × (n ≤ length rank) × (n ≤ length from)
+Inv-scan n m p root ends starts arcs hold load rank₀ from₀ slots queue₀ at₀ tail₀ rank from queue at tail =
+    Scan n m p root ends hold load rank from queue tail × Search-input n m ends starts arcs hold load × (512 ≤ length rank) × (n ≤ length from)
     × (at ≤ tail) × (slots ≡ 2 * m) × (length rank ≡ length rank₀) × (length from ≡ length from₀)
 
 abbrev μ-scan : tie.MeasureT-scan
-μ-scan n m p root ends first next hold load rank₀ from₀ slots queue₀ at₀ tail₀ rank from queue at tail = (n - at) + (n - tail)
+μ-scan n m p root ends starts arcs hold load rank₀ from₀ slots queue₀ at₀ tail₀ rank from queue at tail = (n - at) + (n - tail)
 
 -- the function's entry
 abbrev begin : tie.At-scan Inv-loop μ-loop Inv-scan μ-scan → tie.Start Inv-loop μ-loop Inv-scan μ-scan
@@ -37,13 +37,13 @@ abbrev exit-of : tie.After-visit Inv-loop μ-loop Inv-scan μ-scan → tie.Else2
 exit-of c = c .before .before .before .before
 
 abbrev loop-of : tie.Then4 Inv-loop μ-loop Inv-scan μ-scan → tie.At-loop Inv-loop μ-loop Inv-scan μ-scan
-loop-of c = c .before .before .before .before .before .before
+loop-of c = c .before .before .before .before .before
 
-abbrev link-of : tie.After-visit2 Inv-loop μ-loop Inv-scan μ-scan → tie.Then4 Inv-loop μ-loop Inv-scan μ-scan
-link-of c = c .before .before .before .before
+abbrev arc-of : tie.After-visit2 Inv-loop μ-loop Inv-scan μ-scan → tie.Then4 Inv-loop μ-loop Inv-scan μ-scan
+arc-of c = c .before .before .before .before
 
 abbrev outer : tie.At-loop Inv-loop μ-loop Inv-scan μ-scan → tie.At-scan Inv-loop μ-loop Inv-scan μ-scan
-outer c = c .before .before .before .before .before
+outer c = c .before .before .before .before .before .before .before
 
 le-at : {a b c : ℕ} → a ≤ b → c ≡ b → a ≤ c
 le-at h e = omega arith
@@ -51,8 +51,8 @@ le-at h e = omega arith
 le-on : {a b : ℕ} → a ≤ b → a ≤ b + 1
 le-on h = omega arith
 
-le-link : (m : ℕ) {t s : ℕ} → t ≤ s - 1 → s ≤ 2 * m → t ≤ 2 * m
-le-link m h l = omega arith
+le-both : {a b c : ℕ} → a ≤ b → b ≤ c → a ≤ c
+le-both h l = omega arith
 
 -- the slot that the scan over all slots found
 exit-way : (c : tie.Else2 Inv-loop μ-loop Inv-scan μ-scan) → let l = scan-of c in let a = begin l .args in
@@ -61,7 +61,7 @@ exit-way c =
     let i = scan-of c .scan .inv in
     let x = c .before .exit .ensures in
     let l : c .before .exit .result < 2 * begin (scan-of c) .args .m = omega (arith, x .within) in
-    leads-out (i .1 .pairs) (i .2) l (x .found l)
+    leads-out (i .1 .pairs) (le-both (i .1 .small) (i .2)) l (x .found l)
 
 exit-room : (c : tie.Else2 Inv-loop μ-loop Inv-scan μ-scan) → scan-of c .scan .tail < begin (scan-of c) .args .n
 exit-room c = visit-room (scan-of c .scan .inv .0) (exit-way c)
@@ -70,18 +70,18 @@ exit-room c = visit-room (scan-of c .scan .inv .0) (exit-way c)
 exit-low : (c : tie.After-visit Inv-loop μ-loop Inv-scan μ-scan) → c .visit .result < begin (scan-of (exit-of c)) .args .n
 exit-low c = omega (arith, c .visit .ensures .at, exit-way (exit-of c) .mate-low)
 
--- the slot of the link
-link-way : (c : tie.Then4 Inv-loop μ-loop Inv-scan μ-scan) → let l = loop-of c in let a = begin (outer l) .args in
-    Leads-out (a .n) (a .m) (a .ends .now) (a .hold .now) (l .loop .rank) (l .loop .s - 1)
-link-way c =
+-- the slot of the arc
+arc-way : (c : tie.Then4 Inv-loop μ-loop Inv-scan μ-scan) → let l = loop-of c in let a = begin (outer l) .args in
+    Leads-out (a .n) (a .m) (a .ends .now) (a .hold .now) (l .loop .rank) (c .before .exit-along .result)
+arc-way c =
     let i = loop-of c .loop .inv in
-    leads-out (i .1 .pairs) (i .2) (omega arith) (sym (c .before .leading .ensures) ∙ c .if4 .taken)
+    leads-out (i .1 .pairs) (le-both (i .1 .small) (i .2)) (c .if4 .taken) (c .before .exit-along .ensures (c .if4 .taken))
 
-link-room : (c : tie.Then4 Inv-loop μ-loop Inv-scan μ-scan) → loop-of c .loop .tail < begin (outer (loop-of c)) .args .n
-link-room c = visit-room (loop-of c .loop .inv .0) (link-way c)
+arc-room : (c : tie.Then4 Inv-loop μ-loop Inv-scan μ-scan) → loop-of c .loop .tail < begin (outer (loop-of c)) .args .n
+arc-room c = visit-room (loop-of c .loop .inv .0) (arc-way c)
 
-link-low : (c : tie.After-visit2 Inv-loop μ-loop Inv-scan μ-scan) → c .visit2 .result < begin (outer (loop-of (link-of c))) .args .n
-link-low c = omega (arith, c .visit2 .ensures .at, link-way (link-of c) .mate-low)
+arc-low : (c : tie.After-visit2 Inv-loop μ-loop Inv-scan μ-scan) → c .visit2 .result < begin (outer (loop-of (arc-of c))) .args .n
+arc-low c = omega (arith, c .visit2 .ensures .at, arc-way (arc-of c) .mate-low)
 
 -- the module taken from the queue
 module-low : (c : tie.After-wide Inv-loop μ-loop Inv-scan μ-scan) → c .wide .result < begin (c .before .before) .args .n
@@ -96,14 +96,15 @@ root-low : (c : tie.After-slice-known3 Inv-loop μ-loop Inv-scan μ-scan) →
     c .before .before .before .before .before .before .before .before .before .before .before .args .root < length
     (c .before .before .clear .last .1 .0)
 root-low c =
-    let q = c .before .before .before .before .before .before .before .before .before .before .before .pre .1 .1 .1 .1 in
-    omega (arith, c .before .before .clear .kept .1 .0, q .0 .0, q .1 .0)
+    let q = c .before .before .before .before .before .before .before .before .before .before .before .pre in
+    let r = q .1 .1 .1 .1 in
+    omega (arith, c .before .before .clear .kept .1 .0, q .0, r .0 .0, r .1 .0)
 
 mul-slots : tie.Need-mul-slots Inv-loop μ-loop Inv-scan μ-scan
 mul-slots c = omega (arith, c .before .before .before .before .before .before .before .pre .1 .0 .few)
 
 clear-requires : tie.Need-clear-requires Inv-loop μ-loop Inv-scan μ-scan
-clear-requires c κs = c .before .before .before .before .before .before .before .before .pre .1 .1 .1 .1 .0 .0
+clear-requires c κs = let q = c .before .before .before .before .before .before .before .before .pre in le-both (q .0) (q .1 .1 .1 .1 .0 .0)
 
 mul-rank : tie.Need-mul-rank Inv-loop μ-loop Inv-scan μ-scan
 mul-rank c = omega (arith, root-low c)
@@ -117,13 +118,12 @@ scan-holds c =
     let q = s .pre in
     let r = q .1 .1 .1 .1 in
     let ranks = c .before .before .clear .last .1 .0 in
-    let l : s .args .n ≤ length ranks = omega (arith, c .before .before .clear .kept .1 .0, r .0 .0) in (
-      scan-start _ _ ranks (r .1 .0) l (c .before .before .clear .ensures) (r .0 .1) (r .1 .1) refl refl,
+    let l : 512 ≤ length ranks = omega (arith, c .before .before .clear .kept .1 .0, r .0 .0) in (
+      scan-start _ _ ranks (r .1 .0) (le-both (q .0) l) (c .before .before .clear .ensures) (r .0 .1) (r .1 .1) refl refl,
       record {
         small = q .0;
         pairs = q .1 .0;
-        first-long = q .1 .1 .0 .0;
-        next-long = q .1 .1 .0 .1;
+        room = q .1 .1 .0;
         hold-long = q .1 .1 .1 .0 .0;
         load-long = q .1 .1 .1 .0 .1;
       },
@@ -136,17 +136,16 @@ scan-holds c =
     )
 
 exit-requires : tie.Need-exit-requires Inv-loop μ-loop Inv-scan μ-scan
-exit-requires c κs = let i = c .before .before .scan .inv in (i .1 .pairs, (i .1 .hold-long, i .2))
+exit-requires c κs = let i = c .before .before .scan .inv in (i .1 .pairs, (i .1 .hold-long, le-both (i .1 .small) (i .2)))
 
 slice-aggregate-visit : tie.Need-slice-aggregate-visit Inv-loop μ-loop Inv-scan μ-scan
 slice-aggregate-visit c = sym (c .before .before .before .before .before .before .before .scan .inv .0 .queue-long)
 
 visit-requires : tie.Need-visit-requires Inv-loop μ-loop Inv-scan μ-scan
 visit-requires c κs =
-    let i = c .before .before .before .before .before .before .before .scan .inv in (
-      i .1 .pairs,
-      (exit-way (c .before .before .before) .slot, (i .2, (i .3, (omega (arith, exit-room (c .before .before .before)), i .0 .queue-long)))),
-    )
+    let w = exit-way (c .before .before .before) in
+    let i = c .before .before .before .before .before .before .before .scan .inv in
+    (i .1 .pairs, (w .slot, (w .long, (i .3, (omega (arith, exit-room (c .before .before .before)), i .0 .queue-long)))))
 
 add-tail : tie.Need-add-tail Inv-loop μ-loop Inv-scan μ-scan
 add-tail c = omega (arith, exit-room (c .before .before .before .before .before .before .before .before .before))
@@ -176,73 +175,71 @@ scan-again c =
       k .1 .0 ∙ i .7,
     )
 
-mul-capped : tie.Need-mul-capped Inv-loop μ-loop Inv-scan μ-scan
-mul-capped c = omega (arith, module-low c)
+mul-wide-2 : tie.Need-mul-wide-2 Inv-loop μ-loop Inv-scan μ-scan
+mul-wide-2 c = omega (arith, module-low c)
 
-shared-slice-read-capped : tie.Need-shared-slice-read-capped Inv-loop μ-loop Inv-scan μ-scan
-shared-slice-read-capped c = omega (arith, module-low (c .before))
+shared-slice-read-wide : tie.Need-shared-slice-read-wide Inv-loop μ-loop Inv-scan μ-scan
+shared-slice-read-wide c = omega (arith, module-low (c .before))
+
+add-wide : tie.Need-add-wide Inv-loop μ-loop Inv-scan μ-scan
+add-wide c = omega (arith, module-low (c .before .before))
+
+mul-wide-3 : tie.Need-mul-wide-3 Inv-loop μ-loop Inv-scan μ-scan
+mul-wide-3 c = omega (arith, module-low (c .before .before))
+
+shared-slice-read-wide-2 : tie.Need-shared-slice-read-wide-2 Inv-loop μ-loop Inv-scan μ-scan
+shared-slice-read-wide-2 c = omega (arith, module-low (c .before .before .before))
 
 loop-holds : tie.Need-loop-holds Inv-loop μ-loop Inv-scan μ-scan
 loop-holds c =
-    let i = c .before .before .before .before .scan .inv in
-    (i .0, i .1, i .2, i .3, omega arith, omega arith, omega (arith, c .capped .ensures .0), refl, refl)
+    let w = c .before .before .before .before in
+    let i = w .before .before .scan .inv in
+    let stop = i .1 .room .within (w .wide .result + 1) (omega (arith, module-low w)) in
+    (i .0, i .1, i .2, i .3, omega arith, omega arith, omega (arith, c .wide3 .ensures, stop), refl, refl)
 
 scan-again-2 : tie.Need-scan-again-2 Inv-loop μ-loop Inv-scan μ-scan
 scan-again-2 c =
     let i = c .before .loop .inv in
-    let j = c .before .before .before .before .before .before .scan .inv in
+    let j = outer (c .before) .scan .inv in
     (i .0, i .1, i .2, i .3, i .4, refl, i .7 ∙ j .6, i .8 ∙ j .7)
 
-leading-requires : tie.Need-leading-requires Inv-loop μ-loop Inv-scan μ-scan
-leading-requires c κs = let i = c .before .before .before .before .loop .inv in (i .1 .pairs, (omega arith, (i .1 .hold-long, i .2)))
+exit-along-requires : tie.Need-exit-along-requires Inv-loop μ-loop Inv-scan μ-scan
+exit-along-requires c κs = let i = c .before .before .before .loop .inv in (i .1 .small, (i .1 .pairs, (i .1 .hold-long, i .2)))
 
 slice-aggregate-visit-2 : tie.Need-slice-aggregate-visit-2 Inv-loop μ-loop Inv-scan μ-scan
-slice-aggregate-visit-2 c = sym (c .before .before .before .before .before .before .before .before .before .loop .inv .0 .queue-long)
+slice-aggregate-visit-2 c = sym (c .before .before .before .before .before .before .before .before .loop .inv .0 .queue-long)
 
 visit-requires-2 : tie.Need-visit-requires-2 Inv-loop μ-loop Inv-scan μ-scan
 visit-requires-2 c κs =
-    let i = c .before .before .before .before .before .before .before .before .before .loop .inv in (
-      i .1 .pairs,
-      (link-way (c .before .before .before) .slot, (i .2, (i .3, (omega (arith, link-room (c .before .before .before)), i .0 .queue-long)))),
-    )
+    let w = arc-way (c .before .before .before) in
+    let i = c .before .before .before .before .before .before .before .before .loop .inv in
+    (i .1 .pairs, (w .slot, (w .long, (i .3, (omega (arith, arc-room (c .before .before .before)), i .0 .queue-long)))))
 
 add-tail-2 : tie.Need-add-tail-2 Inv-loop μ-loop Inv-scan μ-scan
-add-tail-2 c = omega (arith, link-room (c .before .before .before .before .before .before .before .before .before))
+add-tail-2 c = omega (arith, arc-room (c .before .before .before .before .before .before .before .before .before))
 
 mul-if5 : tie.Need-mul-if5 Inv-loop μ-loop Inv-scan μ-scan
-mul-if5 c = omega (arith, link-low (c .before .before .before .before .before))
+mul-if5 c = omega (arith, arc-low (c .before .before .before .before .before))
 
 shared-slice-read-if5 : tie.Need-shared-slice-read-if5 Inv-loop μ-loop Inv-scan μ-scan
-shared-slice-read-if5 c = omega (arith, link-low (c .before .before .before .before .before .before))
-
-loop-less : tie.Need-loop-less Inv-loop μ-loop Inv-scan μ-scan
-loop-less c =
-    let e = link-of (c .before .before .before .before .before .before .before) in omega (arith, e .before .before .before .capped2 .ensures .0)
+shared-slice-read-if5 c = omega (arith, arc-low (c .before .before .before .before .before .before))
 
 loop-again : tie.Need-loop-again Inv-loop μ-loop Inv-scan μ-scan
 loop-again c =
     let r = c .before .before .before .before .before .before .before in
-    let e = link-of r in
+    let e = arc-of r in
     let i = loop-of e .loop .inv in
     let k = r .visit2 .kept .1 .1 .1 .1 .1 in (
-      scan-on (i .0) (link-way e) (i .1 .small) (r .visit2 .ensures) (c .if5 .left),
+      scan-on (i .0) (arc-way e) (i .1 .small) (r .visit2 .ensures) (c .if5 .left),
       i .1,
       le-at (i .2) (k .0),
       le-at (i .3) (k .1 .0),
       le-on (i .4),
       le-on (i .5),
-      le-link _ (e .before .before .before .capped2 .ensures .0) (i .6),
+      i .6,
       k .0 ∙ i .7,
       k .1 .0 ∙ i .8,
     )
-
-loop-less-2 : tie.Need-loop-less-2 Inv-loop μ-loop Inv-scan μ-scan
-loop-less-2 c = omega (arith, c .before .before .before .capped2 .ensures .0)
-
-loop-again-2 : tie.Need-loop-again-2 Inv-loop μ-loop Inv-scan μ-scan
-loop-again-2 c =
-    let i = c .before .before .before .before .before .before .loop .inv in
-    (i .0, i .1, i .2, i .3, i .4, i .5, le-link _ (c .before .before .before .capped2 .ensures .0) (i .6), i .7, i .8)
 
 same-length : tie.Need-same-length Inv-loop μ-loop Inv-scan μ-scan
 same-length c = rank-start (c .before .before .before .before)
@@ -271,21 +268,21 @@ returns-2 c =
 same-length-5 : tie.Need-same-length-5 Inv-loop μ-loop Inv-scan μ-scan
 same-length-5 c =
     let r = c .before .before .before .before .before .before .before in
-    let l = loop-of (link-of r) in
+    let l = loop-of (arc-of r) in
     r .visit2 .kept .1 .1 .1 .1 .1 .0 ∙ l .loop .inv .7 ∙ rank-start (outer l)
 
 same-length-6 : tie.Need-same-length-6 Inv-loop μ-loop Inv-scan μ-scan
 same-length-6 c =
     let r = c .before .before .before .before .before .before .before in
-    let l = loop-of (link-of r) in
+    let l = loop-of (arc-of r) in
     r .visit2 .kept .1 .1 .1 .1 .1 .1 .0 ∙ l .loop .inv .8 ∙ outer l .scan .inv .7
 
 returns-3 : tie.Need-returns-3 Inv-loop μ-loop Inv-scan μ-scan
 returns-3 c =
     let r = c .before .before .before .before .before .before .before in
-    let e = link-of r in
+    let e = arc-of r in
     let i = loop-of e .loop .inv in
-    scan-found (i .0) (link-way e) (i .1 .small) (r .visit2 .ensures) (c .if5 .taken)
+    scan-found (i .0) (arc-way e) (i .1 .small) (r .visit2 .ensures) (c .if5 .taken)
 
 pub search-spec : {M : Type 1} → statement M
 search-spec =
@@ -314,8 +311,12 @@ search-spec =
     (λ c. omega arith)
     (λ c κs. tt)
     (λ c. omega arith)
-    mul-capped
-    shared-slice-read-capped
+    mul-wide-2
+    shared-slice-read-wide
+    (λ c κs. tt)
+    add-wide
+    mul-wide-3
+    shared-slice-read-wide-2
     (λ c κs. tt)
     loop-holds
     (λ c. omega arith)
@@ -323,17 +324,16 @@ search-spec =
     (λ c. omega arith)
     (λ c. omega arith)
     (λ c. omega arith)
-    (λ c κs. tt)
-    leading-requires
+    exit-along-requires
     slice-aggregate-visit-2
     visit-requires-2
     add-tail-2
     mul-if5
     shared-slice-read-if5
-    loop-less
+    (λ c. omega arith)
     loop-again
-    loop-less-2
-    loop-again-2
+    (λ c. omega arith)
+    (λ c. c .before .before .before .before .before .loop .inv)
     same-length
     same-length-2
     returns

@@ -9,11 +9,11 @@ use Rattle.flow.proofs.search.settle.Statement.{statement}
 use Rattle.flow.proofs.search.settle.Tie as tie
 
 abbrev Inv-loop : tie.InvT-loop
-Inv-loop n m p ends first next hold₀ load₀ rank₀ from₀ searches₀ root₀ hold load rank from searches root =
-    Settling n m p root ends hold₀ load₀ hold load × (n ≤ 512) × (n ≤ length rank) × (length rank ≡ length rank₀) × (length from ≡ 512)
+Inv-loop n m p ends starts arcs hold₀ load₀ rank₀ from₀ searches₀ root₀ hold load rank from searches root =
+    Settling n m p root ends hold₀ load₀ hold load × (n ≤ 512) × (512 ≤ length rank) × (length rank ≡ length rank₀) × (length from ≡ 512)
 
 abbrev μ-loop : tie.MeasureT-loop
-μ-loop n m p ends first next hold₀ load₀ rank₀ from₀ searches₀ root₀ hold load rank from searches root = excess n p load + (n - root)
+μ-loop n m p ends starts arcs hold₀ load₀ rank₀ from₀ searches₀ root₀ hold load rank from searches root = excess n p load + (n - root)
 
 -- the function's entry
 abbrev begin : tie.At-loop Inv-loop μ-loop → tie.Start Inv-loop μ-loop
@@ -30,7 +30,7 @@ from-long c = c .search .kept .1 .1 .1 .1 .1 .1 .1 .1 .1 .1 .0 ∙ loop-of c .lo
 loop-holds : tie.Need-loop-holds Inv-loop μ-loop
 loop-holds c =
     let q = c .before .before .before .before .before .before .before .pre in
-    (settling-start (q .1 .1 .0) (q .1 .1 .1 .0), q .0, q .1 .1 .1 .1 .2, refl, refl)
+    (settling-start (q .1 .1 .0) (q .1 .1 .1 .0), q .0, q .1 .1 .1 .1 .1, refl, refl)
 
 loop-again : tie.Need-loop-again Inv-loop μ-loop
 loop-again c =
@@ -48,7 +48,7 @@ search-requires c κs =
       (
         q .1 .0,
         (
-          (q .1 .1 .1 .1 .0, q .1 .1 .1 .1 .1),
+          q .1 .1 .1 .1 .0,
           (
             (i .0 .room .long, i .0 .covers .long),
             ((i .2, omega arith), (c .before .before .before .before .before .before .loop-test .taken, omega arith)),
