@@ -4,7 +4,7 @@
 //
 // Is linked with both archives, the names of one beginning with `old_` and those of the other with `new_` (see `versions`). FILES are the names of pair files,
 // a line each. A repetition makes each call on each list once by both builds, in two passes over all of them in an order by chance: in a pass the builds take
-// turns, in the next one each does what the other did. So no list comes twice in a row, and nobody always runs behind the same neighbour.
+// turns, in the next one each does what the other did. So a list hardly ever comes twice in a row (compare.cpp says why), nor behind the same neighbour.
 //
 // Prints a line `CALL OLD NEW FILE` for each call and list: processor times in microseconds, a quarter of the repetitions being quicker. Both builds must
 // answer the same, the shares aside, which each must accept from the other; else the program ends.
