@@ -6,7 +6,7 @@
 // a line each. A repetition makes each call on each list once by both builds, in two passes over all of them in an order by chance: in a pass the builds take
 // turns, in the next one each does what the other did. So a list hardly ever comes twice in a row (compare.cpp says why), nor behind the same neighbour.
 //
-// Prints a line `CALL OLD NEW FILE` for each call and list: processor times in microseconds, a quarter of the repetitions being quicker. Both builds must
+// Prints a line `CALL OLD NEW FILE` for each call and list: processor times in microseconds, a tenth of the repetitions being quicker. Both builds must
 // answer the same, the shares aside, which each must accept from the other; else the program ends.
 #include <algorithm>
 #include <cstring>
@@ -175,10 +175,10 @@ static void run(std::vector<Job> &jobs, int repetitions) {
     }
 }
 
-// The time at a quarter of the repetitions: other work on the machine makes some longer, none shorter.
-static double quarter(std::vector<double> &times) {
+// The time at a tenth of the repetitions: other work on the machine makes some longer, none shorter.
+static double low(std::vector<double> &times) {
     std::sort(times.begin(), times.end());
-    return times[times.size() / 4];
+    return times[times.size() / 10];
 }
 
 int main(int count, char **words) {
@@ -193,5 +193,5 @@ int main(int count, char **words) {
     for (const Listed &list : lists)
         for (size_t call = 0; call < std::size(calls); call++) jobs.push_back({&list, call, {}});
     run(jobs, atoi(words[1]));
-    for (Job &job : jobs) printf("%s %.2f %.2f %s\n", calls[job.call].name, quarter(job.times[0]), quarter(job.times[1]), job.list->path.c_str());
+    for (Job &job : jobs) printf("%s %.2f %.2f %s\n", calls[job.call].name, low(job.times[0]), low(job.times[1]), job.list->path.c_str());
 }
