@@ -1,168 +1,24 @@
-"""Makes the lists, runs `compare` and networkx on each in turn, and prints the tables of docs/BENCHMARKS.md.
+"""Runs `compare` and networkx on the lists of lists.py, and prints the tables of docs/BENCHMARKS.md.
 
-    bench.py COMPARE FOLDER RUNS
+    bench.py COMPARE FOLDER RUNS [quick]
 
-FOLDER takes the pair files. A time is the median over the runs; a run is itself a median of repetitions (see compare.cpp). The linear programme runs once a
-run on the first list of a kind, networkx once in all. Each list comes with stop counts of several sorts; COUNTS says which have all the tables.
+FOLDER takes the pair files. A time is the median over the runs; a run is itself a median of repetitions, which go over all lists with counts of one sort (see
+compare.cpp). The linear programme runs once a run on the first list of a kind, networkx once in all. With `quick` only our solve and the quickest of the
+others run, on all kinds, and only their tables are printed.
 """
-import math
 import os
-import random
 import subprocess
 import sys
 import time
 from collections import defaultdict
-from itertools import combinations
-from statistics import median
+from statistics import geometric_mean, median
 
 import networkx as nx
 
-SEEDS = range(3)
+from lists import ALL, COUNTS, FULL, KINDS, SEEDS, SIZES, of_kinds, of_sizes, write
+
 REPETITIONS = 15
-
-
-# ---- lists: N and the pairs; each kind of up to 512 modules and 4,096 pairs
-
-
-def fill(draw, pairs, m):
-    """Draws pairs until there are m."""
-    while len(pairs) < m:
-        a, b = draw(), draw()
-        if a != b:
-            pairs.add((min(a, b), max(a, b)))
-    return pairs
-
-
-def uniform(r, n=512, m=4096):
-    return n, fill(lambda: r.randrange(n), set(), m)
-
-
-def planted(r):
-    group = r.sample(range(512), 60)
-    dense = {(min(p), max(p)) for p in combinations(group, 2) if r.random() < 0.5}
-    return 512, fill(lambda: r.randrange(512), dense, 4096)
-
-
-def regular(r):
-    pairs = set()
-    for step in r.sample(range(1, 256), 8):
-        pairs |= {(min(v, u), max(v, u)) for v in range(512) for u in [(v + step) % 512]}
-    for _ in range(200):  # swaps the ends of two pairs, so that all degrees stay as they are
-        (a, b), (c, d) = r.sample(sorted(pairs), 2)
-        new = {(min(a, d), max(a, d)), (min(b, c), max(b, c))}
-        if len({a, b, c, d}) == 4 and not new & pairs:
-            pairs = (pairs - {(a, b), (c, d)}) | new
-    return 512, pairs
-
-
-def band(r, n=512, width=8):
-    return n, {(v, u) for v in range(n) for u in range(v + 1, min(n, v + 1 + width))}
-
-
-def grid(r):
-    across = {(v, v + 1) for v in range(22 * 23) if v % 23 < 22}
-    return 506, across | {(v, v + 23) for v in range(21 * 23)}
-
-
-def cycle(r):
-    return 512, {(min(v, (v + 1) % 512), max(v, (v + 1) % 512)) for v in range(512)}
-
-
-def clique(r):
-    return 512, set(combinations(range(90), 2))
-
-
-def cliques(r):
-    return 512, {p for first in range(0, 512, 16) for p in combinations(range(first, first + 16), 2)}
-
-
-def chain(r):
-    return 512, set(combinations(range(60), 2)) | {(v, v + 1) for v in range(59, 511)}
-
-
-def chains(r):
-    pairs = set()
-    for i, first in enumerate(range(0, 512, 32)):
-        size = 12 + i % 3
-        pairs |= set(combinations(range(first, first + size), 2)) | {(v, v + 1) for v in range(first + size - 1, first + 31)}
-    return 512, pairs
-
-
-def power(r):
-    weights = [1 / (v + 1) ** 0.6 for v in range(512)]
-    return 512, fill(lambda: r.choices(range(512), weights)[0], set(), 4096)
-
-
-KINDS = {
-    "uniform": uniform,
-    "planted group": planted,
-    "near-regular": regular,
-    "bands": band,
-    "grid": grid,
-    "cycle": cycle,
-    "clique": clique,
-    "equal cliques": cliques,
-    "clique with a chain": chain,
-    "cliques with chains": chains,
-    "power law": power,
-}
-
-# ---- stop counts: of the pairs of a list, by sort
-
-
-def one_heavy(r, n, pairs):
-    """One pair has 1,000 stops, the others have one."""
-    heavy = r.randrange(len(pairs))
-    return [1000 if i == heavy else 1 for i in range(len(pairs))]
-
-
-def heavy_group(r, n, pairs):
-    """Pairs inside an eighth of the modules have 500 to 1,000 stops, the others 1 to 10."""
-    group = set(r.sample(range(n), max(2, n // 8)))
-    return [r.randint(500, 1000) if a in group and b in group else r.randint(1, 10) for a, b in pairs]
-
-
-def geometric(r, n, pairs):
-    """One stop more with chance nine in ten, ten on the average."""
-    return [min(1000, 1 + int(math.log(1 - r.random()) / math.log(0.9))) for _ in pairs]
-
-
-COUNTS = {
-    "ones": lambda r, n, pairs: [1] * len(pairs),
-    "1 to 1,000": lambda r, n, pairs: [r.randint(1, 1000) for _ in pairs],
-    "one heavy pair": one_heavy,
-    "heavy group": heavy_group,
-    "geometric": geometric,
-}
-FULL = ["ones", "1 to 1,000"]  # those with all the tables; the others have one
-
-SIZES = [(64, 512), (128, 1024), (256, 2048), (512, 4096), (512, 512), (512, 1024), (512, 2048), (128, 4096), (256, 4096)]
-
-
-def renumbered(r, n, pairs):
-    """The same list with the modules' numbers shuffled."""
-    to = r.sample(range(n), n)
-    return n, {(min(to[a], to[b]), max(to[a], to[b])) for a, b in pairs}
-
-
-def shapes():
-    """Name, seed, N and pairs. The second and third list of a kind have shuffled numbers: in kinds without chance they differ in nothing else."""
-    for name, make in KINDS.items():
-        for seed in SEEDS:
-            n, pairs = make(random.Random(seed))
-            yield name, seed, *(renumbered(random.Random(seed), n, pairs) if seed else (n, pairs))
-    for n, m in SIZES:
-        for seed in SEEDS:
-            yield f"{n}, {m}", seed, *uniform(random.Random(seed), n, m)
-
-
-def lists():
-    """Sort of the counts, name, seed, N and pairs with their counts, rising."""
-    for name, seed, n, pairs in shapes():
-        for sort, count in COUNTS.items():
-            if name in KINDS or sort in FULL:
-                ordered = sorted(pairs)
-                yield sort, name, seed, n, [(a, b, w) for (a, b), w in zip(ordered, count(random.Random(seed), n, ordered))]
+AIM = 400  # from that many pairs on, solve should be 1.5 times as quick as the quickest of the others on every kind, and twice on two kinds of three
 
 
 # ---- networkx
@@ -175,7 +31,7 @@ def timed(run):
 
 
 def densest(n, pairs):
-    """The greatest ratio, as in compare.cpp (whole), with networkx's minimum cut."""
+    """The greatest ratio, as in solves.hpp (whole), with networkx's minimum cut."""
     p, q = sum(w for _, _, w in pairs), n
     degree = [0] * n
     for a, b, w in pairs:
@@ -235,33 +91,45 @@ def quiet(seconds=4):
         pass
 
 
-def compare(program, path, what):
-    """Times by name, on how many modules Boost's weighted core numbers are others, and the density."""
-    out = subprocess.run([program, path, str(REPETITIONS), what], check=True, capture_output=True, text=True).stdout
-    *lines, differs, last = out.splitlines()
-    times = {name: float(value) for name, value in (line.rsplit(" ", 1) for line in lines)}
-    times["differs"] = int(differs.split()[3])
-    return times, tuple(map(int, last.split()[1:]))
+def compare(program, batch):
+    """For each list of the batch, times and what else compare.cpp prints, by name."""
+    out = subprocess.run([program, str(REPETITIONS), batch], check=True, capture_output=True, text=True).stdout
+    found = []
+    for name, value in (line.rsplit(" ", 1) for line in out.splitlines()):
+        if name == "list":
+            found.append({})
+        else:
+            found[-1][name] = float(value)
+    return found
 
 
-def measure(program, folder, runs):
+def wanted(name, seed, sort, quick):
+    """What runs on a list: see compare.cpp."""
+    if name not in KINDS:
+        return "ours"
+    if quick or name not in ALL:
+        return "quick"
+    return "searches" if sort not in FULL else "all" if seed else "programme"
+
+
+def measure(program, folder, runs, quick):
     """Sort of the counts: name of the list, seed, what: the median over the runs. Times of add and of a raised count are for one pair."""
-    times = defaultdict(lambda: defaultdict(list))
+    times = {sort: defaultdict(list) for sort in COUNTS}
     for run in range(runs):
-        for sort, name, seed, n, pairs in lists():
-            path = f"{folder}/{name} {sort} {seed}".replace(" ", "-").replace(",", "")
-            with open(path, "w") as file:
-                file.write(f"modules={n}\npairs={len(pairs)}\n" + "".join(f"{a},{b},{w}\n" for a, b, w in pairs))
-            first = seed == 0 and name in KINDS and sort in FULL
-            what = "programme" if first else "ours" if name not in KINDS else "all" if sort in FULL else "searches"
+        for sort in COUNTS:
+            lists = [*of_kinds(sort), *(of_sizes(sort) if sort in FULL and not quick else [])]
+            whats = [wanted(name, seed, sort, quick) for name, seed, _, _ in lists]
+            batch = f"{folder}/batch"
+            with open(batch, "w") as file:
+                file.writelines(f"{what} {write(folder, sort, *listed)}\n" for what, listed in zip(whats, lists))
             quiet()
-            found, density = compare(program, path, what)
-            found["pairs"] = len(pairs)
-            if first and run == 0:
-                found |= by_networkx(n, pairs, density)
-            for what, value in found.items():
-                times[sort][name, seed, what].append(value / len(pairs) if what.startswith(("add", "raise")) else value)
-            print(f"run {run + 1}: {name} {seed}, {sort}", file=sys.stderr)
+            for (name, seed, n, pairs), what, found in zip(lists, whats, compare(program, batch)):
+                found["pairs"] = len(pairs)
+                if what == "programme" and run == 0:
+                    found |= by_networkx(n, pairs, (found["p"], found["q"]))
+                for call, value in found.items():
+                    times[sort][name, seed, call].append(value / len(pairs) if call.startswith(("add", "raise")) else value)
+            print(f"run {run + 1}: {sort}", file=sys.stderr)
     return {sort: {key: median(values) for key, values in found.items()} for sort, found in times.items()}
 
 
@@ -288,7 +156,7 @@ def compared(times, head, ours, others):
     """A row for each kind: our time in µs, and how many times as long each of the others takes."""
     table(
         [head, "ours, µs", *others],
-        [[name, figure(typical(times, name, ours)), *(figure(ratio(times, name, other, ours)) for other in others.values())] for name in KINDS],
+        [[name, figure(typical(times, name, ours)), *(figure(ratio(times, name, other, ours)) for other in others.values())] for name in ALL],
     )
 
 
@@ -305,10 +173,38 @@ ENGINES = ["LEMON", "Boost-push-relabel", "Boost-BK", "igraph"]
 WAYS = ["textbook", "whole", "core"]
 
 
+def mean(times, name, what):
+    return geometric_mean(times[name, seed, what] for seed in SEEDS)
+
+
 def quickest(times, name):
-    """The quickest of all others for a kind: how many times as long as ours it takes, and which it is."""
-    value, other = min((ratio(times, name, f"solve {engine} {way}", "solve ours"), f"{engine}, {way}") for engine in ENGINES for way in WAYS)
-    return [figure(value), other]
+    """Our time for a kind, that of the quickest of the others, and which it is."""
+    ran = [(engine, way) for engine in ENGINES for way in WAYS if (name, 0, f"solve {engine} {way}") in times]
+    return mean(times, name, "solve ours"), *min((mean(times, name, f"solve {engine} {way}"), f"{engine}, {way}") for engine, way in ran)
+
+
+def beside_quickest(times, sort):
+    """A row for each kind: our solve, and the quickest of the others'. Bold is what misses the aim."""
+    rows = []
+    for name in KINDS:
+        ours, theirs, which = quickest(times, name)
+        pairs, value = typical(times, name, "pairs"), figure(theirs / ours)
+        rows.append([name, f"{pairs:,.0f}", figure(ours), figure(theirs), which, f"**{value}**" if pairs >= AIM and theirs < 1.5 * ours else value])
+    table([f"solve, {sort}", "pairs", "ours, µs", "the quickest of the others, µs", "which", "ratio"], rows)
+
+
+def summed_up(times):
+    """A row for each sort of counts: the ratios to the quickest of the others over all kinds; how many reach the aim is of those that have it."""
+    rows = []
+    for sort, found in times.items():
+        ratios = {name: theirs / ours for name in KINDS for ours, theirs, _ in [quickest(found, name)]}
+        aimed = [value for name, value in ratios.items() if typical(found, name, "pairs") >= AIM]
+        once, twice = (sum(value >= aim for value in aimed) for aim in [1.5, 2])
+        least = min(ratios, key=ratios.get)
+        longest = max(value for (name, _, what), value in found.items() if what == "solve ours" and name in KINDS)
+        reached = [f"{once} of {len(aimed)}", f"{twice} of {len(aimed)}", "yes" if once == len(aimed) and 3 * twice >= 2 * len(aimed) else "no"]
+        rows.append([sort, figure(geometric_mean(ratios.values())), f"{figure(ratios[least])}, {least}", *reached, figure(longest)])
+    table(["solve, the quickest of the others", "geometric mean", "least", "1.5 or more", "2 or more", "as aimed", "our longest, µs"], rows)
 
 
 def dimacs(times):
@@ -317,16 +213,15 @@ def dimacs(times):
     compared(times, "read_dimacs", "read_dimacs ours", {"read": "read ours"} | others)
     commented = {"without comments": "read_dimacs ours", "igraph": "read_dimacs commented igraph"}
     compared(times, "read_dimacs, a comment before each line", "read_dimacs commented ours", commented)
-    shuffled(times, [*KINDS, *(f"{n}, {m}" for n, m in SIZES if m == 4096)])
+    shuffled(times, [*ALL, *(f"{n}, {m}" for n, m in SIZES if m == 4096)])
     compared(times, "write_dimacs", "write_dimacs ours", {other: f"write_dimacs {other}" for other in ["sprintf", "LEMON", "igraph"]})
 
 
 def solves(times):
-    """Solve in three ways, the quickest of the others, and check."""
+    """Solve in three ways, and check."""
     for way in WAYS:
         slow = {"networkx": "solve networkx", "GLPK": "solve GLPK"} if way == "whole" else {}
         compared(times, f"solve, {way}", "solve ours", {engine: f"solve {engine} {way}" for engine in ENGINES} | slow)
-    table(["solve", "the quickest of the others", "which"], [[name, *quickest(times, name)] for name in KINDS])
     compared(times, "check", "check ours", {f"solving again: {other}": f"solve {other}" for other in ["ours", "LEMON core", "LEMON whole"]})
 
 
@@ -351,25 +246,20 @@ def growth(times):
 
 
 def sorts(times):
-    """A row for each kind: our times by sort of the counts, and the quickest of the others' solves."""
+    """A row for each kind: our times by sort of the counts, and how Boost and a heap peel."""
     for what in ["solve", "check", "peel"]:
         table(
             [f"{what} by stop counts, µs", *COUNTS],
-            [[name, *(figure(typical(times[sort], name, f"{what} ours")) for sort in COUNTS)] for name in KINDS],
+            [[name, *(figure(typical(times[sort], name, f"{what} ours")) for sort in COUNTS)] for name in ALL],
         )
-    table(
-        ["solve, the quickest of the others", *COUNTS],
-        [[name, *(" ".join(quickest(times[sort], name)) for sort in COUNTS)] for name in KINDS],
-    )
-    heap = [[name, *(figure(ratio(times[sort], name, "peel heap", "peel ours")) for sort in COUNTS)] for name in KINDS]
+    heap = [[name, *(figure(ratio(times[sort], name, "peel heap", "peel ours")) for sort in COUNTS)] for name in ALL]
     table(["peel, a heap over partners that stand already", *COUNTS], heap)
-    differs = [[name, *(figure(typical(times[sort], name, "differs")) for sort in COUNTS)] for name in KINDS]
+    differs = [[name, *(figure(typical(times[sort], name, "differs")) for sort in COUNTS)] for name in ALL]
     table(["modules on which Boost's weighted core numbers differ", *COUNTS], differs)
 
 
-def main():
-    program, folder, runs = sys.argv[1], sys.argv[2], int(sys.argv[3])
-    times = measure(program, folder, runs)
+def in_full(times):
+    """All tables but those of solve beside the quickest of the others."""
     for sort in FULL:
         print(f"## Stop counts: {sort}\n")
         solves(times[sort])
@@ -379,6 +269,17 @@ def main():
     dimacs(times["ones"])
     print("## By stop counts\n")
     sorts(times)
+
+
+def main():
+    program, folder, runs, quick = sys.argv[1], sys.argv[2], int(sys.argv[3]), sys.argv[4:] == ["quick"]
+    times = measure(program, folder, runs, quick)
+    if not quick:
+        in_full(times)
+    print("## Solve beside the quickest of the others\n")
+    for sort in COUNTS:
+        beside_quickest(times[sort], sort)
+    summed_up(times)
 
 
 main()

@@ -1,4 +1,4 @@
-// A list's DIMACS edge files, from memory and into it, for compare.cpp: read and written by ours and by others. They have no stop counts; the pair file has.
+// A list's DIMACS edge files, from memory and into it: read and written by ours and by others. They have no stop counts; the pair file has.
 //
 // igraph reads the very bytes that ours reads and makes a graph of them. LEMON knows no `edge` files: it reads and writes the same pairs on lines
 // `p mat N M` and `a A B`. Boost's reader loses the second number of an `e` line (dimacs_basic_reader, 1.74). igraph writes its edge list, one pair a
@@ -13,20 +13,18 @@
 #include <random>
 #include <sstream>
 #include <string>
+#include <vector>
 
 #include <igraph/igraph.h>
 #include <lemon/dimacs.h>
 #include <lemon/smart_graph.h>
 
-#include "../callers/c/kandurzo.h"
-#include "common.hpp"
+#include "listed.hpp"
 
 class Dimacs {
     kandurzo_head_t head;
-    const kandurzo_pair_t *list;
-    kandurzo_pair_t records[KANDURZO_PAIRS], ones[KANDURZO_PAIRS];
-    uint32_t work[KANDURZO_WORK] = {};
-    uint8_t text[KANDURZO_TEXT];
+    const std::vector<kandurzo_pair_t> &list;
+    Lent &lent;
     lemon::SmartDigraph arcs;
 
     static std::string both(int a, int b) { return std::to_string(a) + " " + std::to_string(b) + "\n"; }
@@ -36,15 +34,16 @@ class Dimacs {
     std::string pair_file;                    // the pair file with the pairs as in `shuffled`
     std::string mat;                          // as `listed`, with the lines that LEMON reads
 
-    Dimacs(kandurzo_head_t head, const kandurzo_pair_t *list, const Pairs &pairs) : head(head), list(list) {
+    Dimacs(const Listed &listed_pairs) : head(listed_pairs.head), list(listed_pairs.list), lent(listed_pairs.lent) {
         std::mt19937 random(1);
-        Pairs scattered(pairs);
+        Pairs pairs(listed_pairs.pairs), scattered(pairs);
+        std::vector<kandurzo_pair_t> ones(list);
         std::shuffle(scattered.begin(), scattered.end(), random);
         listed = shuffled = "p edge " + both(head.n, head.m);
         mat = "p mat " + both(head.n, head.m);
         commented = "c a list of fault pairs\n" + listed;
         pair_file = "modules=" + std::to_string(head.n) + "\npairs=" + std::to_string(head.m) + "\n";
-        for (uint32_t j = 0; j < head.m; j++) ones[j] = {list[j].a, list[j].b, 1};
+        for (kandurzo_pair_t &one : ones) one.w = 1;
         for (uint32_t v = 0; v < head.n; v++) arcs.addNode();
         for (auto [a, b, w] : pairs) {
             listed += "e " + both(a + 1, b + 1);
@@ -60,23 +59,23 @@ class Dimacs {
         for (const std::string *file : {&listed, &commented, &shuffled}) read(*file), same(ones);
         read_pairs(), same(list);
         write();
-        if (listed != std::string(text, text + listed.size())) fail("another file is written");
+        if (listed != std::string(lent.text, lent.text + listed.size())) fail("another file is written");
     }
 
     // The last file read has these records.
-    void same(const kandurzo_pair_t *wanted) {
-        if (memcmp(records, wanted, head.m * sizeof *wanted)) fail("another list is read");
-        memset(records, 0, sizeof records);
+    void same(const std::vector<kandurzo_pair_t> &wanted) {
+        if (memcmp(lent.list, wanted.data(), head.m * sizeof *lent.list)) fail("another list is read");
+        memset(lent.list, 0, sizeof lent.list);
     }
 
     void read(const std::string &file) {
         auto bytes = reinterpret_cast<const uint8_t *>(file.data());
-        if (kandurzo_read_dimacs(bytes, file.size(), records, KANDURZO_PAIRS, work, KANDURZO_WORK).number) fail("the DIMACS file is refused");
+        if (kandurzo_read_dimacs(bytes, file.size(), lent.list, KANDURZO_PAIRS, lent.work, KANDURZO_WORK).number) fail("the DIMACS file is refused");
     }
 
     void read_pairs() {
         auto bytes = reinterpret_cast<const uint8_t *>(pair_file.data());
-        if (kandurzo_read(bytes, pair_file.size(), records, KANDURZO_PAIRS, work, KANDURZO_WORK).number) fail("the shuffled file is refused");
+        if (kandurzo_read(bytes, pair_file.size(), lent.list, KANDURZO_PAIRS, lent.work, KANDURZO_WORK).number) fail("the shuffled file is refused");
     }
 
     void read_by_scanf() {
@@ -109,12 +108,12 @@ class Dimacs {
     }
 
     void write() {
-        kandurzo_written_t written = kandurzo_write_dimacs(head, list, head.m, text, KANDURZO_TEXT);
+        kandurzo_written_t written = kandurzo_write_dimacs(head, list.data(), head.m, lent.text, KANDURZO_TEXT);
         if (written.number || written.length != listed.size()) fail("write_dimacs declines");
     }
 
     void write_by_sprintf() {
-        char *out = reinterpret_cast<char *>(text);
+        char *out = reinterpret_cast<char *>(lent.text);
         int length = sprintf(out, "p edge %u %u\n", unsigned(head.n), unsigned(head.m));
         for (uint32_t j = 0; j < head.m; j++) length += sprintf(out + length, "e %u %u\n", list[j].a + 1u, list[j].b + 1u);
         if (size_t(length) != listed.size()) fail("sprintf");
