@@ -9,4 +9,5 @@ pub mod Rounds
 pub mod Sheets
 pub mod Solving
 pub mod Gathering
+pub mod Scattering
 pub mod InnerSearch

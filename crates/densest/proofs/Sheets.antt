@@ -1,6 +1,7 @@
 -- The load sheet: units inside the core, the other pairs wholly with the end that left first.
 --   only-table, merge-table           shares inside the core and all shares, as tables
---   sheet-share-is                    a pair's share, by its parts
+--   Writing, writing-start, pair-same, writing-low, writing-next, writing-end    a loop that writes the shares in the place of the pairs packed
+--   written-shares                    shares that are written by the units of the pairs gathered
 --   Sheet                             what the last round and the leaving places give
 --   sheet-optimal, sheet-outside      such a sheet is the split that solve hands out
 -- Assumes nothing.
@@ -10,8 +11,8 @@ use mathlib.Core.List.{List}
 use Prim.Native.Nat.{ℕ, zero, suc, _+_, _*_, _≤_, _<_}
 use native.Mathlib.Omega.{arith}
 use lib.Dec.{leb, ltb}
-use lib.ListN.{length, getD}
-use lib.Seq.{ext-getD}
+use lib.ListN.{length, getD, set, length-set}
+use lib.Seq.{ext-getD, getD-set-other}
 use Rattle.theory.specs.Basics.{table}
 use Rattle.theory.specs.Lists.{Pair, Pairs}
 use Rattle.theory.specs.Groups.{is-in, size, holds-pair, inside, Found}
@@ -20,17 +21,21 @@ use Rattle.theory.specs.Cores.{core, core-number}
 use Rattle.theory.specs.Splits.{units, shares-good, is-split, load-of, greatest-load, core-order, pair-in-core, wholly-first, outside-good}
 use Rattle.theory.specs.Words.{word-pair, pairs-in, list-in, Held-words}
 use Rattle.theory.specs.Promise.{Optimal, Core-members}
+use Rattle.theory.proofs.Tests.{tests}
 use Rattle.theory.proofs.Tables.{length-table, table-at, table-ext}
+use Rattle.theory.proofs.Groups.{Sub}
 use Rattle.theory.proofs.Densest.{found-densest}
 use Rattle.theory.proofs.Duality.{optimal}
 use Rattle.theory.proofs.Cores.{core-members}
 use Rattle.theory.proofs.Splits.{only, merge, split-with}
 use Rattle.slots.specs.Slots.{held-by}
 use Rattle.slots.specs.Split.{scope-units, Split}
+use Rattle.slots.proofs.Choice.{stored-more}
 use Rattle.slots.proofs.Words.{good-pair}
-use Rattle.groups.specs.Pairs.{inner-at}
 use Rattle.densest.specs.Search.{first-left, sheet-share}
+use Rattle.densest.specs.Gather.{inner-before, unpacked, Packed, Unpacks, Scattered, Written}
 use Rattle.densest.proofs.Loads.{load-held, shares-table}
+use Rattle.densest.proofs.Gathering.{inner-before-ext, Inner-passed}
 
 -- ---- shares as tables
 
@@ -53,14 +58,73 @@ cond-times : (c : Bool) (w q : ℕ) → cond c (w * q) 0 ≡ cond c w 0 * q
 cond-times true w q = refl
 cond-times false w q = omega arith
 
--- ---- the sheet
+-- ---- the sheet, written in the place of the pairs
 
--- a pair's share, by its parts
-pub sheet-share-is : (q : ℕ) (ends weights scope place hold : List ℕ) (j x y : ℕ) (b d : Bool) →
-    b ≡ first-left ends place j → x ≡ cond b (getD weights j 0 * q) 0 →
-    d ≡ inner-at ends scope j → y ≡ cond d (getD hold (2 * j) 0) x → y ≡ sheet-share q ends weights scope place hold j
-unfolding sheet-share holds-pair word-pair units
-sheet-share-is q ends weights scope place hold j x y b d e f h k = rw (← h, ← e, ← f) k
+-- the pairs that are packed in a list of words
+abbrev pub packed-at : List ℕ → ℕ → Pair
+packed-at xs j = unpacked (getD xs j 0)
+
+-- the shares below j are written; the other pairs stand packed as they did
+pub record Writing (j q : ℕ) (core scope place held shares₀ shares : List ℕ) : Type 0 where
+  pub long : length shares ≡ length shares₀
+  pub ahead : (k : ℕ) → j ≤ k → getD shares k 0 ≡ getD shares₀ k 0
+  pub written : (k : ℕ) → k < j →
+      getD shares k 0 ≡ sheet-share q scope place (packed-at shares₀ k) (getD held (2 * inner-before (packed-at shares₀) core k) 0)
+
+pub writing-start : (q : ℕ) (core scope place held shares : List ℕ) → Writing 0 q core scope place held shares shares
+writing-start q core scope place held shares = record { long = refl; ahead = λ k h. refl; written = λ k h. absurd (omega arith) }
+
+-- pair j is read as it was
+pub pair-same : {j q : ℕ} {core scope place held shares₀ shares : List ℕ} → Writing j q core scope place held shares₀ shares →
+    packed-at shares j ≡ packed-at shares₀ j
+pair-same {j} w = ap unpacked (w .ahead j (omega arith))
+
+module _ {m j q : ℕ} {core scope place held shares₀ shares : List ℕ} (low : j < m) (w : Writing j q core scope place held shares₀ shares) where
+  pub writing-low : {n : ℕ} → Unpacks n m shares₀ → (packed-at shares j .a < n) × (packed-at shares j .b < n)
+  writing-low u = (rw (pair-same w) (u .first j low), rw (pair-same w) (u .second j low))
+
+  -- pair j gets the share x
+  pub writing-next : {i : ℕ} (x y : ℕ) (t : Bool) → Inner-passed m j i (packed-at shares₀) core → m ≤ length shares₀ →
+      t ≡ holds-pair scope (packed-at shares j) → y ≡ cond (first-left place (packed-at shares j)) (units q (packed-at shares j)) 0 →
+      x ≡ cond t (getD held (2 * i) 0) y → Writing (j + 1) q core scope place held shares₀ (set shares j x)
+  unfolding sheet-share
+  writing-next {i} x y t c l et ey ex =
+      let sl = w .long in
+      record {
+        long = length-set shares j x ∙ sl;
+        ahead = λ k h. getD-set-other shares j k x 0 (λ z. omega arith) ∙ w .ahead k (omega arith);
+        written =
+            stored-more (λ k z. z ≡ sheet-share q scope place (packed-at shares₀ k) (getD held (2 * inner-before (packed-at shares₀) core k) 0))
+            shares j x (omega arith) (w .written) (rw (← c .place, ← pair-same w, ← et, ← ey) ex);
+      }
+
+pub writing-end : {m j i q : ℕ} {core scope place held shares₀ shares : List ℕ} → Inner-passed m j i (packed-at shares₀) core → m ≤ j →
+    Writing j q core scope place held shares₀ shares → Written m q core scope place held shares₀ shares
+writing-end c h w = record { shares = λ k l. w .written k (omega arith) }
+
+-- a pair's share where what its first slot holds matters only inside the scope
+share-same : (b : Bool) (x y z : ℕ) → (b ≡ true → x ≡ y) → cond b x z ≡ cond b y z
+share-same true x y z e = e refl
+share-same false x y z e = refl
+
+-- the shares written are those of the units put back
+pub written-shares : (m q : ℕ) (ends weights core scope place units hold old new : List ℕ) → Packed m ends weights old → Sub scope core →
+    Scattered m (word-pair ends weights) core units hold → Written m q core scope place units old new →
+    (j : ℕ) → j < m → getD new j 0 ≡ sheet-share q scope place (word-pair ends weights j) (getD hold (2 * j) 0)
+unfolding sheet-share holds-pair
+written-shares m q ends weights core scope place units hold old new pk sub sc w j l =
+    let at = word-pair ends weights in
+    let p = at j in
+    let number : inner-before (packed-at old) core j ≡ inner-before at core j =
+    inner-before-ext at core (packed-at old) j (λ i b. pk .pairs i (omega arith)) in
+    w .shares j l
+    ∙ ap (λ (r : Pair). sheet-share q scope place r (getD units (2 * inner-before (packed-at old) core j) 0)) (pk .pairs j l)
+    ∙ share-same (holds-pair scope p) _ _ _ (λ y.
+    let y′ = simp tests at y in
+    let z : holds-pair core p ≡ true = simp tests (sub _ (y′ .0), sub _ (y′ .1)) in
+    ap (λ (k : ℕ). getD units (2 * k) 0) number ∙ sym (sc .slots j l .0 ∙ rw z))
+
+-- ---- the sheet is the split that is handed out
 
 -- t is the found group; the scope is its core, hold a split inside it with no load above t's inside count, and shares the sheet of these
 pub record Sheet (n m : ℕ) (ends weights scope place hold t shares : List ℕ) : Type 0 where
@@ -71,7 +135,7 @@ pub record Sheet (n m : ℕ) (ends weights scope place hold t shares : List ℕ)
   pub most : (v : ℕ) → v < n → held-by m ends hold v ≤ inside (list-in n m ends weights) t
   pub by-place : (a b : ℕ) → a < n → b < n → before (leaving (list-in n m ends weights)) a b ≡ ltb (getD place a 0) (getD place b 0)
   pub long : length shares ≡ m
-  pub written : (j : ℕ) → j < m → getD shares j 0 ≡ sheet-share (size t) ends weights scope place hold j
+  pub written : (j : ℕ) → j < m → getD shares j 0 ≡ sheet-share (size t) scope place (word-pair ends weights j) (getD hold (2 * j) 0)
 
 module _ (n m : ℕ) (ends weights scope place hold t shares : List ℕ) (d : Sheet n m ends weights scope place hold t shares) where
   list : Pairs
@@ -118,19 +182,24 @@ module _ (n m : ℕ) (ends weights scope place hold t shares : List ℕ) (d : Sh
   good-inner =
       rw (only-table inner outer m at) (shares-table (size t) m (λ j. kept-pair inner (at j)) (λ j. getD hold (2 * j) 0) (λ j h. omega (arith, whole j h)))
 
-  share-is : (j : ℕ) → j < m → sheet-share (size t) ends weights scope place hold j ≡ cond (inner (at j)) (getD hold (2 * j) 0) (outer (at j))
-  unfolding sheet-share outer wholly-first list at word-pair
+  -- the share of pair j
+  share-at : ℕ → ℕ
+  share-at j = sheet-share (size t) scope place (at j) (getD hold (2 * j) 0)
+
+  share-is : (j : ℕ) → j < m → share-at j ≡ cond (inner (at j)) (getD hold (2 * j) 0) (outer (at j))
+  unfolding share-at sheet-share outer wholly-first list at word-pair
   share-is j h =
       let w = good-pair n m ends weights (d .held .listed) j h in
-      ap (λ (c : Bool). cond c (getD hold (2 * j) 0) (cond (first-left ends place j) (units (size t) (at j)) 0)) (scope-inner j h)
+      ap (λ (c : Bool). cond c (getD hold (2 * j) 0) (cond (first-left place (at j)) (units (size t) (at j)) 0)) (scope-inner j h)
       ∙ ap (λ (c : Bool). cond (inner (at j)) (getD hold (2 * j) 0) (cond c (units (size t) (at j)) 0))
       (sym (d .by-place (getD ends (2 * j) 0) (getD ends (2 * j + 1) 0) (omega arith) (w .below)))
 
   -- the entries written are these shares
   shares-are : shares ≡ merge inner outer (table m at) (table m (λ j. getD hold (2 * j) 0))
+  unfolding share-at at
   shares-are =
-      ext-getD 0 shares (table m (sheet-share (size t) ends weights scope place hold)) (d .long ∙ sym (length-table m _))
-      (λ j h. let l : j < m = omega (arith, d .long) in d .written j l ∙ sym (table-at m (sheet-share (size t) ends weights scope place hold) j 0 l))
+      ext-getD 0 shares (table m share-at) (d .long ∙ sym (length-table m _))
+      (λ j h. let l : j < m = omega (arith, d .long) in d .written j l ∙ sym (table-at m share-at j 0 l))
       ∙ table-ext m _ _ share-is
       ∙ sym (merge-table inner outer m at (λ j. getD hold (2 * j) 0))
 

@@ -1,9 +1,10 @@
 -- From the leaving order to the answer.
 --   peeled-cored, peeled-candidate, peeled-by-place    what `peel` gives the search
---   peelable-zeros, room-zeros                         buffers of zeros are long enough
+--   peelable-zeros, room-zeros, room-less              buffers are long enough: of zeros, and for fewer pairs
 --   found-candidate, found-bounded                     the found group's inside count and size
 --   found-settled                                      the search with a last round: that answers true
---   solution-of, solves-of                             the answer, and where it stands in the buffers
+--   gathering-bounded, gathering-unpacks               what is found among the pairs gathered, and the pairs packed
+--   solution-written, solves-of                        the answer, and where it stands in the buffers
 -- Assumes nothing.
 use mathlib.Core.Path.{_≡_, refl, sym, ap, _∙_}
 use mathlib.Core.Bool.{Bool, true, false}
@@ -13,20 +14,21 @@ use native.Mathlib.Omega.{arith}
 use lib.Dec.{ltb}
 use lib.ListN.{length, getD, drop, replicate, length-replicate, List·getD-append}
 use lib.Seq.{length-front, length-take-le, take-at, drop-at}
-use Rattle.theory.specs.Basics.{table}
 use Rattle.theory.specs.Lists.{Pairs, is-list}
 use Rattle.theory.specs.Groups.{size, inside, at-most}
 use Rattle.theory.specs.Leaving.{leaving, remainder, before}
 use Rattle.theory.specs.Cores.{core, core-number, core-numbers}
 use Rattle.theory.specs.Splits.{rounded-up}
-use Rattle.theory.specs.Words.{word-pair, pairs-in, list-in, Held-words}
+use Rattle.theory.specs.Words.{word-pair, list-in, laid-list, Held-words}
 use Rattle.theory.specs.Promise.{Found-alone}
 use Rattle.theory.proofs.Tests.{tests}
 use Rattle.theory.proofs.Tables.{length-table, table-at}
 use Rattle.theory.proofs.Lists.{listed}
+use Rattle.theory.proofs.Words.{length-laid}
 use Rattle.theory.proofs.Densest.{found-alone}
 use Rattle.slots.specs.Slots.{mate, Room}
 use Rattle.slots.proofs.Held.{zero-at}
+use Rattle.slots.proofs.Words.{good-pair}
 use Rattle.peel.specs.Peel.{Peelable, Peels}
 use Rattle.peel.specs.Promise.{Peel-promised}
 use Rattle.peel.specs.declared.Remainder.{Remainder}
@@ -34,9 +36,11 @@ use Rattle.peel.proofs.Leavers.{remainder-group}
 use Rattle.peel.proofs.Promises.{peel-promised}
 use Rattle.densest.specs.declared.Solution.{Solution}
 use Rattle.densest.specs.Search.{Candidate, Cored, Round, Group-found, sheet-share}
+use Rattle.densest.specs.Gather.{Unpacks, Gathering-found, Written}
 use Rattle.densest.specs.Solve.{Is-solution, Solves}
 use Rattle.densest.proofs.Rounds.{Bounded, candidate-bounded, group-candidate}
-use Rattle.densest.proofs.Sheets.{Sheet, sheet-optimal, sheet-outside}
+use Rattle.densest.proofs.Scattering.{put-back, put-back-is}
+use Rattle.densest.proofs.Sheets.{Sheet, written-shares, sheet-optimal, sheet-outside}
 
 -- ---- the leaving order
 
@@ -71,6 +75,10 @@ peelable-zeros n m ends weights cores h c =
 
 pub room-zeros : (m k : ℕ) → 2 * m ≤ k → Room m (replicate {A = ℕ} k 0)
 room-zeros m k h = record { long = omega (arith, length-replicate {A = ℕ} k 0); small = λ s l. omega (arith, zero-at k s, zero-at k (mate s)) }
+
+-- fewer pairs need no more room
+pub room-less : {m r : ℕ} {hold : List ℕ} → r ≤ m → Room m hold → Room r hold
+room-less l h = record { long = omega (arith, h .long); small = λ s b. h .small s (omega arith) }
 
 -- ---- the answer
 
@@ -112,9 +120,9 @@ module _ (n m : ℕ) (ends weights : List ℕ) (h : Held-words n m ends weights)
 
 module _ (n m : ℕ) (ends weights : List ℕ) (h : Held-words n m ends weights) (scope hold t : List ℕ) (p q : ℕ)
     (f : Group-found n m ends weights scope hold t p q true) where
-  pub solution-of : (place shares : List ℕ) (x : Solution) →
+  solution-of : (place shares : List ℕ) (x : Solution) →
       ((a b : ℕ) → a < n → b < n → before (leaving (list-in n m ends weights)) a b ≡ ltb (getD place a 0) (getD place b 0)) →
-      length shares ≡ m → ((j : ℕ) → j < m → getD shares j 0 ≡ sheet-share q ends weights scope place hold j) →
+      length shares ≡ m → ((j : ℕ) → j < m → getD shares j 0 ≡ sheet-share q scope place (word-pair ends weights j) (getD hold (2 * j) 0)) →
       x .p ≡ p → x .q ≡ q → x .k ≡ rounded-up p q → x .core ≡ size scope → Is-solution (list-in n m ends weights) t shares x
   solution-of place shares x by long written xp xq xk xc =
       let g = list-in n m ends weights in
@@ -140,13 +148,42 @@ module _ (n m : ℕ) (ends weights : List ℕ) (h : Held-words n m ends weights)
         core-size = xc ∙ ap size (d .scope-is ∙ ap (core g) (sym xk));
       }
 
+-- found among the pairs gathered
+module _ (n m : ℕ) (ends weights : List ℕ) (h : Held-words n m ends weights) (core scope units packed t : List ℕ) (p q : ℕ)
+    (f : Gathering-found n m ends weights core scope units packed t p q) where
+  -- the units of all pairs
+  abbrev hold : List ℕ
+  hold = put-back m (word-pair ends weights) core units
+
+  all-found : Group-found n m ends weights scope hold t p q true
+  all-found = f .found hold (put-back-is m (word-pair ends weights) core units)
+
+  pub gathering-bounded : Bounded p q
+  gathering-bounded = found-bounded n m ends weights h scope hold t p q true all-found
+
+  -- the pairs packed have ends below n
+  pub gathering-unpacks : Unpacks n m packed
+  unfolding word-pair
+  gathering-unpacks = record {
+    first = λ j l. rw (f .packed .pairs j l) (omega (arith, good-pair n m ends weights (h .listed) j l));
+    second = λ j l. rw (f .packed .pairs j l) (good-pair n m ends weights (h .listed) j l .below);
+  }
+
+  pub solution-written : (place shares : List ℕ) (x : Solution) →
+      ((a b : ℕ) → a < n → b < n → before (leaving (list-in n m ends weights)) a b ≡ ltb (getD place a 0) (getD place b 0)) →
+      length shares ≡ m → Written m q core scope place units packed shares →
+      x .p ≡ p → x .q ≡ q → x .k ≡ rounded-up p q → x .core ≡ size scope → Is-solution (list-in n m ends weights) t shares x
+  solution-written place shares x by long written =
+      solution-of n m ends weights h scope hold t p q all-found place shares x by long
+      (written-shares m q ends weights core scope place units hold packed shares (f .packed) (f .sub) (put-back-is m (word-pair ends weights) core units) written)
+
 -- the answer, in buffers that may be longer
-pub solves-of : (n m : ℕ) (ends weights members cores shares s cores′ xs : List ℕ) (x : Solution) → n ≤ length members → m ≤ length shares →
-    length s ≡ n → length xs ≡ m → cores′ ≡ core-numbers (list-in n m ends weights) ++ drop n cores → Is-solution (list-in n m ends weights) s xs x →
-    Solves (list-in n m ends weights) members cores shares (s ++ drop n members) cores′ (xs ++ drop m shares) x
-unfolding list-in pairs-in
-solves-of n m ends weights members cores shares s cores′ xs x ln lm ls lx ec d =
-    let count : length (table m (word-pair ends weights)) ≡ m = length-table m (word-pair ends weights) in
+pub solves-of : (n m : ℕ) (words members cores shares s cores′ xs : List ℕ) (x : Solution) → n ≤ length members → m ≤ length shares →
+    length s ≡ n → length xs ≡ m → cores′ ≡ core-numbers (laid-list n m words) ++ drop n cores → Is-solution (laid-list n m words) s xs x →
+    Solves (laid-list n m words) members cores shares (s ++ drop n members) cores′ (xs ++ drop m shares) x
+unfolding laid-list
+solves-of n m words members cores shares s cores′ xs x ln lm ls lx ec d =
+    let count = length-laid m words in
     record {
       members-long = length-front members s n (ls ∙ sym (length-take-le n members ln));
       shares-long = length-front shares xs m (lx ∙ sym (length-take-le m shares lm));

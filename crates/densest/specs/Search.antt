@@ -6,7 +6,7 @@
 --   Counted, Denser-counted    a group's inside count and size; of one that is denser than p over q
 --   Round                      what one round learns
 --   Group-found                what all rounds learn
---   first-left, sheet-share    who of a pair left first; a pair's share, from its slots and the leaving places
+--   first-left, sheet-share    who of a pair left first; a pair's share, from its first slot and the leaving places
 -- Assumes nothing: these are definitions.
 use mathlib.Core.Path.{_≡_}
 use mathlib.Core.Bool.{Bool, true, false, cond}
@@ -14,11 +14,11 @@ use mathlib.Core.List.{List}
 use Prim.Native.Nat.{ℕ, _+_, _*_, _≤_, _<_}
 use lib.Dec.{ltb}
 use lib.ListN.{length, getD, replicate}
-use Rattle.theory.specs.Lists.{Pairs}
+use Rattle.theory.specs.Lists.{Pair, Pairs}
 use Rattle.theory.specs.Groups.{size, is-group, holds-pair, inside, Found}
 use Rattle.theory.specs.Cores.{core, core-number}
 use Rattle.theory.specs.Splits.{units, rounded-up}
-use Rattle.theory.specs.Words.{word-pair, list-in, Held-words}
+use Rattle.theory.specs.Words.{list-in, Held-words}
 use Rattle.slots.specs.Slots.{held-by, Room, Loads}
 use Rattle.slots.specs.Split.{Split}
 
@@ -91,11 +91,10 @@ pub record Group-found (n m : ℕ) (ends weights scope hold group : List ℕ) (p
   pub room : Room m hold
   pub last : settled ≡ true → Round n m p q ends weights scope hold group true
 
--- whether the first end of pair j left before the second
-abbrev pub first-left : (ends place : List ℕ) → (j : ℕ) → Bool
-first-left ends place j = ltb (getD place (getD ends (2 * j) 0) 0) (getD place (getD ends (2 * j + 1) 0) 0)
+-- whether a pair's first end left before the second
+abbrev pub first-left : (place : List ℕ) → Pair → Bool
+first-left place p = ltb (getD place (p .a) 0) (getD place (p .b) 0)
 
--- the share of pair j: what its first slot holds where both its ends are in the scope, else all of it or nothing, by who left first
-unfoldable pub sheet-share : (q : ℕ) → (ends weights scope place hold : List ℕ) → (j : ℕ) → ℕ
-sheet-share q ends weights scope place hold j =
-    cond (holds-pair scope (word-pair ends weights j)) (getD hold (2 * j) 0) (cond (first-left ends place j) (units q (word-pair ends weights j)) 0)
+-- a pair's share: x, what its first slot holds, where both its ends are in the scope, else all of it or nothing, by who left first
+unfoldable pub sheet-share : (q : ℕ) → (scope place : List ℕ) → Pair → (x : ℕ) → ℕ
+sheet-share q scope place p x = cond (holds-pair scope p) x (cond (first-left place p) (units q p) 0)

@@ -1,41 +1,42 @@
-// The search among the pairs inside a core: all that is as dense as the group at hand lies in the core of its ratio rounded up. Its pairs are gathered,
-// the search goes on among them, and the units that it leaves are put back in the slots of all pairs.
+// The search among the pairs inside a core: all that is as dense as the group at hand lies in the core of its ratio rounded up. Where that core has few
+// of the modules its pairs are gathered, else all pairs, which are those inside the core of order 0. They are gathered at the front of the words that
+// held all pairs; these are packed first, a word each, in the lent shares, from which the load sheet is made in the end.
 ghost use mathlib.Core.Path.{_≡_};
-ghost use mathlib.Core.Bool.{true, cond};
-ghost use Prim.Native.Nat.{ℕ, _*_, _≤_, _<_};
+ghost use mathlib.Core.Bool.{cond};
+ghost use Prim.Native.Nat.{ℕ, _≤_, _<_};
 ghost use lib.Dec.{leb};
 ghost use lib.ListN.{length, getD};
-ghost use Rattle.theory.specs.Words.{Held-words};
-ghost use Rattle.slots.specs.Slots.{Ends};
-ghost use Rattle.densest.specs.Search.{Searchable, Group-found};
-ghost use Rattle.densest.specs.Gather.{Gathered, Scattered};
+ghost use Rattle.theory.specs.Basics.{mark};
+ghost use Rattle.theory.specs.Words.{Held-words, counts-of};
+ghost use Rattle.densest.specs.Search.{Searchable, Leaving-room};
+ghost use Rattle.densest.specs.Gather.{Packed, Gathered, Gathering-found};
 use crate::Effort;
+use crate::packing::inner;
+use crate::packing::packed;
 use crate::search::Ratio;
 use crate::search::find;
-use peel::total;
+use crate::sheet::Share;
 
-// The pairs with both ends in the scope, in order, at the front of `gathered` (their ends) and of `counts` (their weights); how many they are. Every
-// pair is written behind those kept so far, and the place moves on where it is kept: no branch goes by chance.
-fn gather(
-    n: usize,
-    m: usize,
-    ends: &[u32],
-    weights: &[u32],
-    scope: &[u8],
-    gathered: &mut [u32],
-    counts: &mut [u32],
-) -> usize
-    requires { ⌜ Held-words n m (now ends) (now weights) ⌝ }
-    requires { ⌜ length (now scope) ≡ n ⌝ }
-    requires { ⌜ (2 * m ≤ length (now gathered)) × (m ≤ length (now counts)) ⌝ }
-    ensures { λ r. ⌜ Gathered n m (now (ends .entry)) (now (weights .entry)) (now (scope .entry)) (now (gathered .exit)) (now (counts .exit)) r ⌝ }
+// The pairs with both ends in the core, in order, at the front of the words; how many they are. And all pairs, packed. Every pair is written behind those
+// kept so far, and the place moves on where it is kept: no branch goes by chance.
+fn gather(n: usize, m: usize, core: &[u8], words: &mut [u32], shares: &mut [Share]) -> usize
+    requires { ⌜ Held-words n m (now words) (counts-of (now words)) ⌝ }
+    requires { ⌜ (length (now core) ≡ n) × (m ≤ length (now shares)) ⌝ }
+    ensures { λ r. ⌜ Gathered n m (now (words .entry)) (counts-of (now (words .entry))) (now (core .entry)) (now (words .exit))
+        (counts-of (now (words .exit))) r ⌝ }
+    ensures { λ r. ⌜ Packed m (now (words .entry)) (counts-of (now (words .entry))) (now (shares .exit)) ⌝ }
 {
     let mut i = 0;
     for j in 0..m {
-        gathered[2 * i] = ends[2 * j];
-        gathered[2 * i + 1] = ends[2 * j + 1];
-        counts[i] = weights[j];
-        i = i + numbers::one_if(groups::inner(n, m, j, ends, scope));
+        let first = words[2 * j];
+        let second = words[2 * j + 1];
+        let count = words[8192 + j];
+        let pair = packed(first, second, count);
+        shares[j] = pair;
+        words[2 * i] = first;
+        words[2 * i + 1] = second;
+        words[8192 + i] = count;
+        i = i + numbers::one_if(inner(pair, core));
     }
     i
 }
@@ -52,110 +53,62 @@ fn keep_at_least(n: usize, k: u32, cores: &[u32], kept: &mut [u32])
     }
 }
 
-// The units of the pairs gathered, back in the slots of all pairs; the other pairs hold nothing.
-fn scatter(n: usize, m: usize, ends: &[u32], scope: &[u8], units: &[u32], hold: &mut [u32])
-    requires { ⌜ Ends n m (now ends) ⌝ }
-    requires { ⌜ length (now scope) ≡ n ⌝ }
-    requires { ⌜ (2 * m ≤ length (now units)) × (2 * m ≤ length (now hold)) ⌝ }
-    ensures { λ r. ⌜ Scattered m (now (ends .entry)) (now (scope .entry)) (now (units .entry)) (now (hold .exit)) ⌝ }
+// The core whose pairs are gathered, and its order: k where that core has at most seven eighths of the modules, else 0, which is all of them.
+fn mark_core(n: usize, k: u32, cores: &[u32], core: &mut [u8]) -> u32
+    requires { ⌜ n ≤ 512 ⌝ }
+    requires { ⌜ (n ≤ length (now cores)) × (length (now core) ≡ n) ⌝ }
+    ensures { λ r. ⌜ (r ≤ k) × ((v : ℕ) → v < n → getD (now (core .exit)) v 0 ≡ mark (leb r (getD (now (cores .entry)) v 0))) ⌝ }
 {
-    let mut i = 0;
-    for j in 0..m {
-        let kept = groups::inner(n, m, j, ends, scope);
-        hold[2 * j] = numbers::pick(kept, units[2 * i]);
-        hold[2 * j + 1] = numbers::pick(kept, units[2 * i + 1]);
-        i = i + numbers::one_if(kept);
+    groups::mark_at_least(n, k, cores, core);
+    let size = slots::wide(groups::group_size(n, core));
+    if 8 * size <= 7 * n {
+        return k;
     }
+    groups::mark_at_least(n, 0, cores, core);
+    0
 }
 
-// The found group, looked for among the pairs inside the core of p over q rounded up: all that is as dense lies there. Then the units of all pairs.
-fn find_in_core(
+// The found group, looked for among the pairs inside a core. The words have these pairs then, `hold` their units, and `shares` all pairs, packed.
+pub(crate) fn find_in_core(
     n: usize,
     m: usize,
     effort: Effort,
     p: u32,
     q: u32,
-    ends: &[u32],
-    weights: &[u32],
+    words: &mut [u32],
     cores: &[u32],
+    order: &[u32],
+    place: &[u32],
     core: &mut [u8],
     scope: &mut [u8],
     hold: &mut [u32],
     group: &mut [u8],
+    shares: &mut [Share],
 ) -> Ratio
-    requires { ⌜ Searchable n m p q (now ends) (now weights) (now cores) (now scope) (now hold) (now group) ⌝ }
-    requires { ⌜ length (now core) ≡ n ⌝ }
-    ensures { λ r. ⌜ Group-found n m (now (ends .entry)) (now (weights .entry)) (now (scope .exit)) (now (hold .exit)) (now (group .exit))
-        (r .p) (r .q) true ⌝ }
+    requires { ⌜ Searchable n m p q (now words) (counts-of (now words)) (now cores) (now scope) (now hold) (now group) ⌝ }
+    requires { ⌜ Leaving-room n (now order) (now place) ⌝ }
+    requires { ⌜ (8192 ≤ length (now words)) × (length (now core) ≡ n) × (m ≤ length (now shares)) ⌝ }
+    ensures { λ r. ⌜ Gathering-found n m (now (words .entry)) (counts-of (now (words .entry))) (now (core .exit)) (now (scope .exit)) (now (hold .exit))
+        (now (shares .exit)) (now (group .exit)) (r .p) (r .q) ⌝ }
 {
-    let mut inner_ends = [0u32; 8192];
-    let mut inner_weights = [0u32; 4096];
     let mut inner_cores = [0u32; 512];
-    let mut units = [0u32; 8192];
-    let k = numbers::rounded_up(p, q);
-    groups::mark_at_least(n, k, cores, core);
-    let r = gather(
-        n,
-        m,
-        ends,
-        weights,
-        core,
-        &mut inner_ends,
-        &mut inner_weights,
-    );
+    let k = mark_core(n, numbers::rounded_up(p, q), cores, core);
+    let r = gather(n, m, core, words, shares);
     keep_at_least(n, k, cores, &mut inner_cores);
-    let best = find(
+    let gathered = &words[..];
+    find(
         n,
         r,
         effort,
         p,
         q,
-        &inner_ends,
-        &inner_weights,
+        gathered,
+        &gathered[8192..],
         &inner_cores,
+        order,
+        place,
         scope,
-        &mut units,
+        hold,
         group,
-    );
-    scatter(n, m, ends, core, &units, hold);
-    best
-}
-
-// The found group: among the pairs inside the core where the group at hand has less than half of all stops inside, else among all of them.
-pub(crate) fn find_best(
-    n: usize,
-    m: usize,
-    effort: Effort,
-    p: u32,
-    q: u32,
-    ends: &[u32],
-    weights: &[u32],
-    cores: &[u32],
-    core: &mut [u8],
-    scope: &mut [u8],
-    hold: &mut [u32],
-    group: &mut [u8],
-) -> Ratio
-    requires { ⌜ Searchable n m p q (now ends) (now weights) (now cores) (now scope) (now hold) (now group) ⌝ }
-    requires { ⌜ length (now core) ≡ n ⌝ }
-    ensures { λ r. ⌜ Group-found n m (now (ends .entry)) (now (weights .entry)) (now (scope .exit)) (now (hold .exit)) (now (group .exit))
-        (r .p) (r .q) true ⌝ }
-{
-    if p < total(m, weights) / 2 {
-        return find_in_core(
-            n,
-            m,
-            effort,
-            p,
-            q,
-            ends,
-            weights,
-            cores,
-            core,
-            scope,
-            hold,
-            group,
-        );
-    }
-    find(n, m, effort, p, q, ends, weights, cores, scope, hold, group)
+    )
 }

@@ -2,10 +2,12 @@
 //
 // It stands above the split search (crate `flow`) and knows only its promise. The densest remainder of the leaving order is the first group at
 // hand. Rounds lead from a group to a denser one until there is none (`search`: the Dinkelbach iteration for the maximal densest subgraph). Whatever
-// is as dense as the group at hand lies in the core of its ratio rounded up; so, where that group has less than half of the stops, the rounds go over
-// the pairs inside that core only (`gather`). The units that the last round leaves make the load sheet (`sheet`).
+// is as dense as the group at hand lies in the core of its ratio rounded up; so, where that core has few of the modules, the rounds go over the pairs
+// inside it only (`gather`). The units that the last round leaves make the load sheet (`sheet`).
 // Cost: peeling, and a few rounds over the core's pairs; ratios rise from round to round, so the rounds end. Nothing is refused, and 15 never comes.
 mod gather;
+mod packing;
+mod round;
 mod search;
 mod sheet;
 
@@ -14,10 +16,10 @@ ghost use mathlib.Core.List.{_++_};
 ghost use Prim.Native.Nat.{_≤_};
 ghost use lib.ListN.{length, drop};
 ghost use Rattle.theory.specs.Cores.{core-numbers};
-ghost use Rattle.theory.specs.Words.{list-in, Held-words};
+ghost use Rattle.theory.specs.Words.{laid-list, Holds-list};
 ghost use Rattle.densest.specs.Solve.{Is-solution, Solves};
 use flow::Searches;
-use gather::find_best;
+use gather::find_in_core;
 use sheet::Share;
 use sheet::write_shares;
 
@@ -44,39 +46,41 @@ fn solve_in(
     n: usize,
     m: usize,
     effort: Effort,
-    ends: &[u32],
-    weights: &[u32],
+    words: &mut [u32],
     core: &mut [u8],
     scope: &mut [u8],
     members: &mut [u8],
     cores: &mut [u32],
     shares: &mut [Share],
 ) -> Solution
-    requires { ⌜ Held-words n m (now ends) (now weights) ⌝ }
+    requires { ⌜ Holds-list n m (now words) ⌝ }
     requires { ⌜ (length (now core) ≡ n) × (length (now scope) ≡ n) ⌝ }
     requires { ⌜ (length (now members) ≡ n) × (n ≤ length (now cores)) × (length (now shares) ≡ m) ⌝ }
-    ensures { λ r. ⌜ now (cores .exit) ≡ core-numbers (list-in n m (now (ends .entry)) (now (weights .entry))) ++ drop n (now (cores .entry)) ⌝ }
-    ensures { λ r. ⌜ Is-solution (list-in n m (now (ends .entry)) (now (weights .entry))) (now (members .exit)) (now (shares .exit)) r ⌝ }
+    ensures { λ r. ⌜ now (cores .exit) ≡ core-numbers (laid-list n m (now (words .entry))) ++ drop n (now (cores .entry)) ⌝ }
+    ensures { λ r. ⌜ Is-solution (laid-list n m (now (words .entry))) (now (members .exit)) (now (shares .exit)) r ⌝ }
 {
     let mut order = [0u32; 512];
     let mut place = [0u32; 512];
     let mut hold = [0u32; 8192];
-    let start = peel::peel(n, m, 1, ends, weights, &mut order, cores, &mut place);
-    let best = find_best(
+    let list = &words[..];
+    let start = peel::peel(n, m, 1, list, &list[8192..], &mut order, cores, &mut place);
+    let best = find_in_core(
         n,
         m,
         effort,
         start.p,
         start.q,
-        ends,
-        weights,
+        words,
         cores,
+        &order,
+        &place,
         core,
         scope,
         &mut hold,
         members,
+        shares,
     );
-    write_shares(n, m, best.q, ends, weights, scope, &place, &hold, shares);
+    write_shares(n, m, best.q, core, scope, &place, &hold, shares);
     let searches = best.searches;
     Solution {
         p: best.p,
@@ -88,20 +92,19 @@ fn solve_in(
 }
 
 // The found group's member bytes, the core numbers, a share for each pair, and the numbers of solve's record. Entries past the first n and the first m
-// are as they were. Any effort gives such an answer.
+// are as they were. The list lies in the words before; what they hold afterwards is free. Any effort gives such an answer.
 pub fn solve(
     n: usize,
     m: usize,
     effort: Effort,
-    ends: &[u32],
-    weights: &[u32],
+    words: &mut [u32],
     members: &mut [u8],
     cores: &mut [u32],
     shares: &mut [Share],
 ) -> Solution
-    requires { ⌜ Held-words n m (now ends) (now weights) ⌝ }
+    requires { ⌜ Holds-list n m (now words) ⌝ }
     requires { ⌜ (n ≤ length (now members)) × (n ≤ length (now cores)) × (m ≤ length (now shares)) ⌝ }
-    ensures { λ r. ⌜ Solves (list-in n m (now (ends .entry)) (now (weights .entry))) (now (members .entry)) (now (cores .entry)) (now (shares .entry))
+    ensures { λ r. ⌜ Solves (laid-list n m (now (words .entry))) (now (members .entry)) (now (cores .entry)) (now (shares .entry))
         (now (members .exit)) (now (cores .exit)) (now (shares .exit)) r ⌝ }
 {
     let mut core = [0u8; 512];
@@ -110,8 +113,7 @@ pub fn solve(
         n,
         m,
         effort,
-        ends,
-        weights,
+        words,
         &mut core[..n],
         &mut scope[..n],
         &mut members[..n],

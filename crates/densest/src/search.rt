@@ -183,7 +183,7 @@ pub(crate) fn find(
     let mut starts = [0u32; 513];
     let mut arcs = [0u32; 8192];
     let phases = effort.phases;
-    let linked = fewer(effort.arcs, m);
+    let linked = fewer(effort.links, m);
     let best = search(
         n,
         m,

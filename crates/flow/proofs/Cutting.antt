@@ -22,6 +22,7 @@ use Rattle.theory.proofs.Groups.{in-lt, size-in}
 use Rattle.slots.specs.Slots.{mate, held-inside, slot-load, staying, Ends, Loads, Kept}
 use Rattle.slots.proofs.Choice.{eq-or-ne, lt-or-le}
 use Rattle.slots.proofs.Totals.{total-le, total-lt, total-pairs}
+use Rattle.slots.proofs.Buffers.{good-bytes}
 use Rattle.slots.proofs.Mates.{mates, mate-even, mate-odd, slot-cases}
 use Rattle.slots.proofs.Held.{held-some}
 use Rattle.slots.proofs.Counting.{held-of, over-most, over-more, loads-over, pair-most, inside-most}
@@ -31,11 +32,6 @@ use Rattle.flow.specs.Drain.{Drained}
 use Rattle.flow.proofs.Leads.{leads-facts, leads-of, closed-empty}
 
 -- ---- a set as bytes
-
-good-bytes : (t : List ℕ) → ((v : ℕ) → v < length t → getD t v 0 ≤ 1) → bytes-good t ≡ true
-unfolding bytes-good
-good-bytes [] h = refl
-good-bytes (x ∷ xs) h = simp tests (h 0 (omega arith), good-bytes xs (λ v l. h (suc v) (omega arith)))
 
 module _ {n : ℕ} {rank t : List ℕ} (k : Marked n rank t) where
   marked-bit : (v : ℕ) → v < n → ((0 < getD rank v 0) × (getD t v 0 ≡ 1)) ⊎ ((getD rank v 0 ≡ 0) × (getD t v 0 ≡ 0))

@@ -1,18 +1,21 @@
--- Buffers that are written from the front, one entry at a time.
+-- Buffers that are written from the front, one entry at a time, and buffers of member bytes.
 --   written-none, written-next    no entry; one entry more
 --   written-all                   all n entries, and what stood past them
+--   good-bytes                    entries of at most 1 are member bytes
 -- Assumes nothing.
 use mathlib.Core.Path.{_≡_, refl, sym, _∙_}
 use mathlib.Core.Bool.{Bool, true, false}
-use mathlib.Core.List.{List, _++_}
-use Prim.Native.Nat.{ℕ, _+_, _-_, _≤_, _<_}
+use mathlib.Core.List.{List, [], _∷_, _++_}
+use Prim.Native.Nat.{ℕ, suc, _+_, _-_, _≤_, _<_}
 use native.Mathlib.Omega.{arith}
 use lib.Dec.{leb}
 use lib.ListN.{length, getD, set, drop, length-set, length-append, length-drop, List·getD-append}
 use lib.Seq.{getD-set-other, getD-append-add, getD-drop, ext-getD}
 use borrow.Author.Tests.{leb-true, leb-false}
 use Rattle.theory.specs.Basics.{table}
+use Rattle.theory.specs.Groups.{bytes-good}
 use Rattle.theory.proofs.Tables.{length-table, table-at}
+use Rattle.theory.proofs.Tests.{tests}
 use Rattle.slots.specs.Buffers.{Written-front}
 use Rattle.slots.proofs.Choice.{stored-more}
 
@@ -48,3 +51,9 @@ written-all n f old new h w =
         w .front i lt
         ∙ sym (table-at n f i 0 lt)
         ∙ sym (List·getD-append (table n f) (drop n old) 0 i (omega (arith, length-table n f)))
+
+-- entries of at most 1 are member bytes
+pub good-bytes : (t : List ℕ) → ((v : ℕ) → v < length t → getD t v 0 ≤ 1) → bytes-good t ≡ true
+unfolding bytes-good
+good-bytes [] h = refl
+good-bytes (x ∷ xs) h = simp tests (h 0 (omega arith), good-bytes xs (λ v l. h (suc v) (omega arith)))

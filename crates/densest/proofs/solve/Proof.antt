@@ -3,14 +3,14 @@ use mathlib.Core.Path.{_≡_, sym, _∙_}
 use Prim.Native.Nat.{ℕ, _≤_}
 use lib.ListN.{length, take, replicate}
 use lib.Seq.{length-take-le}
-use Rattle.slots.proofs.Words.{few-modules}
+use Rattle.theory.proofs.Words.{holds-few}
 use Rattle.densest.proofs.Solving.{solves-of}
 use borrow.Author.Needs.{needs}
 use Rattle.densest.proofs.solve.Statement.{statement}
 use Rattle.densest.proofs.solve.Tie as tie
 
 few : (s : tie.Start) → s .args .n ≤ 512
-few s = few-modules _ _ _ _ (s .pre .0 .listed)
+few s = holds-few (s .args .n) (s .args .m) (s .args .words .now) (s .pre .0 .listed) .0
 
 -- the front of a buffer of 512 bytes
 front-long : (s : tie.Start) → length (take (s .args .n) (replicate {A = ℕ} 512 0)) ≡ s .args .n
@@ -47,13 +47,13 @@ solve-in-requires c κs =
 
 returns : tie.Need-returns
 returns c =
-    let k = c .before .before .before .before .before .before .before .before in
+    let k = c .before .before .before .before .before .before .before .before .before .before in
     let s = k .before .before .before .before .before .before .before .before .before .before .before in
     let i = k .solve-in in
     let a = s .args in
-    solves-of (a .n) (a .m) (a .ends .now) (a .weights .now) (a .members .now) (a .cores .now) (a .shares .now) (i .last .1 .1 .1 .1 .1 .1 .1 .0) _
-    (i .last .1 .1 .1 .1 .1 .1 .1 .1 .1 .0) _ (s .pre .1 .0) (s .pre .1 .2) (i .kept .1 .1 .1 .1 .1 .1 .1 .0 ∙ members-long s)
-    (i .kept .1 .1 .1 .1 .1 .1 .1 .1 .1 .0 ∙ shares-long s) (i .ensures .0) (i .ensures .1)
+    solves-of (a .n) (a .m) (a .words .now) (a .members .now) (a .cores .now) (a .shares .now) (i .last .1 .1 .1 .1 .1 .1 .0) _
+    (i .last .1 .1 .1 .1 .1 .1 .1 .1 .0) _ (s .pre .1 .0) (s .pre .1 .2) (i .kept .1 .1 .1 .1 .1 .1 .0 ∙ members-long s)
+    (i .kept .1 .1 .1 .1 .1 .1 .1 .1 .0 ∙ shares-long s) (i .ensures .0) (i .ensures .1)
 
 pub solve-spec : {M : Type 1} → statement M
 solve-spec =
@@ -68,6 +68,7 @@ solve-spec =
     (λ c. search needs)
     slice-aggregate-solve-in-4
     solve-in-requires
+    (λ c. search needs)
     (λ c. search needs)
     (λ c. search needs)
     (λ c. search needs)

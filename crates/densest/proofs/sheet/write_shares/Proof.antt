@@ -1,74 +1,74 @@
--- `densest::sheet::write_shares` meets its contract: the shares passed are written. Assumes nothing.
+-- `densest::sheet::write_shares` meets its contract: the shares of the pairs passed are written. Assumes nothing.
 use native.Mathlib.Omega.{arith}
-use native.Mathlib.Nat.{mul-le-mul-left, mul-le-mul-right}
-use mathlib.Core.Path.{_≡_, refl}
-use Prim.Native.Nat.{ℕ, _*_, _-_, _≤_, _<_}
-use lib.ListN.{length, getD, length-set}
-use Rattle.slots.specs.Slots.{Ends}
-use Rattle.slots.proofs.Choice.{stored-more}
-use Rattle.slots.proofs.Words.{few-pairs, good-pair, list-ends}
-use Rattle.densest.specs.Search.{sheet-share}
-use Rattle.densest.proofs.Sheets.{sheet-share-is}
+use mathlib.Core.Path.{ap, _∙_}
+use Prim.Native.Nat.{_-_, _<_}
+use lib.ListN.{getD}
+use Rattle.theory.specs.Groups.{holds-pair}
+use Rattle.densest.specs.Gather.{unpacked}
+use Rattle.densest.proofs.Gathering.{bit-le, Inner-passed, passed-start, passed-next}
+use Rattle.densest.proofs.Sheets.{packed-at, Writing, writing-start, pair-same, writing-low, writing-next, writing-end}
 use Rattle.densest.proofs.sheet.write_shares.Statement.{statement}
 use Rattle.densest.proofs.sheet.write_shares.Tie as tie
 
 abbrev Inv-loop : tie.InvT-loop
-Inv-loop n m q ends weights scope place hold shares₀ j₀ shares j =
-    (m ≤ 4096) × (m ≤ length weights) × (2 * m ≤ length hold) × (m ≤ length shares₀) × (length shares ≡ length shares₀) × (j ≤ m)
-    × ((i : ℕ) → i < j → getD shares i 0 ≡ sheet-share q ends weights scope place hold i)
+Inv-loop n m q core scope place hold shares₀ i₀ j₀ shares i j =
+    Inner-passed m j i (packed-at shares₀) core × Writing j q core scope place hold shares₀ shares
 
 abbrev μ-loop : tie.MeasureT-loop
-μ-loop n m q ends weights scope place hold shares₀ j₀ shares j = m - j
+μ-loop n m q core scope place hold shares₀ i₀ j₀ shares i j = m - j
 
--- the function's entry, and the list's ends
+-- the function's entry
 abbrev begin : tie.At-loop Inv-loop μ-loop → tie.Start Inv-loop μ-loop
-begin c = c .before .before .before .before .before .before .before
+begin c = c .before .before .before .before .before .before
 
-ends-of : (s : tie.Start Inv-loop μ-loop) → Ends (s .args .n) (s .args .m) (s .args .ends .now)
-ends-of s = list-ends _ _ _ _ (s .pre .0 .listed) (s .pre .0 .ends-long)
+-- pair j has ends below n
+low : (c : tie.In-loop Inv-loop μ-loop) →
+    (unpacked (getD (c .before .loop .shares) (c .before .loop .j) 0) .a < begin (c .before) .args .n)
+    × (unpacked (getD (c .before .loop .shares) (c .before .loop .j) 0) .b < begin (c .before) .args .n)
+low c = writing-low (omega arith) (c .before .loop .inv .1) (begin (c .before) .pre .1 .1 .1)
 
 loop-holds : tie.Need-loop-holds Inv-loop μ-loop
-loop-holds c =
-    let k = c .before .before .before .before .before .before .pre in
-    (few-pairs _ _ _ _ (k .0 .listed), k .0 .weights-long, k .1 .1 .1 .0, k .1 .1 .1 .1, refl, omega arith, λ i h. absurd (omega arith))
+loop-holds c = (passed-start _ _ _, writing-start _ _ _ _ _ _)
 
-first-left-requires : tie.Need-first-left-requires Inv-loop μ-loop
-first-left-requires c κs = let s = begin (c .before) in (ends-of s, (omega arith, s .pre .1 .1 .0 .1))
-
-mul-pick-2 : tie.Need-mul-pick-2 Inv-loop μ-loop
-mul-pick-2 c =
-    let l = c .before .before .before in
-    let s = begin l in
-    let w = good-pair (s .args .n) (s .args .m) (s .args .ends .now) (s .args .weights .now) (s .pre .0 .listed) (l .loop .j) (omega arith) .light in
-    omega (arith, mul-le-mul-right (s .args .q) w, mul-le-mul-left 1000 (s .pre .1 .0))
+forced-requires : tie.Need-forced-requires Inv-loop μ-loop
+forced-requires c κs =
+    let t = c .before in
+    let l = low t in
+    let s = begin (t .before) in
+    (s .pre .0, (omega arith, omega arith))
 
 inner-requires : tie.Need-inner-requires Inv-loop μ-loop
-inner-requires c κs = let s = begin (c .before .before .before .before) in (ends-of s, (omega arith, s .pre .1 .1 .0 .0))
+inner-requires c κs =
+    let t = c .before .before in
+    let l = low t in
+    (omega arith, omega arith)
+
+inner-requires-2 : tie.Need-inner-requires-2 Inv-loop μ-loop
+inner-requires-2 c κs =
+    let t = c .before .before .before .before .before in
+    let l = low t in
+    (omega arith, omega arith)
+
+add-i : tie.Need-add-i Inv-loop μ-loop
+add-i c = let e = bit-le (c .before .inner2 .result) in omega arith
 
 loop-again : tie.Need-loop-again Inv-loop μ-loop
 loop-again c =
-    let t = c .before .before .before .before .before .before .before in
-    let a = begin t .args in
-    let l = t .loop in
-    let i = l .inv in (
-      i .0,
-      i .1,
-      i .2,
-      i .3,
-      simp length-set (i .4),
-      omega arith,
-      stored-more (λ x y. y ≡ sheet-share (a .q) (a .ends .now) (a .weights .now) (a .scope .now) (a .place .now) (a .hold .now) x)
-          (l .shares) (l .j) (c .share .result) (omega arith) (i .6)
-          (sheet-share-is (a .q) (a .ends .now) (a .weights .now) (a .scope .now) (a .place .now) (a .hold .now) (l .j) _ _ _ _
-          (c .before .before .before .before .before .first-left .ensures)
-          (c .before .before .before .pick .ensures) (c .before .before .inner .ensures) (c .share .ensures)),
+    let w = c .before .before in
+    let t = w .before .before .before .before .before in
+    let i = t .before .loop .inv in
+    let s = begin (t .before) in (
+      passed-next _ _ (i .0) (omega arith) (c .before .inner2 .ensures ∙ ap (holds-pair (s .args .core .now)) (pair-same (i .1)))
+          (c .one-if .ensures),
+      writing-next (omega arith) (i .1) _ _ _ (i .0) (s .pre .1 .1 .0 .2) (w .before .before .inner .ensures) (w .before .before .before .forced .ensures)
+          (w .share .ensures),
     )
 
 same-length : tie.Need-same-length Inv-loop μ-loop
-same-length c = c .before .loop .inv .4
+same-length c = c .before .loop .inv .1 .long
 
 returns : tie.Need-returns Inv-loop μ-loop
-returns c = λ j h. c .before .loop .inv .6 j (omega arith)
+returns c = let i = c .before .loop .inv in writing-end (i .0) (omega arith) (i .1)
 
 pub write-shares-spec : {M : Type 1} → statement M
 write-shares-spec =
@@ -77,11 +77,9 @@ write-shares-spec =
     Inv-loop
     μ-loop
     loop-holds
-    first-left-requires
     (λ c. omega arith)
     (λ c. omega arith)
-    mul-pick-2
-    (λ c κs. tt)
+    forced-requires
     inner-requires
     (λ c. omega arith)
     (λ c. omega arith)
@@ -89,6 +87,9 @@ write-shares-spec =
     (λ c κs. tt)
     (λ c. omega arith)
     (λ c. omega arith)
+    inner-requires-2
+    (λ c κs. tt)
+    add-i
     (λ c. omega arith)
     (λ c. omega arith)
     loop-again
