@@ -2,8 +2,8 @@
 //
 // A phase gives each module a label: its distance from a module of the scope loaded below p, along slots that hold units (breadth first,
 // backward). Active modules, those loaded above p, are then queued. The first one sends what it has too much to modules with a lower label, along its
-// links from where it stopped last (discharge). If it still has too much, it gets a label just above the lowest that it can reach (relabel), and is queued
-// again. Where the queue's 1,024 places are used up, the phase ends.
+// arcs from where it stopped last (discharge). If it still has too much, it gets a label just above the lowest that it can reach (relabel), and is queued
+// again. Where the queue's 640 places are used up, the phase ends. Where most of what modules have above p cannot move on, no phase helps: the phases end.
 // Whatever the labels say, units move within pairs only (`slots::shift`): the promise is that a split stays a split. How well it is balanced is free.
 // Cost: a phase takes a step for each slot of the modules that it labels and of those that come up in the queue. Nothing is refused.
 mod discharge;
@@ -11,63 +11,63 @@ mod labels;
 mod queue;
 
 use discharge::discharge_all;
+pub use labels::FAR;
 use labels::label_all;
+use numbers::pick;
 use queue::queue_active;
 use slots::copy;
+use std::num::wrapping_add_u32;
+use std::num::wrapping_sub_u32;
 ghost use Prim.Native.Nat.{_*_, _≤_};
 ghost use lib.ListN.{length};
 ghost use Rattle.slots.specs.Slots.{Ends, Room, Covers, Kept};
+ghost use Rattle.arcs.specs.Arcs.{Arc-room};
 
-// One phase; false where it found nobody whose units can go to a module loaded below p.
+// What x has above p.
+pub(crate) fn over(p: u32, x: u32) -> u32 {
+    if p < x { x - p } else { 0 }
+}
+
+// One phase, with labels as `label_all` leaves them; false where nobody whom it reached is active.
 fn phase(
     n: usize,
     m: usize,
     p: u32,
-    scope: &[u8],
+    count: usize,
+    reached: &[u32],
     ends: &[u32],
-    first: &[u32],
-    next: &[u32],
+    starts: &[u32],
+    arcs: &[u32],
     hold: &mut [u32],
     load: &mut [u32],
+    label: &mut [u32],
 ) -> bool
-    requires { ⌜ n ≤ 512 ⌝ }
+    requires { ⌜ (n ≤ 512) × (count ≤ length (now reached)) ⌝ }
     requires { ⌜ Ends n m (now ends) ⌝ }
-    requires { ⌜ (n ≤ length (now scope)) × (n ≤ length (now first)) × (2 * m ≤ length (now next)) ⌝ }
+    requires { ⌜ Arc-room n (now starts) (now arcs) ⌝ }
     requires { ⌜ Room m (now hold) ⌝ }
     requires { ⌜ Covers n m (now ends) (now hold) (now load) ⌝ }
+    requires { ⌜ (512 ≤ length (now load)) × (512 ≤ length (now label)) ⌝ }
     ensures { λ r. ⌜ Kept n m (now (ends .entry)) (now (hold .entry)) (now (load .entry)) (now (hold .exit)) (now (load .exit)) ⌝ }
 {
-    let mut label = [0u32; 512];
-    let mut arc = [0u32; 512];
-    let mut reached = [0u32; 512];
-    let mut queue = [0u32; 1024];
-    let count = label_all(
-        n,
-        m,
-        p,
-        scope,
-        ends,
-        first,
-        next,
-        hold,
-        load,
-        &mut label,
-        &mut reached,
-    );
-    let active = queue_active(n, p, count, &reached, load, &mut queue);
-    copy(n, first, &mut arc);
+    let mut current = [0u32; 512];
+    let mut sizes = [0u32; 513];
+    let mut queue = [0u32; 640];
+    let active = queue_active(p, count, reached, load, label, &mut sizes, &mut queue);
+    copy(n, starts, &mut current);
     discharge_all(
         n,
         m,
         p,
         active,
         ends,
-        first,
-        next,
+        starts,
+        arcs,
         hold,
         load,
-        &mut label,
-        &mut arc,
+        label,
+        &mut current,
+        &mut sizes,
         &mut queue,
     );
     active > 0
@@ -87,7 +87,27 @@ fn any_active(n: usize, p: u32, load: &[u32]) -> bool
     false
 }
 
-// At most `most` phases, as long as a module is loaded above p and units of one can still move on. How well they balance the loads is free: whatever
+// Whether the far modules have most of what lies above p.
+fn any_stuck(n: usize, p: u32, load: &[u32], label: &[u32]) -> bool
+    requires { ⌜ (n ≤ length (now load)) × (n ≤ length (now label)) ⌝ }
+{
+    let mut all = 0;
+    let mut stuck = 0;
+    let mut v = 0;
+    while v < n {
+        let x = over(p, load[v]);
+        all = wrapping_add_u32(all, x);
+        stuck = wrapping_add_u32(stuck, pick(label[v] == FAR, x));
+        v = v + 1;
+    }
+    if stuck == 0 {
+        return false;
+    }
+    wrapping_sub_u32(all, stuck) <= stuck
+}
+
+// At most `most` phases, as long as a module is loaded above p and units of one can still move on. True where they ended because most of what lies above p
+// is stuck: `label` is FAR then for the modules of the scope from which nothing can go. How well they balance the loads is free, and so is `label`: whatever
 // moves, it moves within pairs.
 pub fn phases(
     n: usize,
@@ -96,26 +116,57 @@ pub fn phases(
     most: usize,
     scope: &[u8],
     ends: &[u32],
-    first: &[u32],
-    next: &[u32],
+    starts: &[u32],
+    arcs: &[u32],
     hold: &mut [u32],
     load: &mut [u32],
-)
+    label: &mut [u32],
+) -> bool
     requires { ⌜ n ≤ 512 ⌝ }
     requires { ⌜ Ends n m (now ends) ⌝ }
-    requires { ⌜ (n ≤ length (now scope)) × (n ≤ length (now first)) × (2 * m ≤ length (now next)) ⌝ }
+    requires { ⌜ Arc-room n (now starts) (now arcs) ⌝ }
     requires { ⌜ Room m (now hold) ⌝ }
     requires { ⌜ Covers n m (now ends) (now hold) (now load) ⌝ }
+    requires { ⌜ (n ≤ length (now scope)) × (512 ≤ length (now load)) × (512 ≤ length (now label)) ⌝ }
     ensures { λ r. ⌜ Kept n m (now (ends .entry)) (now (hold .entry)) (now (load .entry)) (now (hold .exit)) (now (load .exit)) ⌝ }
 {
+    let mut reached = [0u32; 512];
     let mut left = most;
     while left > 0 {
         left = left - 1;
         if !any_active(n, p, load) {
-            return;
+            return false;
         }
-        if !phase(n, m, p, scope, ends, first, next, hold, load) {
-            return;
+        let count = label_all(
+            n,
+            m,
+            p,
+            scope,
+            starts,
+            arcs,
+            hold,
+            load,
+            label,
+            &mut reached,
+        );
+        if any_stuck(n, p, load, label) {
+            return true;
+        }
+        if !phase(
+            n,
+            m,
+            p,
+            count,
+            &reached,
+            ends,
+            starts,
+            arcs,
+            hold,
+            load,
+            label,
+        ) {
+            return false;
         }
     }
+    false
 }

@@ -4,30 +4,23 @@ use borrow.Author.Needs.{needs}
 use Rattle.push.proofs.phase.Statement.{statement}
 use Rattle.push.proofs.phase.Tie as tie
 
-label-all-requires : tie.Need-label-all-requires
-label-all-requires c κs =
-    let q = c .before .before .before .before .before .before .before .before .before .before .pre in
-    (q .0, (q .1 .0, ((q .1 .1 .0 .0, q .1 .1 .1 .1 .long), ((q .1 .1 .0 .1, q .1 .1 .0 .2, q .1 .1 .1 .0 .long), q .0))))
-
 discharge-all-requires : tie.Need-discharge-all-requires
 discharge-all-requires c κs =
-    let a = c .before .before .before .before .before .before .before .before .before .before .before .before .before .before .before in
-    let l = a .label-all in
-    let u = c .before .before .before .before .before .before .before .before .before .queue-active in
-    let q = a .before .before .before .before .before .before .before .before .before .before .before .pre in (
-      q .0,
+    let q = c .before .before .before .before .before .before .before .before .before .before .before .before .before .before .before .before .before .before .before .before .before .before .before .pre in
+    let u = c .before .before .before .before .before .before .before .before .before .before .before .queue-active in
+    let l = q .1 .1 .1 .1 .1 in (
+      q .0 .0,
       (
         q .1 .0,
         (
-          (q .1 .1 .0 .1, q .1 .1 .0 .2),
+          q .1 .1 .0,
           (
             q .1 .1 .1 .0,
             (
-              q .1 .1 .1 .1,
+              q .1 .1 .1 .1 .0,
               (
-                omega (arith, q .0, l .kept .1 .1 .1 .1 .1 .1 .1 .1 .1 .0),
-                omega (arith, q .0, c .before .before .before .before .before .before .copy .kept .1 .1 .0),
-                omega (arith, u .ensures, u .kept .1 .1 .1 .1 .1 .0),
+                (l .0, l .1, omega (arith, c .before .before .before .before .before .before .before .copy .kept .1 .1 .0)),
+                (omega (arith, u .kept .1 .1 .1 .1 .1 .0), omega (arith, u .ensures, u .kept .1 .1 .1 .1 .1 .1 .0)),
               ),
             ),
           ),
@@ -41,9 +34,6 @@ phase-spec =
     (tie.spec
     (λ c. search needs)
     (λ c. search needs)
-    label-all-requires
-    (λ c. search needs)
-    (λ c. search needs)
     (λ c κs. search needs)
     (λ c. search needs)
     (λ c κs. search needs)
@@ -51,6 +41,7 @@ phase-spec =
     (λ c. search needs)
     (λ c. search needs)
     discharge-all-requires
+    (λ c. search needs)
     (λ c. search needs)
     (λ c. search needs)
     (λ c. search needs))

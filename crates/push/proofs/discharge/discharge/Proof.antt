@@ -1,86 +1,124 @@
--- `push::discharge::discharge` meets its contract. Assumes nothing.
+-- `push::discharge::discharge` meets its contract: units move in `push_from` alone. Assumes nothing.
 use native.Mathlib.Omega.{arith}
+use mathlib.Core.Path.{_≡_}
+use Prim.Native.Nat.{_+_, _≤_}
 use Rattle.slots.proofs.Moves.{kept-room}
 use borrow.Author.Needs.{needs}
 use Rattle.push.proofs.discharge.discharge.Statement.{statement}
 use Rattle.push.proofs.discharge.discharge.Tie as tie
 
--- the function's entry, and what is left of the relabelling
+-- the function's entry
 abbrev begin : tie.After-push-from → tie.Start
-begin c = c .before .before .before .before .before .before .before .before .before .before .before .before .before .before
-
-abbrev pushed : tie.After-relabel → tie.After-push-from
-pushed c = c .before .before .before .before .before .before .before .before .before .before .before .before .before
+begin c = c .before .before .before .before .before .before .before .before .before .before .before .before .before .before .before .before .before .before .before .before .before .before
 
 push-from-requires : tie.Need-push-from-requires
 push-from-requires c κs =
-    let q = c .before .before .before .before .before .before .before .before .before .before .before .before .before .pre in
-    let b = q .1 .1 .1 .1 .1 in
-    (q .1 .0, ((q .1 .1 .0 .0, q .1 .1 .0 .2, b .0), (q .1 .1 .1 .0, (q .1 .1 .1 .1 .0, (b .1, b .2)))))
+    let s = c .before .before .before .before .before .before .before .before .before .before .before .before .before .before .before .before .before .before .before .before .before in
+    let q = s .pre in
+    let l = q .1 .1 .1 .1 .1 .0 in (
+      (q .0 .0, q .0 .1, omega (arith, c .before .before .before .before .wide3 .ensures, q .1 .1 .0 .within (s .args .v + 1) (omega arith)), q .1 .1 .0 .arcs-long),
+      (q .1 .0, (q .1 .1 .1 .0, (q .1 .1 .1 .1 .0, (l .1, l .0, q .1 .1 .1 .1 .1 .1 .1)))),
+    )
+
+mul-if1 : tie.Need-mul-if1
+mul-if1 c = let q = begin (c .before .before .before .before .before .before) .pre in omega (arith, q .0, q .1 .1 .1 .1 .1 .0)
 
 slice-read-if1 : tie.Need-slice-read-if1
-slice-read-if1 c =
-    let p = c .before .before .before .before .before .before .before .before .before in
-    let q = begin p .pre in
-    omega (arith, q .1 .1 .0 .0, q .1 .1 .1 .1 .0 .long, p .push-from .ensures .1 .load-long)
+slice-read-if1 c = let f = c .before .before .before .before .before .before .before in let q = begin f .pre in omega (arith, q .0, q .1 .1 .1 .1 .1 .0, f .push-from .ensures .1 .load-long)
 
-relabel-requires : tie.Need-relabel-requires
-relabel-requires c κs =
-    let p = c .before .before .before .before .before .before .before .before .before .before .before .before in
-    let q = begin p .pre in
-    (q .1 .0, ((omega (arith, q .1 .1 .0 .0, q .1 .1 .0 .1), q .1 .1 .0 .2, kept-room (p .push-from .ensures .1) (q .1 .1 .1 .0) .long), q .1 .1 .1 .1 .1 .0))
+mul-current : tie.Need-mul-current
+mul-current c = let q = begin (c .before .before .before .before .before .before .before .before) .pre in omega (arith, q .0, q .1 .1 .1 .1 .1 .0)
+
+slice-write-current : tie.Need-slice-write-current
+slice-write-current c = let q = begin (c .before .before .before .before .before .before .before .before) .pre in omega (arith, q .0, q .1 .1 .1 .1 .1 .0)
+
+lowest-requires : tie.Need-lowest-requires
+lowest-requires c κs =
+    let f = c .before .before .before .before .before .before .before .before .before .before in
+    let s = begin f in
+    let q = s .pre in (
+      (
+        q .1 .0 .few,
+        omega (arith, c .before .before .before .before .before .before .before .before .before .before .before .before .before .before .before .before .before .wide2 .ensures, c .before .before .before .before .before .before .before .before .before .before .before .before .before .before .before .before .before .before .lesser .ensures, q .1 .1 .0 .within (s .args .v + 1) (omega arith), q .1 .1 .0 .arcs-long),
+        kept-room (f .push-from .ensures .1) (q .1 .1 .1 .0) .long,
+      ),
+      q .1 .1 .1 .1 .1 .0 .1,
+    )
+
+take-label-requires : tie.Need-take-label-requires
+take-label-requires c κs = begin (c .before .before .before .before .before .before .before .before .before .before .before .before .before) .pre .1 .1 .1 .1 .1 .1 .0
 
 mul-label : tie.Need-mul-label
-mul-label c = let q = begin (pushed c) .pre in omega (arith, q .0, q .1 .1 .0, q .1 .1 .1 .1 .1)
+mul-label c = let q = begin (c .before .before .before .before .before .before .before .before .before .before .before .before .before .before .before .before) .pre in omega (arith, q .0, q .1 .1 .1 .1 .1 .0)
 
 slice-write-label : tie.Need-slice-write-label
-slice-write-label c = let q = begin (pushed c) .pre in omega (arith, q .0, q .1 .1 .0, q .1 .1 .1 .1 .1)
+slice-write-label c = let q = begin (c .before .before .before .before .before .before .before .before .before .before .before .before .before .before .before .before) .pre in omega (arith, q .0, q .1 .1 .1 .1 .1 .0)
 
-mul-arc : tie.Need-mul-arc
-mul-arc c = let q = begin (pushed c) .pre in omega (arith, q .0, q .1 .1 .0, q .1 .1 .1 .1 .1)
+mul-current-2 : tie.Need-mul-current-2
+mul-current-2 c = let q = begin (c .before .before .before .before .before .before .before .before .before .before .before .before .before .before .before .before) .pre in omega (arith, q .0, q .1 .1 .1 .1 .1 .0)
 
-shared-slice-read-arc : tie.Need-shared-slice-read-arc
-shared-slice-read-arc c = let q = begin (pushed (c .before)) .pre in omega (arith, q .0, q .1 .1 .0, q .1 .1 .1 .1 .1)
+shared-slice-read-current : tie.Need-shared-slice-read-current
+shared-slice-read-current c = let q = begin (c .before .before .before .before .before .before .before .before .before .before .before .before .before .before .before .before .before) .pre in omega (arith, q .0, q .1 .1 .0 .starts-long)
 
-mul-arc-2 : tie.Need-mul-arc-2
-mul-arc-2 c = let q = begin (pushed (c .before)) .pre in omega (arith, q .0, q .1 .1 .0, q .1 .1 .1 .1 .1)
+mul-current-3 : tie.Need-mul-current-3
+mul-current-3 c = let q = begin (c .before .before .before .before .before .before .before .before .before .before .before .before .before .before .before .before .before) .pre in omega (arith, q .0, q .1 .1 .1 .1 .1 .0)
 
-slice-write-arc : tie.Need-slice-write-arc
-slice-write-arc c =
-    let p = pushed (c .before) in
-    let q = begin p .pre in
-    omega (arith, q .1 .1 .0 .0, q .1 .1 .1 .1 .1 .1, p .push-from .kept .1 .1 .1 .1 .1 .1 .1 .1 .1 .1 .0)
+slice-write-current-2 : tie.Need-slice-write-current-2
+slice-write-current-2 c = let q = begin (c .before .before .before .before .before .before .before .before .before .before .before .before .before .before .before .before .before) .pre in omega (arith, q .0, q .1 .1 .1 .1 .1 .0)
 
-cast-enqueue : tie.Need-cast-enqueue
-cast-enqueue c = let q = begin (pushed (c .before .before)) .pre in omega (arith, q .0, q .1 .1 .0, q .1 .1 .1 .1 .1)
+enqueue-requires : tie.Need-enqueue-requires
+enqueue-requires c κs =
+    let f = c .before .before .before .before .before .before .before .before .before .before .before .before .before .before .before .before .before .before .before in
+    (omega (arith, begin f .pre .0), (omega arith, omega (arith, f .push-from .ensures .0, f .push-from .kept .1 .1 .1 .1 .1 .1 .1 .1 .1 .1 .1 .1 .1 .0)))
+
+returns-2 : tie.Need-returns-2
+returns-2 c = let f = c .before .before .before .before .before .before .before .before .before .before .before .before .before .before .before .before .before .before .before .before .before .before in (omega (arith, c .before .before .enqueue .ensures, f .push-from .kept .1 .1 .1 .1 .1 .1 .1 .1 .1 .1 .1 .1 .1 .0), f .push-from .ensures .1)
 
 pub discharge-spec : {M : Type 1} → statement M
 discharge-spec =
     tie.close
     (tie.spec
-    push-from-requires
     (λ c. search needs)
-    slice-read-if1
-    relabel-requires
-    mul-label
-    slice-write-label
-    mul-arc
-    shared-slice-read-arc
-    mul-arc-2
-    slice-write-arc
-    cast-enqueue
+    (λ c. search needs)
     (λ c κs. search needs)
     (λ c. search needs)
     (λ c. search needs)
     (λ c. search needs)
     (λ c. search needs)
     (λ c. search needs)
+    (λ c κs. search needs)
+    (λ c κs. search needs)
+    (λ c. search needs)
+    (λ c. search needs)
+    (λ c κs. search needs)
+    push-from-requires
+    mul-if1
+    slice-read-if1
+    mul-current
+    slice-write-current
     (λ c. search needs)
     (λ c. search needs)
     (λ c. search needs)
     (λ c. search needs)
     (λ c. search needs)
     (λ c. search needs)
+    lowest-requires
+    (λ c κs. search needs)
+    take-label-requires
+    mul-label
+    slice-write-label
+    mul-current-2
+    shared-slice-read-current
+    mul-current-3
+    slice-write-current-2
+    enqueue-requires
+    (λ c. search needs)
+    (λ c. search needs)
+    (λ c. search needs)
+    (λ c. search needs)
+    (λ c. search needs)
+    (λ c. search needs)
+    returns-2
     (λ c. search needs)
     (λ c. search needs)
     (λ c. search needs)

@@ -9,53 +9,59 @@ use Rattle.push.proofs.discharge.discharge_all.Statement.{statement}
 use Rattle.push.proofs.discharge.discharge_all.Tie as tie
 
 abbrev Inv-loop : tie.InvT-loop
-Inv-loop n m p count ends first next hold₀ load₀ label₀ arc₀ queue₀ at₀ tail₀ hold load label arc queue at tail =
-    Kept n m ends hold₀ load₀ hold load × (at ≤ length queue) × (tail ≤ length queue)
-    × (length queue ≡ length queue₀) × (length label ≡ length label₀) × (length arc ≡ length arc₀)
+Inv-loop n m p count ends starts arcs hold₀ load₀ label₀ current₀ sizes₀ queue₀ at₀ tail₀ hold load label current sizes queue at tail =
+    Kept n m ends hold₀ load₀ hold load × (at ≤ length queue) × (tail ≤ length queue) × (length queue ≡ length queue₀)
+    × (length label ≡ length label₀) × (length current ≡ length current₀) × (length sizes ≡ length sizes₀)
 
 abbrev μ-loop : tie.MeasureT-loop
-μ-loop n m p count ends first next hold₀ load₀ label₀ arc₀ queue₀ at₀ tail₀ hold load label arc queue at tail = length queue - at
+μ-loop n m p count ends starts arcs hold₀ load₀ label₀ current₀ sizes₀ queue₀ at₀ tail₀ hold load label current sizes queue at tail = length queue - at
 
 -- the function's entry
 abbrev begin : tie.At-loop Inv-loop μ-loop → tie.Start Inv-loop μ-loop
-begin c = c .before .before .before .before .before .before .before .before .before
+begin c = c .before .before .before .before .before .before .before .before .before .before
 
 loop-holds : tie.Need-loop-holds Inv-loop μ-loop
-loop-holds c =
-    let q = c .before .before .before .before .before .before .before .before .pre in
-    (kept-none _ _ _ _ _, omega arith, q .1 .1 .1 .1 .1 .2, refl, refl, refl)
+loop-holds c = (kept-none _ _ _ _ _, omega arith, c .before .before .before .before .before .before .before .before .before .pre .1 .1 .1 .1 .1 .1 .1, refl, refl, refl, refl)
 
 discharge-requires : tie.Need-discharge-requires Inv-loop μ-loop
 discharge-requires c κs =
-    let a = c .before .before .before .before .before .before .before .before .before in
+    let a = c .before .before .before .before .before .before .before .before .before .before in
     let q = begin a .pre in
     let i = a .loop .inv in
-    let b = q .1 .1 .1 .1 .1 in (
-      q .0,
+    let l = q .1 .1 .1 .1 .1 .0 in
+    let e = i .0 .load-long in (
+      (c .before .before .before .before .before .before .if1 .taken, q .0),
       (
         q .1 .0,
         (
-          (c .before .before .before .before .before .if1 .taken, q .1 .1 .0 .0, q .1 .1 .0 .1),
-          (kept-room (i .0) (q .1 .1 .1 .0), (kept-covers (i .0) (q .1 .1 .1 .1 .0), (omega (arith, b .0, i .4), omega (arith, b .1, i .5), i .2))),
+          q .1 .1 .0,
+          (
+            kept-room (i .0) (q .1 .1 .1 .0),
+            (
+              kept-covers (i .0) (q .1 .1 .1 .1 .0),
+              ((omega (arith, l .0), omega (arith, l .1, i .4), omega (arith, l .2, i .5)), (omega (arith, q .1 .1 .1 .1 .1 .1 .0, i .6), i .2)),
+            ),
+          ),
         ),
       ),
     )
 
 loop-again : tie.Need-loop-again Inv-loop μ-loop
 loop-again c =
-    let d = c .before .before .before .before .before .before .before .before .before .before in
-    let i = d .before .before .before .before .before .before .before .before .before .before .loop .inv in
+    let d = c .before .before .before .before .before .before .before .before .before .before .before .before in
+    let i = d .before .before .before .before .before .before .before .before .before .before .before .loop .inv in
     let k = d .discharge .kept .1 .1 .1 .1 .1 .1 .1 .1 .1 .1 in (
       kept-more (i .0) (d .discharge .ensures .1),
-      omega (arith, k .1 .1 .0),
-      omega (arith, d .discharge .ensures .0, k .1 .1 .0),
-      omega (arith, k .1 .1 .0),
+      omega (arith, k .1 .1 .1 .0),
+      omega (arith, d .discharge .ensures .0, k .1 .1 .1 .0),
+      omega (arith, k .1 .1 .1 .0),
       omega (arith, k .0),
       omega (arith, k .1 .0),
+      omega (arith, k .1 .1 .0),
     )
 
 loop-again-2 : tie.Need-loop-again-2 Inv-loop μ-loop
-loop-again-2 c = let i = c .before .before .before .before .loop .inv in (i .0, omega arith, i .2, i .3, i .4, i .5)
+loop-again-2 c = let i = c .before .before .before .before .loop .inv in (i .0, omega arith, i .2, i .3, i .4, i .5, i .6)
 
 returns : tie.Need-returns Inv-loop μ-loop
 returns c = c .before .loop .inv .0
@@ -76,6 +82,7 @@ discharge-all-spec =
     loop-again
     (λ c. omega arith)
     loop-again-2
+    (λ c. omega arith)
     (λ c. omega arith)
     (λ c. omega arith)
     (λ c. omega arith)

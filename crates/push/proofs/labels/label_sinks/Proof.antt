@@ -1,26 +1,36 @@
--- `push::labels::label_sinks` meets its contract. Assumes nothing.
+-- `push::labels::label_sinks` meets its contract: there is room for who is still to come. Assumes nothing.
 use native.Mathlib.Omega.{arith}
 use mathlib.Core.Path.{_≡_}
-use Prim.Native.Nat.{_≤_}
-use lib.ListN.{length, length-set}
+use mathlib.Core.Bool.{Bool, true, false, cond, _&&_}
+use Prim.Native.Nat.{_+_, _-_, _≤_}
+use lib.Dec.{eqb, ltb}
+use lib.ListN.{length, getD, length-set}
 use Rattle.push.proofs.labels.label_sinks.Statement.{statement}
 use Rattle.push.proofs.labels.label_sinks.Tie as tie
 
 abbrev Inv-loop : tie.InvT-loop
 Inv-loop n p scope load label₀ queue₀ tail₀ v₀ label queue tail v =
-    (v ≤ n) × (tail ≤ length queue) × (n ≤ length label) × (length label ≡ length label₀) × (length queue ≡ length queue₀)
+    (tail + v ≤ n) × (n ≤ length label) × (n ≤ length queue) × (length label ≡ length label₀) × (length queue ≡ length queue₀)
 
 abbrev μ-loop : tie.MeasureT-loop
 μ-loop n p scope load label₀ queue₀ tail₀ v₀ label queue tail v = v
 
-slice-write-label-2 : tie.Need-slice-write-label-2 Inv-loop μ-loop
-slice-write-label-2 c = simp length-set (omega arith)
+-- a step of 0 or 1
+step-most : (b : Bool) → cond b 1 0 ≤ 1
+step-most true = omega arith
+step-most false = omega arith
+
+one-at-most : (c : tie.After-is-sink Inv-loop μ-loop) → c .is-sink .result ≤ 1
+one-at-most c =
+    let l = c .before .before .before .before .before .before .before in
+    let a = l .before .before .before .before .before .args in
+    omega (arith, c .is-sink .ensures, step-most (eqb (getD (a .scope .now) (l .loop .v - 1) 0) 1 && ltb (getD (a .load .now) (l .loop .v - 1) 0) (a .p)))
+
+add-tail : tie.Need-add-tail Inv-loop μ-loop
+add-tail c = let s = one-at-most c in omega arith
 
 loop-again : tie.Need-loop-again Inv-loop μ-loop
-loop-again c = simp length-set (omega arith)
-
-loop-again-2 : tie.Need-loop-again-2 Inv-loop μ-loop
-loop-again-2 c = simp length-set (omega arith)
+loop-again c = let s = one-at-most c in simp length-set (omega arith)
 
 pub label-sinks-spec : {M : Type 1} → statement M
 label-sinks-spec =
@@ -33,17 +43,19 @@ label-sinks-spec =
     (λ c. omega arith)
     (λ c. omega arith)
     (λ c. omega arith)
+    (λ c κs. omega arith)
+    (λ c. omega arith)
+    (λ c. omega arith)
+    (λ c. omega arith)
+    (λ c. omega arith)
+    (λ c. omega arith)
+    (λ c. omega arith)
     (λ c. omega arith)
     (λ c. omega arith)
     (λ c κs. omega arith)
-    (λ c. omega arith)
-    slice-write-label-2
-    (λ c. omega arith)
-    (λ c κs. omega arith)
+    add-tail
     (λ c. omega arith)
     loop-again
-    (λ c. omega arith)
-    loop-again-2
     (λ c. omega arith)
     (λ c. omega arith)
     (λ c. omega arith))

@@ -7,11 +7,11 @@ use Rattle.push.proofs.queue.queue_active.Statement.{statement}
 use Rattle.push.proofs.queue.queue_active.Tie as tie
 
 abbrev Inv-loop : tie.InvT-loop
-Inv-loop n p count reached load queue₀ tail₀ i₀ queue tail i =
-    (i ≤ count) × (tail ≤ length queue) × (length queue ≡ length queue₀)
+Inv-loop p count reached load label sizes₀ queue₀ tail₀ i₀ sizes queue tail i =
+    (i ≤ count) × (tail ≤ length queue) × (length queue ≡ length queue₀) × (length sizes ≡ length sizes₀)
 
 abbrev μ-loop : tie.MeasureT-loop
-μ-loop n p count reached load queue₀ tail₀ i₀ queue tail i = i
+μ-loop p count reached load label sizes₀ queue₀ tail₀ i₀ sizes queue tail i = i
 
 pub queue-active-spec : {M : Type 1} → statement M
 queue-active-spec =
@@ -24,6 +24,14 @@ queue-active-spec =
     (λ c. omega arith)
     (λ c. omega arith)
     (λ c κs. omega arith)
+    (λ c. omega arith)
+    (λ c. omega arith)
+    (λ c κs. omega arith)
+    (λ c. omega arith)
+    (λ c. omega arith)
+    (λ c κs. omega arith)
+    (λ c κs. omega arith)
+    (λ c. omega arith)
     (λ c. omega arith)
     (λ c. omega arith)
     (λ c. omega arith)
