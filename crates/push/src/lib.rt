@@ -1,5 +1,6 @@
-// Push phases (push-relabel): they balance a split before the exact search of crate `flow`, which is what decides.
+// The leavers' start, and push phases (push-relabel): they balance a split before the exact search of crate `flow`, which is what decides.
 //
+// In leaving order each module keeps units of its pairs with those who leave later, until it is loaded p; the rest is theirs (`leavers`).
 // A phase gives each module a label: its distance from a module of the scope loaded below p, along slots that hold units (breadth first,
 // backward). Active modules, those loaded above p, are then queued. The first one sends what it has too much to modules with a lower label, along its
 // arcs from where it stopped last (discharge). If it still has too much, it gets a label just above the lowest that it can reach (relabel), and is queued
@@ -8,23 +9,29 @@
 // Cost: a phase takes a step for each slot of the modules that it labels and of those that come up in the queue. Nothing is refused.
 mod discharge;
 mod labels;
+mod leaving;
 mod queue;
 
 use discharge::discharge_all;
 pub use labels::FAR;
 use labels::label_all;
+use leaving::leave;
 use numbers::pick;
 use queue::queue_active;
 use slots::copy;
+use slots::wide;
 use std::num::wrapping_add_u32;
 use std::num::wrapping_sub_u32;
-ghost use Prim.Native.Nat.{_*_, _≤_};
+ghost use mathlib.Core.Path.{_≡_};
+ghost use Prim.Native.Nat.{_*_, _-_, _≤_};
 ghost use lib.ListN.{length};
 ghost use Rattle.slots.specs.Slots.{Ends, Room, Covers, Kept};
 ghost use Rattle.arcs.specs.Arcs.{Arc-room};
 
 // What x has above p.
-pub(crate) fn over(p: u32, x: u32) -> u32 {
+pub(crate) fn over(p: u32, x: u32) -> u32
+    ensures { λ r. ⌜ r ≡ x - p ⌝ }
+{
     if p < x { x - p } else { 0 }
 }
 
@@ -169,4 +176,52 @@ pub fn phases(
         }
     }
     false
+}
+
+// A start from the leaving order: each leaver keeps of its pairs with those who stay up to p in all, the rest goes to them. With arcs as `arcs::lay` leaves
+// them by the same places. How well that balances the loads is free.
+pub fn leavers(
+    n: usize,
+    m: usize,
+    p: u32,
+    order: &[u32],
+    place: &[u32],
+    ends: &[u32],
+    starts: &[u32],
+    arcs: &[u32],
+    hold: &mut [u32],
+    load: &mut [u32],
+)
+    requires { ⌜ n ≤ 512 ⌝ }
+    requires { ⌜ Ends n m (now ends) ⌝ }
+    requires { ⌜ Arc-room n (now starts) (now arcs) ⌝ }
+    requires { ⌜ Room m (now hold) ⌝ }
+    requires { ⌜ Covers n m (now ends) (now hold) (now load) ⌝ }
+    requires { ⌜ (n ≤ length (now order)) × (512 ≤ length (now place)) ⌝ }
+    ensures { λ r. ⌜ Kept n m (now (ends .entry)) (now (hold .entry)) (now (load .entry)) (now (hold .exit)) (now (load .exit)) ⌝ }
+{
+    let mut got = [0u32; 512];
+    let mut left = n;
+    while left > 0 {
+        let i = n - left;
+        left = left - 1;
+        let v = wide(order[i]);
+        if v < n {
+            let room = over(got[v], p);
+            leave(
+                n,
+                m,
+                i,
+                v,
+                room,
+                place,
+                ends,
+                starts,
+                arcs,
+                hold,
+                load,
+                &mut got,
+            );
+        }
+    }
 }
