@@ -169,7 +169,19 @@ fn balance(
     ensures { λ r. ⌜ (r .denser ≡ true → Denser-counted n m p q (now (ends .entry)) (now (weights .entry)) (now (group .exit)) (r .p) (r .q)) ⌝ }
 {
     let mut label = [0u32; 512];
-    if !push::phases(n, m, p, phases, scope, ends, starts, arcs, hold, load, &mut label) {
+    if !push::phases(
+        n,
+        m,
+        p,
+        phases,
+        scope,
+        ends,
+        starts,
+        arcs,
+        hold,
+        load,
+        &mut label,
+    ) {
         return Stuck {
             p: 0,
             q: 0,
@@ -253,7 +265,19 @@ pub(crate) fn round(
     ensures { λ r. ⌜ Counted n m (now (ends .entry)) (now (weights .entry)) (now (group .exit)) (r .p) (r .q) ⌝ }
 {
     let mut load = [0u32; 512];
-    open_round(n, m, p, q, old, ends, weights, cores, scope, hold, &mut load);
+    open_round(
+        n,
+        m,
+        p,
+        q,
+        old,
+        ends,
+        weights,
+        cores,
+        scope,
+        hold,
+        &mut load,
+    );
     let halves = (old == 0) & (phases > 0);
     let made = prepare(
         n,

@@ -3,8 +3,7 @@
 --   held-part, held-some         a slot's units are among its module's; a module that holds units has a slot that does
 --   cond-most, held-most         all of them fit 32 bits
 --   Added, loads-next, loads-fit    a loop that adds up the loads
---   loads-covers                 loads are the units held, and loads of the modules' own
---   zero-at, no-own              a buffer of zeros: no module has a load of its own
+--   zero-at                      a buffer of zeros
 -- Assumes nothing.
 use mathlib.Core.Path.{_≡_, refl, sym, _∙_}
 use mathlib.Core.Bool.{Bool, true, false, cond}
@@ -13,10 +12,10 @@ use mathlib.Core.Logic.{⊎-elim}
 use Prim.Native.Nat.{ℕ, zero, suc, _+_, _*_, _≤_, _<_}
 use native.Mathlib.Omega.{arith}
 use lib.Dec.{eqb}
-use lib.ListN.{length, getD, set, replicate, length-replicate}
+use lib.ListN.{length, getD, set, replicate}
 use lib.Seq.{getD-set-same, getD-set-other}
 use borrow.Author.Tests.{eqb-true}
-use Rattle.slots.specs.Slots.{total, held-upto, Room, Own, Loads, Covers}
+use Rattle.slots.specs.Slots.{total, held-upto, Room, Own}
 use Rattle.slots.proofs.Choice.{eq-or-ne, cond-eq, cond-ne}
 use Rattle.slots.proofs.Totals.{total-next, total-le, total-part, total-some, total-const, total-upto, total-pairs}
 use Rattle.slots.proofs.Mates.{mate-even}
@@ -106,16 +105,8 @@ loads-fit n m s own ends hold load x e l ls few o r h =
       held-most (s + 1) m ends hold x (omega arith) few r,
     )
 
--- loads are the units held, and loads of the modules' own
-pub loads-covers : {n m : ℕ} {own ends hold load : List ℕ} → Own n own → Loads n m own ends hold load → Covers n m ends hold load
-loads-covers o l = record { long = l .long; least = λ v h. omega (arith, l .same v h); most = λ v h. omega (arith, l .same v h, o .small v h) }
-
 -- a buffer of zeros
 pub zero-at : (k v : ℕ) → getD (replicate {A = ℕ} k 0) v 0 ≡ 0
 zero-at zero v = refl
 zero-at (suc k) zero = refl
 zero-at (suc k) (suc v) = zero-at k v
-
--- has no own loads
-pub no-own : (n k : ℕ) → n ≤ k → Own n (replicate {A = ℕ} k 0)
-no-own n k h = record { long = omega (arith, length-replicate {A = ℕ} k 0); small = λ v l. omega (arith, zero-at k v) }

@@ -2,10 +2,9 @@
 //
 // Pair j has two slots, 2j and 2j + 1: ends[s] is a slot's module, hold[s] the units of the pair that it holds. Both ends are alike, so nothing goes
 // by sides. A module's load is its own, which does not move, and the units that it holds. Three arguments are the list: n modules, m pairs, `ends`.
-// `spread` makes a split, `loads` adds up, `links` chains each module's slots (`first_link` and `next_link` follow them), `shift` moves units (no
-// other function does). The first three cost a step for each slot or pair. `adjacency` finds each module's pairs and its degree in one pass over a
-// list that rises: the pairs whose first end it is stand side by side, its row (`earlier_in_row` goes back along it), and those whose second end it
-// is are chained. Nothing is refused: what is asked is in the contracts.
+// `spread` makes a split and adds up the loads, `shift` moves units (no other function does). `adjacency` finds each module's pairs and its degree in one
+// pass over a list that rises: the pairs whose first end it is stand side by side, its row (`earlier_in_row` goes back along it), and those whose second
+// end it is are chained by links (`link`). Nothing is refused: what is asked is in the contracts.
 ghost use mathlib.Core.Path.{_≡_};
 ghost use mathlib.Core.Bool.{_&&_, cond};
 ghost use Prim.Native.Nat.{ℕ, _+_, _*_, _≤_, _<_};
@@ -13,7 +12,7 @@ ghost use lib.Dec.{eqb, ltb};
 ghost use lib.ListN.{length, getD, set};
 ghost use Rattle.theory.specs.Words.{Held-words};
 ghost use Rattle.slots.specs.Slots.{mate, moved, Ends, Room, Own, Loads, Covers};
-ghost use Rattle.slots.specs.Links.{last-at, Linked};
+ghost use Rattle.slots.specs.Links.{last-at};
 ghost use Rattle.slots.specs.Rows.{first-end, second-end, Row-at, Adjacency-blank, Adjacency};
 ghost use Rattle.slots.specs.Split.{Weights, Split};
 
@@ -22,14 +21,6 @@ pub fn wide(x: u32) -> usize
     ensures { λ r. ⌜ r ≡ x ⌝ }
 {
     x as usize
-}
-
-// x where that is at most `top`, else free: links only say where to look first.
-pub fn capped(x: u32, top: usize) -> usize
-    ensures { λ r. ⌜ (r ≤ top) × (x ≤ top → r ≡ x) ⌝ }
-{
-    let k = wide(x);
-    if k <= top { k } else { 0 }
 }
 
 // 1 where a module of scope byte s and load x is in the scope and loaded below p, else 0.
@@ -73,24 +64,6 @@ pub fn copy(n: usize, xs: &[u32], ys: &mut [u32])
     }
 }
 
-// Each module's load: its own and what its slots hold.
-pub fn loads(n: usize, m: usize, own: &[u32], ends: &[u32], hold: &[u32], load: &mut [u32])
-    requires { ⌜ Ends n m (now ends) ⌝ }
-    requires { ⌜ Own n (now own) ⌝ }
-    requires { ⌜ Room m (now hold) ⌝ }
-    requires { ⌜ n ≤ length (now load) ⌝ }
-    ensures { λ r. ⌜ Loads n m (now (own .entry)) (now (ends .entry)) (now (hold .entry)) (now (load .exit)) ⌝ }
-{
-    copy(n, own, load);
-    let slots = 2 * m;
-    let mut s = 0;
-    while s < slots {
-        let v = wide(ends[s]);
-        load[v] = load[v] + hold[s];
-        s = s + 1;
-    }
-}
-
 // Place k becomes the last one of module v: `first` leads to it, and `next` from it to the one before.
 pub fn link(k: usize, v: usize, first: &mut [u32], next: &mut [u32])
     requires { ⌜ k < 8192 ⌝ }
@@ -101,38 +74,6 @@ pub fn link(k: usize, v: usize, first: &mut [u32], next: &mut [u32])
 {
     next[k] = first[v];
     first[v] = (k + 1) as u32;
-}
-
-// Where the links of v lead first, a slot and 1 more: at most `top`, else free.
-pub fn first_link(v: usize, top: usize, first: &[u32]) -> usize
-    requires { ⌜ v < length (now first) ⌝ }
-    ensures { λ r. ⌜ (r ≤ top) × (getD (now (first .entry)) v 0 ≤ top → r ≡ getD (now (first .entry)) v 0) ⌝ }
-{
-    capped(first[v], top)
-}
-
-// Where they lead from slot k: back, else free.
-pub fn next_link(k: usize, next: &[u32]) -> usize
-    requires { ⌜ k < length (now next) ⌝ }
-    ensures { λ r. ⌜ (r ≤ k) × (getD (now (next .entry)) k 0 ≤ k → r ≡ getD (now (next .entry)) k 0) ⌝ }
-{
-    capped(next[k], k)
-}
-
-// Chains each module's slots, from its last one back: entries are a slot and 1 more, and 0 ends a chain.
-pub fn links(n: usize, m: usize, ends: &[u32], first: &mut [u32], next: &mut [u32])
-    requires { ⌜ Ends n m (now ends) ⌝ }
-    requires { ⌜ n ≤ length (now first) ⌝ }
-    requires { ⌜ 2 * m ≤ length (now next) ⌝ }
-    ensures { λ r. ⌜ Linked n (2 * m) (λ s. getD (now (ends .entry)) s 0) (now (first .exit)) (now (next .exit)) ⌝ }
-{
-    clear(n, first);
-    let slots = 2 * m;
-    let mut s = 0;
-    while s < slots {
-        link(s, wide(ends[s]), first, next);
-        s = s + 1;
-    }
 }
 
 // Adds d to entry i.

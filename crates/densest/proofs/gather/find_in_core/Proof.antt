@@ -19,7 +19,7 @@ use Rattle.densest.proofs.gather.find_in_core.Tie as tie
 
 -- the places of the calls, each from the next
 abbrev begin : tie.After-rounded-up → tie.Start
-begin c = c .before .before .before .before .before .before .before .before
+begin c = c .before .before .before .before .before .before .before .before .before .before
 
 abbrev rounded : tie.After-mark-core → tie.After-rounded-up
 rounded c = c .before .before
@@ -47,7 +47,7 @@ few : (s : tie.Start) → s .args .n ≤ 512
 few s = few-modules _ _ _ _ (s .pre .0 .held .listed)
 
 core-long : (c : tie.After-mark-core) → length (c .mark-core .last .1 .1 .1 .0) ≡ entry c .args .n
-core-long c = c .mark-core .kept .1 .1 .1 .0 ∙ entry c .pre .1 .1
+core-long c = c .mark-core .kept .1 .1 .1 .0 ∙ entry c .pre .1 .1 .1
 
 core-is : (c : tie.After-mark-core) → c .mark-core .last .1 .1 .1 .0 ≡ core (list-of (entry c)) (c .mark-core .result)
 unfolding list-in
@@ -60,20 +60,20 @@ low : (c : tie.After-mark-core) → c .mark-core .result ≤ rounded-up (entry c
 low c = omega (arith, c .mark-core .ensures .0, rounded c .rounded-up .ensures)
 
 words-long : (c : tie.After-gather) → 8192 ≤ length (c .gather .last .1 .1 .1 .0)
-words-long c = omega (arith, c .gather .kept .1 .1 .1 .0, start c .pre .1 .0)
+words-long c = omega (arith, c .gather .kept .1 .1 .1 .0, start c .pre .1 .1 .0)
 
 rounded-up-requires : tie.Need-rounded-up-requires
-rounded-up-requires c κs = c .before .before .before .before .before .before .before .pre .0 .at-hand .some
+rounded-up-requires c κs = c .before .before .before .before .before .before .before .before .before .pre .0 .at-hand .some
 
 mark-core-requires : tie.Need-mark-core-requires
 unfolding list-in
-mark-core-requires c κs = let s = begin (c .before) in (few s, (s .pre .0 .cored .long, s .pre .1 .1))
+mark-core-requires c κs = let s = begin (c .before) in (few s, (s .pre .0 .cored .long, s .pre .1 .1 .1))
 
 gather-requires : tie.Need-gather-requires
 gather-requires c κs =
     let k = c .before .before .before .before .before in
     let s = entry k in
-    (s .pre .0 .held, (core-long k, s .pre .1 .2))
+    (s .pre .0 .held, (core-long k, s .pre .1 .1 .2))
 
 keep-at-least-requires : tie.Need-keep-at-least-requires
 unfolding list-in
@@ -97,21 +97,23 @@ find-requires c κs =
     let same = t .gather .kept .1 .1 .1 .0 in
     let is = core-is (marked t) in
     let g = t .gather .ensures .0 in
-    rw (part-to-end words 8192)
-    (record {
-      held =
-          inner-held (a .n) (a .m) (a .p) (a .q) _ (a .words .now) (counts-of (a .words .now)) _ _ _ _ (q .held) (q .at-hand) (low (marked t)) is g
-          (omega (arith, q .held .ends-long, same))
-          (omega (arith, q .held .weights-long, same, length-drop 8192 words, length-drop 8192 (a .words .now)));
-      at-hand =
-          inner-candidate (a .n) (a .m) (a .p) (a .q) _ (a .words .now) (counts-of (a .words .now)) _ _ _ _ (q .held) (q .at-hand) (low (marked t)) is g;
-      cored =
-          inner-cored (a .n) (a .m) (a .p) (a .q) _ (a .words .now) (counts-of (a .words .now)) _ _ _ _ (q .held) (q .at-hand) (low (marked t)) is g
-          (a .cores .now) _ (q .cored) (omega (arith, few s, k .keep-at-least .kept .1 .1 .1 .0)) (k .keep-at-least .ensures);
-      scope-long = q .scope-long;
-      group-long = q .group-long;
-      room = room-less (gathered-few g) (q .room);
-    })
+    rw (part-to-end words 8192) (
+      record {
+        held =
+            inner-held (a .n) (a .m) (a .p) (a .q) _ (a .words .now) (counts-of (a .words .now)) _ _ _ _ (q .held) (q .at-hand) (low (marked t)) is g
+            (omega (arith, q .held .ends-long, same))
+            (omega (arith, q .held .weights-long, same, length-drop 8192 words, length-drop 8192 (a .words .now)));
+        at-hand =
+            inner-candidate (a .n) (a .m) (a .p) (a .q) _ (a .words .now) (counts-of (a .words .now)) _ _ _ _ (q .held) (q .at-hand) (low (marked t)) is g;
+        cored =
+            inner-cored (a .n) (a .m) (a .p) (a .q) _ (a .words .now) (counts-of (a .words .now)) _ _ _ _ (q .held) (q .at-hand) (low (marked t)) is g
+            (a .cores .now) _ (q .cored) (omega (arith, few s, k .keep-at-least .kept .1 .1 .1 .0)) (k .keep-at-least .ensures);
+        scope-long = q .scope-long;
+        group-long = q .group-long;
+        room = room-less (gathered-few g) (q .room);
+      },
+      s .pre .1 .0,
+    )
 
 same-length-2 : tie.Need-same-length-2
 same-length-2 c =
