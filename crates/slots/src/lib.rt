@@ -2,10 +2,10 @@
 //
 // Pair j has two slots, 2j and 2j + 1: ends[s] is a slot's module, hold[s] the units of the pair that it holds. Both ends are alike, so nothing goes
 // by sides. A module's load is its own, which does not move, and the units that it holds. Three arguments are the list: n modules, m pairs, `ends`.
-// `spread` makes a split with its loads, `loads` adds up, `links` chains each module's slots (`first_link` and `next_link` follow them), `shift` moves units (no
-// other function does). The first three cost a step for each slot or pair. `adjacency` finds each module's pairs and its degree in one pass over a
-// list that rises: the pairs whose first end it is stand side by side, its row (`earlier_in_row` goes back along it), and those whose second end it
-// is are chained. Nothing is refused: what is asked is in the contracts.
+// `spread` makes a split with its loads, `loads` adds up, `links` chains each module's slots (`first_link` and `next_link` follow them), `shift` moves
+// units (no other function does). The first three cost a step for each slot or pair. `adjacency` finds each module's pairs and its degree in one pass
+// over a list that rises: the pairs whose first end it is stand side by side, its row (`earlier_in_row` goes back along it), and those whose second
+// end it is are chained. Nothing is refused: what is asked is in the contracts.
 ghost use mathlib.Core.Path.{_≡_};
 ghost use mathlib.Core.Bool.{_&&_, cond};
 ghost use Prim.Native.Nat.{ℕ, _+_, _*_, _≤_, _<_};
