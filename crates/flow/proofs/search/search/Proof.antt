@@ -5,8 +5,7 @@ use native.Mathlib.Nat.{le-refl, le-trans, le-of-eq, lt-trans, lt-of-lt-of-le, l
 use mathlib.Core.Path.{_≡_, refl, sym, _∙_}
 use Prim.Native.Nat.{ℕ, _+_, _*_, _-_, _≤_, _<_}
 use lib.ListN.{length, length-set}
-use mir.Syntax.{w64}
-use mir.Val.{Fits}
+use Rattle.flow.proofs.Bounds.{le-at, le-on, lt-on, lt-part, small-few, fits-at, fits-on, less-arc, less-reached, less-looked}
 use Rattle.flow.proofs.Leads.{Leads-out, leads-out}
 use Rattle.flow.proofs.Visiting.{Search-input, Scan, scan-start, visit-room, scan-on, scan-found, scan-shut}
 use Rattle.flow.proofs.search.search.Statement.{statement}
@@ -48,48 +47,13 @@ arc-of c = c .before .before .before .before
 abbrev outer : tie.At-loop Inv-loop μ-loop Inv-scan μ-scan → tie.At-scan Inv-loop μ-loop Inv-scan μ-scan
 outer c = c .before .before .before .before .before .before .before
 
-le-at : {a b c : ℕ} → a ≤ b → c ≡ b → a ≤ c
-le-at h e = omega arith
-
-le-on : {a b : ℕ} → a ≤ b → a ≤ b + 1
-le-on h = omega arith
-
-lt-on : {a b : ℕ} → a < b → a + 1 ≤ b
-lt-on h = omega arith
-
-lt-part : {a b c : ℕ} (z : ℕ) → a < b → b + z ≡ c → a < c
-lt-part z h e = omega arith
-
-lt-other : {a b : ℕ} → a ≤ b → (a ≡ b → ⊥) → a < b
-lt-other h ne = omega arith
-
--- an index, in bytes and the next one, fits a word
-fits-at : {i k : ℕ} → i < k → k ≤ 8192 → Fits w64 (i * 4)
-fits-at h l = omega arith
-
-fits-on : {i k : ℕ} → i < k → k ≤ 8192 → Fits w64 (i + 1)
-fits-on h l = omega arith
-
-small-few : {n : ℕ} → n ≤ 512 → n ≤ 8192
-small-few h = omega arith
-
--- what the measures do: an arc less, a module reached, a module looked at
-less-arc : {x stop : ℕ} → x < stop → stop - (x + 1) < stop - x
-less-arc h = omega arith
-
-less-reached : {n tail : ℕ} (at : ℕ) → tail < n → (n - at) + (n - (tail + 1)) < (n - at) + (n - tail)
-less-reached at h = omega arith
-
-less-looked : {n at tail t : ℕ} → at < n → tail ≤ t → (n - (at + 1)) + (n - t) < (n - at) + (n - tail)
-less-looked h l = omega arith
-
 -- the slot that the scan over all slots found
 exit-way : (c : tie.Else2 Inv-loop μ-loop Inv-scan μ-scan) → let l = scan-of c in let a = begin l .args in
     Leads-out (a .n) (a .m) (a .ends .now) (a .hold .now) (l .scan .rank) (c .before .exit .result)
 exit-way c =
     let i = scan-of c .scan .inv in
     let x = c .before .exit .ensures in
-    let l : c .before .exit .result < 2 * begin (scan-of c) .args .m = lt-other (x .within) (c .if2 .left) in
+    let l : c .before .exit .result < 2 * begin (scan-of c) .args .m = omega (arith, x .within) in
     leads-out (i .1 .pairs) (le-trans (i .1 .small) (i .2)) l (x .found l)
 
 exit-room : (c : tie.Else2 Inv-loop μ-loop Inv-scan μ-scan) → scan-of c .scan .tail < begin (scan-of c) .args .n
