@@ -3,7 +3,7 @@ use borrow.Author.Needs.{needs}
 use native.Mathlib.Omega.{arith}
 use native.Mathlib.Nat.{le-refl, le-trans, le-of-eq, lt-trans, lt-of-lt-of-le, lt-of-le-of-lt}
 use mathlib.Core.Path.{_≡_, refl, sym, _∙_}
-use Prim.Native.Nat.{ℕ, _+_, _*_, _-_, _≤_, _<_}
+use Prim.Native.Nat.{_+_, _*_, _-_, _≤_, _<_}
 use lib.ListN.{length, length-set}
 use Rattle.flow.proofs.Bounds.{le-at, le-on, lt-on, lt-part, small-few, fits-at, fits-on, less-arc, less-reached, less-looked}
 use Rattle.flow.proofs.Leads.{Leads-out, leads-out}
