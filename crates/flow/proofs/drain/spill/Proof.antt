@@ -1,7 +1,7 @@
 -- `flow::drain::spill` meets its contract: along the arcs, who leads out drains. The measure is the arcs left. Assumes nothing.
 use native.Mathlib.Omega.{arith}
-use mathlib.Core.Path.{_≡_, refl, sym, _∙_}
-use Prim.Native.Nat.{_+_, _*_, _-_, _≤_, _<_}
+use mathlib.Core.Path.{_≡_, refl, _∙_}
+use Prim.Native.Nat.{_+_, _-_, _≤_, _<_}
 use lib.ListN.{length}
 use Rattle.slots.specs.Slots.{Ends}
 use Rattle.flow.specs.Drain.{zeros, Drains}

@@ -1,7 +1,7 @@
 -- `flow::exits::exit_along` meets its contract. Assumes nothing.
 use borrow.Author.Needs.{needs}
 use native.Mathlib.Omega.{arith}
-use mathlib.Core.Path.{_≡_, sym, _∙_}
+use mathlib.Core.Path.{sym, _∙_}
 use Rattle.flow.proofs.exits.exit_along.Statement.{statement}
 use Rattle.flow.proofs.exits.exit_along.Tie as tie
 
