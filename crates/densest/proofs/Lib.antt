@@ -11,3 +11,4 @@ pub mod Solving
 pub mod Gathering
 pub mod Scattering
 pub mod InnerSearch
+pub mod Lent

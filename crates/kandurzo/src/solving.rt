@@ -1,7 +1,7 @@
 // Solve on words: the gate (13, 12), then the list in the work buffer's words, then zeros. 15 never comes.
 ghost use mathlib.Core.Path.{_≡_};
 ghost use Prim.Native.Nat.{_≤_};
-ghost use lib.ListN.{length};
+ghost use lib.ListN.{length, drop};
 ghost use Rattle.theory.specs.Ratio.{float-ratio};
 ghost use Rattle.theory.specs.Words.{laid-list, Holds-list};
 ghost use Rattle.densest.specs.Solve.{Solves};
@@ -52,11 +52,11 @@ fn refused(number: u32) -> Solved
     }
 }
 
-// Group, core numbers and load sheet of the list in the words.
+// Group, core numbers and load sheet of the list in the words; what the first 12,288 of them hold afterwards is free.
 fn sheet_in(
     n: usize,
     m: usize,
-    work: &[u32],
+    work: &mut [u32],
     members: &mut [u8],
     cores: &mut [u32],
     shares: &mut [u32],
@@ -67,23 +67,13 @@ fn sheet_in(
     requires { ⌜ m ≤ length (now shares) ⌝ }
     ensures { λ r. ⌜ Solves (laid-list n m (now (work .entry))) (now (members .entry))
         (now (cores .entry)) (now (shares .entry)) (now (members .exit)) (now (cores .exit)) (now (shares .exit)) r ⌝ }
+    ensures { λ r. ⌜ drop 12288 (now (work .exit)) ≡ drop 12288 (now (work .entry)) ⌝ }
 {
-    let ends = 2 * m;
-    let weights = 8192 + m;
     let effort = Effort {
         phases: PHASES,
         links: m,
     };
-    solve(
-        n,
-        m,
-        effort,
-        &work[0..ends],
-        &work[8192..weights],
-        members,
-        cores,
-        shares,
-    )
+    solve(n, m, effort, &mut work[..12288], members, cores, shares)
 }
 
 // The record of what was found.

@@ -48,21 +48,22 @@ pub(crate) fn peel(list: Reading, words: &[u32]) -> Peeled
     }
 }
 
-// Solve with at most so many push phases before its searches, and links of at most so many pairs.
+// Solve with at most so many push phases before its searches, and links of at most so many pairs; on a copy of the words, which solve uses up.
 pub(crate) fn solve(list: Reading, phases: usize, links: usize, words: &[u32]) -> Solved
     requires { ⌜ Holds-list (list .n) (list .m) (now words) ⌝ }
 {
     let mut members = [0u8; 512];
     let mut cores = [0u32; 512];
     let mut shares = [0u32; 4096];
+    let mut copy = [0u32; 12288];
     let n = list.n as usize;
     let m = list.m as usize;
+    slots::copy(12288, words, &mut copy);
     let record = densest::solve(
         n,
         m,
         Effort { phases, links },
-        words,
-        &words[8192..],
+        &mut copy,
         &mut members,
         &mut cores,
         &mut shares,

@@ -1,9 +1,10 @@
 -- `solve_on_words` meets its contract: nothing behind a shut gate; else the list in the words, and zeros in the end. Assumes nothing.
 use mathlib.Core.Path.{refl, sym, ap, _∙_}
+use native.Mathlib.Omega.{arith}
 use borrow.Author.Needs.{needs}
 use Rattle.kandurzo.specs.declared.Solved.{Solved}
 use Rattle.kandurzo.specs.Solving.{declined}
-use Rattle.kandurzo.proofs.Filling.{left-open, left-shut}
+use Rattle.kandurzo.proofs.Filling.{left-open, left-shut, cleared-past}
 use Rattle.kandurzo.proofs.Solves.{solve-enough}
 use Rattle.kandurzo.proofs.Sheets.{some-modules, handed}
 use Rattle.kandurzo.proofs.solving.solve_on_words.Statement.{statement}
@@ -17,9 +18,9 @@ abbrev opened : tie.After-sheet-in-arg4 → tie.Else1
 opened c = c .before .before .before .before .before .before
 
 abbrev solved : tie.After-clear-arg → tie.After-sheet-in
-solved c = c .before .before .before .before .before .before .before
+solved c = c .before .before .before .before .before .before .before .before .before
 
-abbrev cleared : tie.After-slice-known8 → tie.After-clear-arg
+abbrev cleared : tie.After-slice-known9 → tie.After-clear-arg
 cleared c = c .before .before .before
 
 returns : tie.Need-returns
@@ -42,12 +43,15 @@ sheet-in-requires c κs =
     (h .holds z, (e .0, (e .1, e .2)))
 
 clear-requires : tie.Need-clear-requires
-clear-requires c κs = let o = opened (solved c .before) in solve-enough _ _ _ _ _ (begin o .pre .long (o .if1 .left)) .3
+clear-requires c κs =
+    let v = solved c in
+    let o = opened (v .before) in
+    omega (arith, v .sheet-in .kept .1 .1 .0, solve-enough _ _ _ _ _ (begin o .pre .long (o .if1 .left)) .3)
 
 record-of-requires : tie.Need-record-of-requires
 record-of-requires c κs =
     let v = solved (cleared c) in
-    some-modules _ _ _ _ _ _ _ _ (v .sheet-in .ensures)
+    some-modules _ _ _ _ _ _ _ _ (v .sheet-in .ensures .0)
 
 returns-2 : tie.Need-returns-2
 returns-2 c =
@@ -57,9 +61,9 @@ returns-2 c =
     let r = c .record-of .ensures in
     record {
       number = ap (λ (s : Solved). s .number) r ∙ sym z;
-      handed = λ _. rw r (handed _ (begin o .pre .holds z .listed) _ _ _ _ _ _ _ (v .sheet-in .ensures));
+      handed = λ _. rw r (handed _ (begin o .pre .holds z .listed) _ _ _ _ _ _ _ (v .sheet-in .ensures .0));
       refused = λ n. absurd (n z);
-      left = c .before .before .before .clear .ensures ∙ sym (left-open _ z);
+      left = c .before .before .before .clear .ensures ∙ cleared-past 12288 _ _ (omega arith) (v .sheet-in .ensures .1) ∙ sym (left-open _ z);
     }
 
 pub solve-on-words-spec : {M : Type 1} → statement M
