@@ -30,7 +30,8 @@ abbrev so-far : (c : tie.After-phase Inv-loop μ-loop) → let a = begin (inside
 so-far c = kept-more (inside (labelled c) .loop .inv .0) (c .phase .ensures)
 
 -- nor did the labels' buffer change its length
-label-long : (c : tie.After-phase Inv-loop μ-loop) → length (c .phase .last .1 .1 .1 .1 .1 .1 .1 .1 .1 .1 .0) ≡ length (begin (inside (labelled c)) .args .label .now)
+label-long : (c : tie.After-phase Inv-loop μ-loop) →
+    length (c .phase .last .1 .1 .1 .1 .1 .1 .1 .1 .1 .1 .0) ≡ length (begin (inside (labelled c)) .args .label .now)
 label-long c =
     let f = labelled c in
     let k = f .label-all .kept .1 .1 .1 .1 .1 .1 .1 .1 .0 in

@@ -7,7 +7,9 @@ use Rattle.push.proofs.discharge.discharge.Tie as tie
 
 -- the places on the way, each from the next
 abbrev begin : tie.After-push-from → tie.Start
-begin c = let a = c .before .before .before .before .before .before .before .before .before .before .before in a .before .before .before .before .before .before .before .before .before .before .before
+begin c =
+    let a = c .before .before .before .before .before .before .before .before .before .before .before in
+    a .before .before .before .before .before .before .before .before .before .before .before
 
 abbrev pushed : tie.After-take-label → tie.After-push-from
 pushed c = c .before .before .before .before .before .before .before .before .before .before .before .before .before .before
@@ -55,7 +57,9 @@ lowest-requires c κs =
     )
 
 take-label-requires : tie.Need-take-label-requires
-take-label-requires c κs = let f = c .before .before .before .before .before .before .before .before .before .before .before .before .before in begin f .pre .1 .1 .1 .1 .1 .1 .0
+take-label-requires c κs =
+    let f = c .before .before .before .before .before .before .before .before .before .before .before .before .before in
+    begin f .pre .1 .1 .1 .1 .1 .1 .0
 
 mul-label : tie.Need-mul-label
 mul-label c = let q = begin (pushed (c .before .before)) .pre in omega (arith, q .0, q .1 .1 .1 .1 .1 .0)

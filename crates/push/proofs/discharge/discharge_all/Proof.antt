@@ -25,11 +25,14 @@ inside c = c .before .before .before .before .before .before .before .before .be
 
 -- what a turn and those before it kept
 abbrev so-far : (c : tie.After-discharge Inv-loop μ-loop) → let a = begin (inside c) .args in
-    Kept (a .n) (a .m) (a .ends .now) (a .hold .now) (a .load .now) (c .discharge .last .1 .1 .1 .1 .1 .1 .1 .1 .0) (c .discharge .last .1 .1 .1 .1 .1 .1 .1 .1 .1 .0)
+    Kept (a .n) (a .m) (a .ends .now) (a .hold .now) (a .load .now)
+    (c .discharge .last .1 .1 .1 .1 .1 .1 .1 .1 .0) (c .discharge .last .1 .1 .1 .1 .1 .1 .1 .1 .1 .0)
 so-far c = kept-more (inside c .loop .inv .0) (c .discharge .ensures .1)
 
 loop-holds : tie.Need-loop-holds Inv-loop μ-loop
-loop-holds c = let q = c .before .before .before .before .before .before .before .before .before .pre in (kept-none _ _ _ _ _, omega arith, q .1 .1 .1 .1 .1 .1 .1, refl, refl, refl, refl)
+loop-holds c =
+    let q = c .before .before .before .before .before .before .before .before .before .pre in
+    (kept-none _ _ _ _ _, omega arith, q .1 .1 .1 .1 .1 .1 .1, refl, refl, refl, refl)
 
 discharge-requires : tie.Need-discharge-requires Inv-loop μ-loop
 discharge-requires c κs =

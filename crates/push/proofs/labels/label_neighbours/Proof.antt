@@ -20,7 +20,9 @@ begin c = c .before .before .before .before .before .before .before .before .bef
 
 -- the pair's other slot is one of the list's
 mate-low : (c : tie.After-other Inv-loop μ-loop) → c .other .result < 2 * begin (c .before .before .before .before .before .before .before .before) .args .m
-mate-low c = omega (arith, c .other .ensures, mates (begin (c .before .before .before .before .before .before .before .before) .args .m) _ .low (c .before .if2 .taken))
+mate-low c =
+    let a = begin (c .before .before .before .before .before .before .before .before) .args in
+    omega (arith, c .other .ensures, mates (a .m) _ .low (c .before .if2 .taken))
 
 loop-holds : tie.Need-loop-holds Inv-loop μ-loop
 loop-holds c =

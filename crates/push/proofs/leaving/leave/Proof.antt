@@ -64,7 +64,9 @@ mul-u-2 : tie.Need-mul-u-2 Inv-loop μ-loop
 mul-u-2 c = let p = at-slot c in omega arith
 
 slice-read-u-2 : tie.Need-slice-read-u-2 Inv-loop μ-loop
-slice-read-u-2 c = let l = c .before .before .before .before .before .before .before .before .before .before .before in omega (arith, at-slot (c .before) .mate-low, room-now l .long)
+slice-read-u-2 c =
+    let l = c .before .before .before .before .before .before .before .before .before .before .before in
+    omega (arith, at-slot (c .before) .mate-low, room-now l .long)
 
 add-u : tie.Need-add-u Inv-loop μ-loop
 add-u c =
@@ -85,7 +87,8 @@ bring-requires c κs =
 loop-again : tie.Need-loop-again Inv-loop μ-loop
 loop-again c =
     let d = c .before .before .before .before in
-    let i = d .before .before .before .before .before .before .before .before .before .before .before .before .before .before .before .before .before .loop .inv in
+    let l = d .before .before .before .before .before .before .before .before .before .before .before .before .before .before .before .before .before in
+    let i = l .loop .inv in
     (kept-more (i .0) (d .bring .ensures), simp length-set (i .1), i .2)
 
 same-length-7 : tie.Need-same-length-7 Inv-loop μ-loop
