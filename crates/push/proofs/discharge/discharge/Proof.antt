@@ -1,6 +1,8 @@
 -- `push::discharge::discharge` meets its contract: units move in `push_from` alone. Assumes nothing.
 use native.Mathlib.Omega.{arith}
+use mathlib.Core.Path.{refl}
 use Prim.Native.Nat.{_+_}
+use lib.ListN.{length-set}
 use borrow.Author.Needs.{needs}
 use Rattle.push.proofs.discharge.discharge.Statement.{statement}
 use Rattle.push.proofs.discharge.discharge.Tie as tie
@@ -39,6 +41,21 @@ mul-current c = let q = begin (c .before .before .before .before .before .before
 
 slice-write-current : tie.Need-slice-write-current
 slice-write-current c = let q = begin (c .before .before .before .before .before .before .before .before) .pre in omega (arith, q .0, q .1 .1 .1 .1 .1 .0)
+
+same-length : tie.Need-same-length
+same-length c = c .before .before .before .before .before .before .before .before .push-from .ensures .1 .hold-long
+
+same-length-2 : tie.Need-same-length-2
+same-length-2 c = c .before .before .before .before .before .before .before .before .push-from .ensures .1 .load-long
+
+same-length-3 : tie.Need-same-length-3
+same-length-3 c = refl
+
+same-length-4 : tie.Need-same-length-4
+same-length-4 c = simp length-set
+
+same-length-5 : tie.Need-same-length-5
+same-length-5 c = c .before .before .before .before .before .before .before .before .push-from .kept .1 .1 .1 .1 .1 .1 .1 .1 .1 .1 .1 .1 .1 .0
 
 lowest-requires : tie.Need-lowest-requires
 lowest-requires c κs =
@@ -84,10 +101,43 @@ enqueue-requires c κs =
     let f = pushed (c .before .before .before .before .before) in
     (omega (arith, begin f .pre .0), (omega arith, omega (arith, f .push-from .ensures .0, f .push-from .kept .1 .1 .1 .1 .1 .1 .1 .1 .1 .1 .1 .1 .1 .0)))
 
+same-length-6 : tie.Need-same-length-6
+same-length-6 c = pushed (c .before .before .before .before .before .before .before .before) .push-from .ensures .1 .hold-long
+
+same-length-7 : tie.Need-same-length-7
+same-length-7 c = pushed (c .before .before .before .before .before .before .before .before) .push-from .ensures .1 .load-long
+
+same-length-8 : tie.Need-same-length-8
+same-length-8 c = simp length-set
+
+same-length-9 : tie.Need-same-length-9
+same-length-9 c = simp length-set
+
+same-length-10 : tie.Need-same-length-10
+same-length-10 c = c .before .before .before .before .before .before .before .before .take-label .kept .1 .1 .0
+
 returns-2 : tie.Need-returns-2
 returns-2 c =
     let f = pushed (c .before .before .before .before .before .before .before .before) in
     (omega (arith, c .before .before .enqueue .ensures, f .push-from .kept .1 .1 .1 .1 .1 .1 .1 .1 .1 .1 .1 .1 .1 .0), f .push-from .ensures .1)
+
+same-length-12 : tie.Need-same-length-12
+same-length-12 c = pushed (c .before .before .before .before) .push-from .ensures .1 .hold-long
+
+same-length-13 : tie.Need-same-length-13
+same-length-13 c = pushed (c .before .before .before .before) .push-from .ensures .1 .load-long
+
+same-length-14 : tie.Need-same-length-14
+same-length-14 c = simp length-set
+
+same-length-15 : tie.Need-same-length-15
+same-length-15 c = simp length-set
+
+same-length-16 : tie.Need-same-length-16
+same-length-16 c = c .before .before .before .before .take-label .kept .1 .1 .0
+
+same-length-17 : tie.Need-same-length-17
+same-length-17 c = pushed (c .before .before .before .before) .push-from .kept .1 .1 .1 .1 .1 .1 .1 .1 .1 .1 .1 .1 .1 .0
 
 pub discharge-spec : {M : Type 1} → statement M
 discharge-spec =
@@ -95,30 +145,30 @@ discharge-spec =
     (tie.spec
     (λ c. search needs)
     (λ c. search needs)
-    (λ c κs. search needs)
+    (λ c κs. tt)
     (λ c. search needs)
     (λ c. search needs)
     (λ c. search needs)
     (λ c. search needs)
     (λ c. search needs)
-    (λ c κs. search needs)
-    (λ c κs. search needs)
+    (λ c κs. tt)
+    (λ c κs. tt)
     (λ c. search needs)
     (λ c. search needs)
-    (λ c κs. search needs)
+    (λ c κs. tt)
     push-from-requires
     mul-if1
     slice-read-if1
     mul-current
     slice-write-current
-    (λ c. search needs)
-    (λ c. search needs)
-    (λ c. search needs)
-    (λ c. search needs)
-    (λ c. search needs)
+    same-length
+    same-length-2
+    same-length-3
+    same-length-4
+    same-length-5
     (λ c. search needs)
     lowest-requires
-    (λ c κs. search needs)
+    (λ c κs. tt)
     take-label-requires
     mul-label
     slice-write-label
@@ -127,17 +177,17 @@ discharge-spec =
     mul-current-3
     slice-write-current-2
     enqueue-requires
-    (λ c. search needs)
-    (λ c. search needs)
-    (λ c. search needs)
-    (λ c. search needs)
-    (λ c. search needs)
+    same-length-6
+    same-length-7
+    same-length-8
+    same-length-9
+    same-length-10
     (λ c. search needs)
     returns-2
-    (λ c. search needs)
-    (λ c. search needs)
-    (λ c. search needs)
-    (λ c. search needs)
-    (λ c. search needs)
-    (λ c. search needs)
+    same-length-12
+    same-length-13
+    same-length-14
+    same-length-15
+    same-length-16
+    same-length-17
     (λ c. search needs))

@@ -86,7 +86,7 @@ discharge-all-spec =
     loop-holds
     (λ c. omega arith)
     (λ c. omega arith)
-    (λ c κs. omega arith)
+    (λ c κs. tt)
     (λ c. omega arith)
     discharge-requires
     (λ c. omega arith)

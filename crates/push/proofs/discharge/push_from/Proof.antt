@@ -87,14 +87,14 @@ push-from-spec =
     (λ c. omega arith)
     (λ c. omega arith)
     (λ c. omega arith)
-    (λ c κs. omega arith)
-    (λ c κs. omega arith)
+    (λ c κs. tt)
+    (λ c κs. tt)
     (λ c. omega arith)
     (λ c. omega arith)
     slice-read-label-behind
     (λ c. omega arith)
     (λ c. omega arith)
-    (λ c κs. omega arith)
+    (λ c κs. tt)
     push-requires
     (λ c. omega arith)
     slice-read-if3
@@ -104,7 +104,7 @@ push-from-spec =
     returns
     (λ c. omega arith)
     loop-again
-    (λ c κs. omega arith)
+    (λ c κs. tt)
     (λ c. omega arith)
     loop-again-2
     (λ c. omega arith)
