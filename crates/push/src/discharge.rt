@@ -104,7 +104,7 @@ fn push_from(
     }
     Turn {
         tail: t,
-        at: 0,
+        at: stop as u32,
         low,
     }
 }

@@ -1,6 +1,6 @@
 -- `push::leavers` meets its contract: each leaver keeps what those before it kept. Assumes nothing.
 use native.Mathlib.Omega.{arith}
-use mathlib.Core.Path.{_≡_, refl, _∙_}
+use mathlib.Core.Path.{_≡_, refl}
 use Prim.Native.Nat.{_≤_}
 use lib.ListN.{length}
 use Rattle.slots.specs.Slots.{Kept}
@@ -38,7 +38,7 @@ loop-again : tie.Need-loop-again Inv-loop μ-loop
 loop-again c =
     let d = c .before .before .before .before .before in
     let i = d .before .before .before .before .before .before .before .before .before .loop .inv in
-    (kept-more (i .0) (d .leave .ensures), omega arith, d .leave .kept .1 .1 .1 .1 .1 .1 .1 .1 .1 .1 .1 .0 ∙ i .2)
+    (kept-more (i .0) (d .leave .ensures), omega arith, omega (arith, d .leave .kept .1 .1 .1 .1 .1 .1 .1 .1 .1 .1 .1 .0, i .2))
 
 loop-again-2 : tie.Need-loop-again-2 Inv-loop μ-loop
 loop-again-2 c = let i = c .before .before .before .before .loop .inv in (i .0, omega arith, i .2)
@@ -63,10 +63,10 @@ leavers-spec =
     (λ c. omega arith)
     (λ c. omega arith)
     (λ c. omega arith)
-    (λ c κs. omega arith)
+    (λ c κs. tt)
     (λ c. omega arith)
     (λ c. omega arith)
-    (λ c κs. omega arith)
+    (λ c κs. tt)
     (λ c. omega arith)
     leave-requires
     (λ c. omega arith)

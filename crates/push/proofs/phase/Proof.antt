@@ -6,8 +6,9 @@ use Rattle.push.proofs.phase.Tie as tie
 
 discharge-all-requires : tie.Need-discharge-all-requires
 discharge-all-requires c κs =
-    let q = c .before .before .before .before .before .before .before .before .before .before .before .before .before .before .before .before .before .before .before .before .before .before .before .pre in
-    let u = c .before .before .before .before .before .before .before .before .before .before .before .queue-active in
+    let a = c .before .before .before .before .before .before .before .before .before .before .before in
+    let u = a .queue-active in
+    let q = a .before .before .before .before .before .before .before .before .before .before .before .before .pre in
     let l = q .1 .1 .1 .1 .1 in (
       q .0 .0,
       (

@@ -29,6 +29,14 @@ abbrev so-far : (c : tie.After-phase Inv-loop μ-loop) → let a = begin (inside
     Kept (a .n) (a .m) (a .ends .now) (a .hold .now) (a .load .now) (c .phase .last .1 .1 .1 .1 .1 .1 .1 .1 .0) (c .phase .last .1 .1 .1 .1 .1 .1 .1 .1 .1 .0)
 so-far c = kept-more (inside (labelled c) .loop .inv .0) (c .phase .ensures)
 
+-- nor did the labels' buffer change its length
+label-long : (c : tie.After-phase Inv-loop μ-loop) →
+    length (c .phase .last .1 .1 .1 .1 .1 .1 .1 .1 .1 .1 .0) ≡ length (begin (inside (labelled c)) .args .label .now)
+label-long c =
+    let f = labelled c in
+    let k = f .label-all .kept .1 .1 .1 .1 .1 .1 .1 .1 .0 in
+    omega (arith, c .phase .kept .1 .1 .1 .1 .1 .1 .1 .1 .1 .1 .0, inside f .loop .inv .1)
+
 loop-holds : tie.Need-loop-holds Inv-loop μ-loop
 loop-holds c = (kept-none _ _ _ _ _, refl, refl)
 
@@ -73,7 +81,7 @@ same-length-5 : tie.Need-same-length-5 Inv-loop μ-loop
 same-length-5 c = inside (c .before .before .before .before .before .before .before) .loop .inv .0 .load-long
 
 same-length-6 : tie.Need-same-length-6 Inv-loop μ-loop
-same-length-6 c = c .before .before .before .before .before .before .before .label-all .kept .1 .1 .1 .1 .1 .1 .1 .1 .0 ∙ inside (c .before .before .before .before .before .before .before) .loop .inv .1
+same-length-6 c = let f = c .before .before .before .before .before .before .before in f .label-all .kept .1 .1 .1 .1 .1 .1 .1 .1 .0 ∙ inside f .loop .inv .1
 
 returns-2 : tie.Need-returns-2 Inv-loop μ-loop
 returns-2 c = inside (c .before .before .before .before .before .before .before) .loop .inv .0
@@ -104,17 +112,16 @@ same-length-8 : tie.Need-same-length-8 Inv-loop μ-loop
 same-length-8 c = so-far (c .before .before .before .before .before .before .before) .load-long
 
 same-length-9 : tie.Need-same-length-9 Inv-loop μ-loop
-same-length-9 c = let f = labelled (c .before .before .before .before .before .before .before) in c .before .before .before .before .before .before .before .phase .kept .1 .1 .1 .1 .1 .1 .1 .1 .1 .1 .0 ∙ f .label-all .kept .1 .1 .1 .1 .1 .1 .1 .1 .0 ∙ inside f .loop .inv .1
+same-length-9 c = label-long (c .before .before .before .before .before .before .before)
 
 returns-3 : tie.Need-returns-3 Inv-loop μ-loop
 returns-3 c = so-far (c .before .before .before .before .before .before .before)
 
 loop-again : tie.Need-loop-again Inv-loop μ-loop
 loop-again c =
-    let f = labelled (c .before .before .before .before .before .before .before) in
-    let i = inside f .loop .inv in
-    let k = f .label-all .kept .1 .1 .1 .1 .1 .1 .1 .1 in
-    (so-far (c .before .before .before .before .before .before .before), c .before .before .before .before .before .before .before .phase .kept .1 .1 .1 .1 .1 .1 .1 .1 .1 .1 .0 ∙ k .0 ∙ i .1, k .1 .0 ∙ i .2)
+    let d = c .before .before .before .before .before .before .before in
+    let f = labelled d in
+    (so-far d, label-long d, f .label-all .kept .1 .1 .1 .1 .1 .1 .1 .1 .1 .0 ∙ inside f .loop .inv .2)
 
 same-length-10 : tie.Need-same-length-10 Inv-loop μ-loop
 same-length-10 c = c .before .loop .inv .0 .hold-long

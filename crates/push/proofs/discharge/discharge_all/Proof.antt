@@ -16,12 +16,23 @@ Inv-loop n m p count ends starts arcs hold₀ load₀ label₀ current₀ sizes�
 abbrev μ-loop : tie.MeasureT-loop
 μ-loop n m p count ends starts arcs hold₀ load₀ label₀ current₀ sizes₀ queue₀ at₀ tail₀ hold load label current sizes queue at tail = length queue - at
 
--- the function's entry
+-- the places on the way, each from the next
 abbrev begin : tie.At-loop Inv-loop μ-loop → tie.Start Inv-loop μ-loop
 begin c = c .before .before .before .before .before .before .before .before .before .before
 
+abbrev inside : tie.After-discharge Inv-loop μ-loop → tie.At-loop Inv-loop μ-loop
+inside c = c .before .before .before .before .before .before .before .before .before .before .before
+
+-- what a turn and those before it kept
+abbrev so-far : (c : tie.After-discharge Inv-loop μ-loop) → let a = begin (inside c) .args in
+    Kept (a .n) (a .m) (a .ends .now) (a .hold .now) (a .load .now)
+    (c .discharge .last .1 .1 .1 .1 .1 .1 .1 .1 .0) (c .discharge .last .1 .1 .1 .1 .1 .1 .1 .1 .1 .0)
+so-far c = kept-more (inside c .loop .inv .0) (c .discharge .ensures .1)
+
 loop-holds : tie.Need-loop-holds Inv-loop μ-loop
-loop-holds c = (kept-none _ _ _ _ _, omega arith, c .before .before .before .before .before .before .before .before .before .pre .1 .1 .1 .1 .1 .1 .1, refl, refl, refl, refl)
+loop-holds c =
+    let q = c .before .before .before .before .before .before .before .before .before .pre in
+    (kept-none _ _ _ _ _, omega arith, q .1 .1 .1 .1 .1 .1 .1, refl, refl, refl, refl)
 
 discharge-requires : tie.Need-discharge-requires Inv-loop μ-loop
 discharge-requires c κs =
@@ -49,9 +60,9 @@ discharge-requires c κs =
 loop-again : tie.Need-loop-again Inv-loop μ-loop
 loop-again c =
     let d = c .before .before .before .before .before .before .before .before .before .before .before .before in
-    let i = d .before .before .before .before .before .before .before .before .before .before .before .loop .inv in
+    let i = inside d .loop .inv in
     let k = d .discharge .kept .1 .1 .1 .1 .1 .1 .1 .1 .1 .1 in (
-      kept-more (i .0) (d .discharge .ensures .1),
+      so-far d,
       omega (arith, k .1 .1 .1 .0),
       omega (arith, d .discharge .ensures .0, k .1 .1 .1 .0),
       omega (arith, k .1 .1 .1 .0),
@@ -75,7 +86,7 @@ discharge-all-spec =
     loop-holds
     (λ c. omega arith)
     (λ c. omega arith)
-    (λ c κs. omega arith)
+    (λ c κs. tt)
     (λ c. omega arith)
     discharge-requires
     (λ c. omega arith)

@@ -15,14 +15,17 @@ Inv-loop n m p v d x stop tail ends arcs label hold₀ load₀ queue₀ t₀ low
 abbrev μ-loop : tie.MeasureT-loop
 μ-loop n m p v d x stop tail ends arcs label hold₀ load₀ queue₀ t₀ low₀ i₀ hold load queue t low i = stop - i
 
--- the function's entry
+-- the places on the way, each from the next
 abbrev begin : tie.At-loop Inv-loop μ-loop → tie.Start Inv-loop μ-loop
 begin c = c .before .before .before .before .before .before .before
 
+abbrev inside : tie.After-push Inv-loop μ-loop → tie.At-loop Inv-loop μ-loop
+inside c = c .before .before .before .before .before .before .before .before .before .before .before .before .before
+
 -- what a push and those before it kept
-abbrev so-far : (c : tie.After-push Inv-loop μ-loop) → let a = begin (c .before .before .before .before .before .before .before .before .before .before .before .before .before) .args in
+abbrev so-far : (c : tie.After-push Inv-loop μ-loop) → let a = begin (inside c) .args in
     Kept (a .n) (a .m) (a .ends .now) (a .hold .now) (a .load .now) (c .push .last .1 .1 .1 .1 .1 .1 .1 .1 .0) (c .push .last .1 .1 .1 .1 .1 .1 .1 .1 .1 .0)
-so-far c = kept-more (c .before .before .before .before .before .before .before .before .before .before .before .before .before .loop .inv .0) (c .push .ensures .1)
+so-far c = kept-more (inside c .loop .inv .0) (c .push .ensures .1)
 
 loop-holds : tie.Need-loop-holds Inv-loop μ-loop
 loop-holds c = (kept-none _ _ _ _ _, c .before .before .before .before .before .before .pre .1 .1 .1 .1 .2, refl)
@@ -32,15 +35,19 @@ slice-read-label-behind c = let l = c .before .before .before .before .before .b
 
 push-requires : tie.Need-push-requires Inv-loop μ-loop
 push-requires c κs =
-    let l = c .before .before .before .before .before .before .before .before .before .before .before .before in
+    let d = c .before .before .before .before .before .before .before in
+    let l = d .before .before .before .before .before in
     let q = begin l .pre in
     let i = l .loop .inv in (
-      (q .0 .0, q .0 .1, omega (arith, c .before .before .before .before .before .before .before .before .before .neighbour .ensures), c .before .before .before .before .before .before .before .if1 .taken),
+      (q .0 .0, q .0 .1, omega (arith, d .before .before .neighbour .ensures), d .if1 .taken),
       (q .1 .0, (kept-room (i .0) (q .1 .1 .0), (kept-covers (i .0) (q .1 .1 .1 .0), (omega (arith, i .0 .load-long, q .1 .1 .1 .1 .1), i .1)))),
     )
 
 slice-read-if3 : tie.Need-slice-read-if3 Inv-loop μ-loop
-slice-read-if3 c = let q = begin (c .before .before .before .before .before .before .before .before .before .before .before .before .before .before .before .before .before .before .before .before) .pre in omega (arith, q .0 .0, q .0 .1, so-far (c .before .before .before .before .before .before .before) .load-long, q .1 .1 .1 .1 .1)
+slice-read-if3 c =
+    let d = c .before .before .before .before .before .before .before in
+    let q = begin (inside d) .pre in
+    omega (arith, q .0 .0, q .0 .1, so-far d .load-long, q .1 .1 .1 .1 .1)
 
 same-length : tie.Need-same-length Inv-loop μ-loop
 same-length c = so-far (c .before .before .before .before .before .before .before .before) .hold-long
@@ -80,14 +87,14 @@ push-from-spec =
     (λ c. omega arith)
     (λ c. omega arith)
     (λ c. omega arith)
-    (λ c κs. omega arith)
-    (λ c κs. omega arith)
+    (λ c κs. tt)
+    (λ c κs. tt)
     (λ c. omega arith)
     (λ c. omega arith)
     slice-read-label-behind
     (λ c. omega arith)
     (λ c. omega arith)
-    (λ c κs. omega arith)
+    (λ c κs. tt)
     push-requires
     (λ c. omega arith)
     slice-read-if3
@@ -97,11 +104,12 @@ push-from-spec =
     returns
     (λ c. omega arith)
     loop-again
-    (λ c κs. omega arith)
+    (λ c κs. tt)
     (λ c. omega arith)
     loop-again-2
     (λ c. omega arith)
     loop-again-3
+    (λ c. omega arith)
     same-length-4
     same-length-5
     (λ c. omega arith)

@@ -14,12 +14,20 @@ Inv-loop n m v d tail starts arcs hold label₀ queue₀ t₀ x₀ stop label qu
 abbrev μ-loop : tie.MeasureT-loop
 μ-loop n m v d tail starts arcs hold label₀ queue₀ t₀ x₀ stop label queue t x = stop - x
 
+-- the function's entry
+abbrev begin : tie.At-loop Inv-loop μ-loop → tie.Start Inv-loop μ-loop
+begin c = c .before .before .before .before .before .before .before .before .before .before
+
 -- the pair's other slot is one of the list's
-mate-low : (c : tie.After-other Inv-loop μ-loop) → c .other .result < 2 * c .before .before .before .before .before .before .before .before .before .before .before .before .before .before .before .before .before .before .args .m
-mate-low c = omega (arith, c .other .ensures, mates (c .before .before .before .before .before .before .before .before .before .before .before .before .before .before .before .before .before .before .args .m) (c .before .before .slot-of .result) .low (c .before .if2 .taken))
+mate-low : (c : tie.After-other Inv-loop μ-loop) → c .other .result < 2 * begin (c .before .before .before .before .before .before .before .before) .args .m
+mate-low c =
+    let a = begin (c .before .before .before .before .before .before .before .before) .args in
+    omega (arith, c .other .ensures, mates (a .m) _ .low (c .before .if2 .taken))
 
 loop-holds : tie.Need-loop-holds Inv-loop μ-loop
-loop-holds c = let s = c .before .before .before .before .before .before .before .before .before in omega (arith, s .pre .1 .0 .within (s .args .v + 1) (omega arith))
+loop-holds c =
+    let s = c .before .before .before .before .before .before .before .before .before in
+    omega (arith, s .pre .1 .0 .within (s .args .v + 1) (omega arith))
 
 mul-if3 : tie.Need-mul-if3 Inv-loop μ-loop
 mul-if3 c = let o = mate-low c in omega arith
@@ -38,19 +46,19 @@ label-neighbours-spec =
     μ-loop
     (λ c. omega arith)
     (λ c. omega arith)
-    (λ c κs. omega arith)
+    (λ c κs. tt)
     (λ c. omega arith)
     (λ c. omega arith)
     (λ c. omega arith)
-    (λ c κs. omega arith)
+    (λ c κs. tt)
     loop-holds
     (λ c. omega arith)
     (λ c. omega arith)
     (λ c. omega arith)
-    (λ c κs. omega arith)
+    (λ c κs. tt)
     (λ c. omega arith)
     (λ c. omega arith)
-    (λ c κs. omega arith)
+    (λ c κs. tt)
     (λ c. omega arith)
     (λ c κs. omega arith)
     mul-if3

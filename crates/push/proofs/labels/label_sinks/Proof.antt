@@ -43,7 +43,7 @@ label-sinks-spec =
     (λ c. omega arith)
     (λ c. omega arith)
     (λ c. omega arith)
-    (λ c κs. omega arith)
+    (λ c κs. tt)
     (λ c. omega arith)
     (λ c. omega arith)
     (λ c. omega arith)
@@ -52,7 +52,7 @@ label-sinks-spec =
     (λ c. omega arith)
     (λ c. omega arith)
     (λ c. omega arith)
-    (λ c κs. omega arith)
+    (λ c κs. tt)
     add-tail
     (λ c. omega arith)
     loop-again

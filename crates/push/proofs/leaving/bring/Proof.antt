@@ -40,10 +40,10 @@ bring-spec =
     (tie.spec
     (λ c. search needs)
     (λ c. search needs)
+    (λ c κs. tt)
+    (λ c κs. tt)
     (λ c κs. search needs)
-    (λ c κs. search needs)
-    (λ c κs. search needs)
-    (λ c κs. search needs)
+    (λ c κs. tt)
     (λ c. search needs)
     shift-requires
     (λ c. search needs)

@@ -24,11 +24,14 @@ room-now : (c : tie.At-loop Inv-loop μ-loop) → Room (begin c .args .m) (c .lo
 room-now c = kept-room (c .loop .inv .0) (begin c .pre .1 .1 .1 .0)
 
 -- the arc's pair
-at-slot : (c : tie.After-other Inv-loop μ-loop) → let a = begin (c .before .before .before .before .before .before .before .before .before .before) .args in Slot (a .n) (a .m) (a .ends .now) (c .before .before .before .before .before .before .slot-of .result) (c .other .result)
+at-slot : (c : tie.After-other Inv-loop μ-loop) → let a = begin (c .before .before .before .before .before .before .before .before .before .before) .args in
+    Slot (a .n) (a .m) (a .ends .now) (c .before .before .before .before .before .before .slot-of .result) (c .other .result)
 at-slot c = slot-other (c .other .ensures) (begin (c .before .before .before .before .before .before .before .before .before .before) .pre .1 .0) (omega arith)
 
 loop-holds : tie.Need-loop-holds Inv-loop μ-loop
-loop-holds c = let s = c .before .before .before .before .before .before .before .before .before .before .before in (kept-none _ _ _ _ _, refl, omega (arith, s .pre .1 .1 .0 .within (s .args .v + 1) (omega arith)))
+loop-holds c =
+    let s = c .before .before .before .before .before .before .before .before .before .before .before in
+    (kept-none _ _ _ _ _, refl, omega (arith, s .pre .1 .1 .0 .within (s .args .v + 1) (omega arith)))
 
 same-length : tie.Need-same-length Inv-loop μ-loop
 same-length c = c .before .before .before .before .before .before .before .loop .inv .0 .hold-long
@@ -61,10 +64,15 @@ mul-u-2 : tie.Need-mul-u-2 Inv-loop μ-loop
 mul-u-2 c = let p = at-slot c in omega arith
 
 slice-read-u-2 : tie.Need-slice-read-u-2 Inv-loop μ-loop
-slice-read-u-2 c = omega (arith, at-slot (c .before) .mate-low, room-now (c .before .before .before .before .before .before .before .before .before .before .before) .long)
+slice-read-u-2 c =
+    let l = c .before .before .before .before .before .before .before .before .before .before .before in
+    omega (arith, at-slot (c .before) .mate-low, room-now l .long)
 
 add-u : tie.Need-add-u Inv-loop μ-loop
-add-u c = rw (c .before .other .ensures) (omega (arith, room-now (c .before .before .before .before .before .before .before .before .before .before .before) .small (c .before .before .before .before .before .before .before .slot-of .result) (omega arith)))
+add-u c =
+    let d = c .before .before .before .before .before .before .before in
+    let u = room-now (d .before .before .before .before) .small (d .slot-of .result) (omega arith) in
+    rw (c .before .other .ensures) (omega arith)
 
 bring-requires : tie.Need-bring-requires Inv-loop μ-loop
 bring-requires c κs =
@@ -77,7 +85,11 @@ bring-requires c κs =
     )
 
 loop-again : tie.Need-loop-again Inv-loop μ-loop
-loop-again c = let d = c .before .before .before .before in let i = d .before .before .before .before .before .before .before .before .before .before .before .before .before .before .before .before .before .loop .inv in (kept-more (i .0) (d .bring .ensures), simp length-set (i .1), i .2)
+loop-again c =
+    let d = c .before .before .before .before in
+    let l = d .before .before .before .before .before .before .before .before .before .before .before .before .before .before .before .before .before in
+    let i = l .loop .inv in
+    (kept-more (i .0) (d .bring .ensures), simp length-set (i .1), i .2)
 
 same-length-7 : tie.Need-same-length-7 Inv-loop μ-loop
 same-length-7 c = c .before .loop .inv .0 .hold-long
@@ -99,20 +111,20 @@ leave-spec =
     μ-loop
     (λ c. omega arith)
     (λ c. omega arith)
-    (λ c κs. omega arith)
+    (λ c κs. tt)
     (λ c. omega arith)
     (λ c. omega arith)
     (λ c. omega arith)
-    (λ c κs. omega arith)
+    (λ c κs. tt)
     loop-holds
     (λ c. omega arith)
     (λ c. omega arith)
     (λ c. omega arith)
-    (λ c κs. omega arith)
-    (λ c κs. omega arith)
+    (λ c κs. tt)
+    (λ c κs. tt)
     (λ c. omega arith)
     (λ c. omega arith)
-    (λ c κs. omega arith)
+    (λ c κs. tt)
     same-length
     same-length-2
     same-length-3
@@ -128,12 +140,12 @@ leave-spec =
     mul-u-2
     slice-read-u-2
     add-u
-    (λ c κs. omega arith)
+    (λ c κs. tt)
     (λ c. omega arith)
     (λ c. omega arith)
     (λ c. omega arith)
     (λ c. omega arith)
-    (λ c κs. omega arith)
+    (λ c κs. tt)
     (λ c. omega arith)
     (λ c. omega arith)
     bring-requires
