@@ -26,7 +26,7 @@ pub(crate) fn inner(pair: u32, group: &[u8]) -> bool
 {
     let a = slots::wide(pair / 524288);
     let b = slots::wide(pair / 1024 % 512);
-    groups::both(group[a], group[b])
+    numbers::both(group[a], group[b])
 }
 
 // All units of a pair at share size q where its first end left before the second, else none.
