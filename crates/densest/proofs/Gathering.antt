@@ -122,26 +122,6 @@ pub record Read (n : ℕ) (ws : List ℕ) (p : Pair) (j : ℕ) : Type 0 where
   pub light : getD ws (8192 + j) 0 ≤ 1000
   pub few : n ≤ 512
 
--- two words stored
-record Pair-stored (xs ys : List ℕ) (i a b : ℕ) : Type 0 where
-  long : length ys ≡ length xs
-  first : getD ys (2 * i) 0 ≡ a
-  second : getD ys (2 * i + 1) 0 ≡ b
-  others : (k : ℕ) → (k ≡ i → ⊥) → (getD ys (2 * k) 0 ≡ getD xs (2 * k) 0) × (getD ys (2 * k + 1) 0 ≡ getD xs (2 * k + 1) 0)
-
-pair-stored : (xs : List ℕ) (i a b : ℕ) → 2 * i + 1 < length xs → Pair-stored xs (set (set xs (2 * i) a) (2 * i + 1) b) i a b
-pair-stored xs i a b l =
-    let one = set xs (2 * i) a in
-    let e : length one ≡ length xs = length-set xs (2 * i) a in
-    let el : (s : ℕ) → (s ≡ 2 * i → ⊥) → (s ≡ 2 * i + 1 → ⊥) → getD (set one (2 * i + 1) b) s 0 ≡ getD xs s 0 =
-    λ s p r. getD-set-other one (2 * i + 1) s b 0 r ∙ getD-set-other xs (2 * i) s a 0 p in
-    record {
-      long = length-set one (2 * i + 1) b ∙ e;
-      first = getD-set-other one (2 * i + 1) (2 * i) b 0 (λ z. omega arith) ∙ getD-set-same xs (2 * i) a 0 (omega arith);
-      second = getD-set-same one (2 * i + 1) b 0 (omega arith);
-      others = λ k ne. (el (2 * k) (λ z. ne (omega arith)) (λ z. omega arith), el (2 * k + 1) (λ z. omega arith) (λ z. ne (omega arith)));
-    }
-
 -- a pair stored at place i
 record Stored (xs ys : List ℕ) (i : ℕ) (p : Pair) : Type 0 where
   long : length ys ≡ length xs
@@ -152,20 +132,28 @@ stored : (xs : List ℕ) (i a b w : ℕ) → i < 4096 → 8192 + i < length xs �
     Stored xs (set (set (set xs (2 * i) a) (2 * i + 1) b) (8192 + i) w) i (record { a = a; b = b; w = w })
 unfolding word-pair counts-of
 stored xs i a b w l h =
-    let ys = set (set xs (2 * i) a) (2 * i + 1) b in
-    let f = pair-stored xs i a b (omega arith) in
-    let ends : (s : ℕ) → s < 8192 → getD (set ys (8192 + i) w) s 0 ≡ getD ys s 0 = λ s low. getD-set-other ys (8192 + i) s w 0 (λ e. omega arith) in
-    let counts : (k : ℕ) → (k ≡ i → ⊥) → getD (counts-of (set ys (8192 + i) w)) k 0 ≡ getD (counts-of xs) k 0 =
-    λ k ne. getD-drop 8192 (set ys (8192 + i) w) k 0 ∙ getD-set-other ys (8192 + i) (8192 + k) w 0 (λ e. ne (omega arith))
-    ∙ getD-set-other (set xs (2 * i) a) (2 * i + 1) (8192 + k) b 0 (λ e. omega arith) ∙ getD-set-other xs (2 * i) (8192 + k) a 0 (λ e. omega arith)
-    ∙ sym (getD-drop 8192 xs k 0) in
-    let count : getD (counts-of (set ys (8192 + i) w)) i 0 ≡ w =
-    getD-drop 8192 (set ys (8192 + i) w) i 0 ∙ getD-set-same ys (8192 + i) w 0 (omega (arith, f .long)) in
+    let one = set xs (2 * i) a in
+    let two = set one (2 * i + 1) b in
+    let new = set two (8192 + i) w in
+    let one-long : length one ≡ length xs = length-set xs (2 * i) a in
+    let two-long : length two ≡ length one = length-set one (2 * i + 1) b in
+    let other : (s : ℕ) → (s ≡ 2 * i → ⊥) → (s ≡ 2 * i + 1 → ⊥) → (s ≡ 8192 + i → ⊥) → getD new s 0 ≡ getD xs s 0 =
+    λ s p q r. getD-set-other two (8192 + i) s w 0 r ∙ getD-set-other one (2 * i + 1) s b 0 q ∙ getD-set-other xs (2 * i) s a 0 p in
+    let first : getD new (2 * i) 0 ≡ a =
+    getD-set-other two (8192 + i) (2 * i) w 0 (λ e. omega arith) ∙ getD-set-other one (2 * i + 1) (2 * i) b 0 (λ e. omega arith)
+    ∙ getD-set-same xs (2 * i) a 0 (omega arith) in
+    let second : getD new (2 * i + 1) 0 ≡ b =
+    getD-set-other two (8192 + i) (2 * i + 1) w 0 (λ e. omega arith) ∙ getD-set-same one (2 * i + 1) b 0 (omega arith) in
+    let count : getD (counts-of new) i 0 ≡ w = getD-drop 8192 new i 0 ∙ getD-set-same two (8192 + i) w 0 (omega arith) in
     record {
-      long = length-set ys (8192 + i) w ∙ f .long;
-      here = cc (ends (2 * i) (omega arith), ends (2 * i + 1) (omega arith), f .first, f .second, count);
+      long = length-set two (8192 + i) w ∙ two-long ∙ one-long;
+      here = cc (first, second, count);
       others = λ k low ne.
-          let o = f .others k ne in cc (ends (2 * k) (omega arith), ends (2 * k + 1) (omega arith), o .0, o .1, counts k ne);
+          cc (
+            other (2 * k) (λ e. ne (omega arith)) (λ e. omega arith) (λ e. omega arith),
+            other (2 * k + 1) (λ e. omega arith) (λ e. ne (omega arith)) (λ e. omega arith),
+            getD-drop 8192 new k 0 ∙ other (8192 + k) (λ e. omega arith) (λ e. omega arith) (λ e. ne (omega arith)) ∙ sym (getD-drop 8192 xs k 0),
+          );
     }
 
 -- ---- gathering

@@ -175,7 +175,8 @@ module _ (n m : ℕ) (ends weights : List ℕ) (h : Held-words n m ends weights)
       x .p ≡ p → x .q ≡ q → x .k ≡ rounded-up p q → x .core ≡ size scope → Is-solution (list-in n m ends weights) t shares x
   solution-written place shares x by long written =
       solution-of n m ends weights h scope hold t p q all-found place shares x by long
-      (written-shares m q ends weights core scope place units hold packed shares (f .packed) (f .sub) (put-back-is m (word-pair ends weights) core units) written)
+      (written-shares m q ends weights core scope place units hold packed shares (f .packed) (f .sub)
+      (put-back-is m (word-pair ends weights) core units) written)
 
 -- the answer, in buffers that may be longer
 pub solves-of : (n m : ℕ) (words members cores shares s cores′ xs : List ℕ) (x : Solution) → n ≤ length members → m ≤ length shares →

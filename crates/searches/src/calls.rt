@@ -55,15 +55,15 @@ pub(crate) fn solve(list: Reading, phases: usize, links: usize, words: &[u32]) -
     let mut members = [0u8; 512];
     let mut cores = [0u32; 512];
     let mut shares = [0u32; 4096];
-    let mut copy = [0u32; 12288];
+    let mut lent = [0u32; 12288];
     let n = list.n as usize;
     let m = list.m as usize;
-    slots::copy(12288, words, &mut copy);
+    slots::copy(12288, words, &mut lent);
     let record = densest::solve(
         n,
         m,
         Effort { phases, links },
-        &mut copy,
+        &mut lent,
         &mut members,
         &mut cores,
         &mut shares,
