@@ -3,7 +3,7 @@
 --   core-marked                   a scope by core numbers is the core of p over q rounded up
 --   group-candidate               a group's own ratio is one
 --   opened-of, opened-kept, opened-covers    what a round begins with; after units moved; each load is what a module holds
---   arc-zeros, linked-ends        room for arcs; the first pairs of a list are pairs of it
+--   arc-zeros, fewer-ends        room for arcs; the first pairs of a list are pairs of it
 --   marked-bits, marked-few, marked-denser    modules marked by a number of theirs are a byte list, at most n; counted and found denser
 --   round-of, round-stuck         a round, from what `flow` answers; from a counted group that is denser
 --   Going, going-on               what holds from round to round
@@ -17,19 +17,15 @@ use native.Mathlib.Omega.{arith}
 use native.Mathlib.Nat.{mul-le-mul-right, div-le-self}
 use lib.Dec.{leb, eqb}
 use lib.ListN.{length, getD, replicate, length-replicate}
-use lib.Seq.{ext-getD}
 use Rattle.theory.specs.Basics.{mark}
 use Rattle.theory.specs.Lists.{Pairs, is-list}
-use Rattle.theory.specs.Groups.{is-in, size, is-group, inside}
+use Rattle.theory.specs.Groups.{size, is-group, inside}
 use Rattle.theory.specs.Cores.{core}
 use Rattle.theory.specs.Splits.{rounded-up}
-use Rattle.theory.specs.Promise.{Core-members}
 use Rattle.theory.specs.Words.{list-in, Held-words}
 use Rattle.theory.proofs.Tests.{tests, no}
 use Rattle.theory.proofs.Lists.{listed}
 use Rattle.theory.proofs.Groups.{Bits, size-pos, group-bits, bits-group}
-use Rattle.theory.proofs.Sums.{byte-le}
-use Rattle.theory.proofs.Cores.{core-bits, core-members}
 use Rattle.theory.proofs.Bounds.{inside-bound, size-le-length}
 use Rattle.slots.specs.Slots.{Ends, Room, Loads, Covers, Kept}
 use Rattle.slots.specs.Split.{Split}
@@ -42,6 +38,7 @@ use Rattle.flow.specs.Flow.{Flowed, Largest}
 use Rattle.densest.specs.Search.{Candidate, Cored, Searchable, no-load, Opened, Counted, Denser-counted, Round, Group-found}
 use Rattle.densest.proofs.Units.{split-kept, split-room, own-none}
 use Rattle.densest.proofs.Answers.{denser-group}
+use Rattle.densest.proofs.InnerCores.{marked-core}
 use Rattle.densest.proofs.Enough.{drained-found, ratio-rises}
 
 pub record Bounded (p q : ℕ) : Type 0 where
@@ -54,13 +51,6 @@ candidate-bounded g p q l c = record { few = c .few; some = c .some; small = ome
 
 -- ---- the scope
 
--- a byte of at most 1 is the test that it is 1
-byte-mark : (x : ℕ) → x ≤ 1 → x ≡ mark (eqb x 1)
-unfolding mark
-byte-mark zero h = refl
-byte-mark (suc zero) h = refl
-byte-mark (suc (suc x)) h = absurd (omega arith)
-
 mark-small : (b : Bool) → mark b ≤ 1
 unfolding mark
 mark-small true = omega arith
@@ -70,17 +60,10 @@ mark-small false = omega arith
 pub core-marked : (n m k p q : ℕ) (ends weights cores scope : List ℕ) → Held-words n m ends weights → Cored (list-in n m ends weights) cores →
     length scope ≡ n → k ≡ rounded-up p q → ((v : ℕ) → v < n → getD scope v 0 ≡ mark (leb k (getD cores v 0))) →
     scope ≡ core (list-in n m ends weights) (rounded-up p q)
-unfolding list-in is-in Core-members
+unfolding list-in
 core-marked n m k p q ends weights cores scope held cored long order marked =
     let g = list-in n m ends weights in
-    let members = core g k in
-    let same : scope ≡ members = ext-getD 0 scope members (long ∙ sym (core-bits g k .0)) (λ v b.
-    let low : v < n = omega arith in
-    marked v low
-    ∙ ap (λ (x : ℕ). mark (leb k x)) (cored .numbers v low)
-    ∙ ap mark (sym (core-members g k v (held .listed) low))
-    ∙ sym (byte-mark (getD members v 0) (byte-le members v (core-bits g k .1)))) in
-    same ∙ ap (core g) order
+    marked-core g k cores scope (held .listed) cored long marked ∙ ap (core g) order
 
 -- ---- a round
 
@@ -139,8 +122,8 @@ arc-zeros n a b h k = record {
 }
 
 -- the first k of m pairs
-pub linked-ends : {n m k : ℕ} {ends : List ℕ} → k ≤ m → Ends n m ends → Ends n k ends
-linked-ends h e = record {
+pub fewer-ends : {n m k : ℕ} {ends : List ℕ} → k ≤ m → Ends n m ends → Ends n k ends
+fewer-ends h e = record {
   few = omega (arith, e .few);
   long = omega (arith, e .long);
   below = λ s l. e .below s (omega arith);

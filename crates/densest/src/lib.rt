@@ -26,10 +26,10 @@ use sheet::write_shares;
 // At most so many push phases before the searches of a round: enough to leave these next to nothing to do.
 pub const PHASES: usize = 64;
 
-// What goes before the searches to make them short: at most so many push phases, and links of at most so many pairs.
+// What goes before the searches to make them short: at most so many push phases, and arcs of at most so many pairs.
 pub struct Effort {
     pub phases: usize,
-    pub links: usize,
+    pub arcs: usize,
 }
 
 // The found group's inside count p and size q, k = p/q rounded up, and the size of the core of order k; and what the searches did.

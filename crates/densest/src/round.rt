@@ -85,13 +85,13 @@ fn excess(n: usize, p: u32, load: &[u32]) -> u32
     sum
 }
 
-// Arcs of the first `linked` pairs, unless they are laid or every module of the scope is loaded p; and where a split in halves has much above p, the leavers'
+// Arcs of the first `shown` pairs, unless they are laid or every module of the scope is loaded p; and where a split in halves has much above p, the leavers'
 // start in its place. Whether arcs are laid now.
 fn prepare(
     n: usize,
     m: usize,
     p: u32,
-    linked: usize,
+    shown: usize,
     halves: bool,
     laid: bool,
     order: &[u32],
@@ -103,7 +103,7 @@ fn prepare(
     hold: &mut [u32],
     load: &mut [u32],
 ) -> bool
-    requires { ⌜ (n ≤ 512) × (linked ≤ m) ⌝ }
+    requires { ⌜ (n ≤ 512) × (shown ≤ m) ⌝ }
     requires { ⌜ Ends n m (now ends) ⌝ }
     requires { ⌜ Leaving-room n (now order) (now place) ⌝ }
     requires { ⌜ (length (now scope) ≡ n) × (512 ≤ length (now load)) ⌝ }
@@ -119,7 +119,7 @@ fn prepare(
     if level(n, p, scope, load) {
         return false;
     }
-    arcs::lay(n, linked, ends, place, starts, arcs);
+    arcs::lay(n, shown, ends, place, starts, arcs);
     if !halves {
         return true;
     }
@@ -235,12 +235,12 @@ fn close_round(
     }
 }
 
-// One round. At most so many push phases go before the search, and arcs are of the first `linked` pairs.
+// One round. At most so many push phases go before the search, and arcs are of the first `shown` pairs.
 pub(crate) fn round(
     n: usize,
     m: usize,
     phases: usize,
-    linked: usize,
+    shown: usize,
     laid: bool,
     p: u32,
     q: u32,
@@ -259,7 +259,7 @@ pub(crate) fn round(
     requires { ⌜ Searchable n m p q (now ends) (now weights) (now cores) (now scope) (now hold) (now group) ⌝ }
     requires { ⌜ Leaving-room n (now order) (now place) ⌝ }
     requires { ⌜ Arc-room n (now starts) (now arcs) ⌝ }
-    requires { ⌜ linked ≤ m ⌝ }
+    requires { ⌜ shown ≤ m ⌝ }
     ensures { λ r. ⌜ Arc-room n (now (starts .exit)) (now (arcs .exit)) ⌝ }
     ensures { λ r. ⌜ Round n m p q (now (ends .entry)) (now (weights .entry)) (now (scope .exit)) (now (hold .exit)) (now (group .exit)) (r .settled) ⌝ }
     ensures { λ r. ⌜ Counted n m (now (ends .entry)) (now (weights .entry)) (now (group .exit)) (r .p) (r .q) ⌝ }
@@ -283,7 +283,7 @@ pub(crate) fn round(
         n,
         m,
         p,
-        linked,
+        shown,
         halves,
         laid,
         order,

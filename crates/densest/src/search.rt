@@ -27,7 +27,7 @@ fn search(
     n: usize,
     m: usize,
     phases: usize,
-    linked: usize,
+    shown: usize,
     p0: u32,
     q0: u32,
     ends: &[u32],
@@ -44,7 +44,7 @@ fn search(
     requires { ⌜ Searchable n m p0 q0 (now ends) (now weights) (now cores) (now scope) (now hold) (now group) ⌝ }
     requires { ⌜ Leaving-room n (now order) (now place) ⌝ }
     requires { ⌜ Arc-room n (now starts) (now arcs) ⌝ }
-    requires { ⌜ linked ≤ m ⌝ }
+    requires { ⌜ shown ≤ m ⌝ }
     ensures { λ r. ⌜ Arc-room n (now (starts .exit)) (now (arcs .exit)) ⌝ }
     ensures { λ r. ⌜ Group-found n m (now (ends .entry)) (now (weights .entry)) (now (scope .exit)) (now (hold .exit)) (now (group .exit)) (r .p) (r .q)
         (r .settled) ⌝ }
@@ -61,7 +61,7 @@ fn search(
             n,
             m,
             phases,
-            linked,
+            shown,
             laid,
             p,
             q,
@@ -99,7 +99,7 @@ fn last_round(
     n: usize,
     m: usize,
     phases: usize,
-    linked: usize,
+    shown: usize,
     best: Ratio,
     ends: &[u32],
     weights: &[u32],
@@ -115,7 +115,7 @@ fn last_round(
     requires { ⌜ Searchable n m (best .p) (best .q) (now ends) (now weights) (now cores) (now scope) (now hold) (now group) ⌝ }
     requires { ⌜ Leaving-room n (now order) (now place) ⌝ }
     requires { ⌜ Arc-room n (now starts) (now arcs) ⌝ }
-    requires { ⌜ linked ≤ m ⌝ }
+    requires { ⌜ shown ≤ m ⌝ }
     requires { ⌜ Group-found n m (now ends) (now weights) (now scope) (now hold) (now group) (best .p) (best .q) (best .settled) ⌝ }
     ensures { λ r. ⌜ Group-found n m (now (ends .entry)) (now (weights .entry)) (now (scope .exit)) (now (hold .exit)) (now (group .exit))
         (r .p) (r .q) true ⌝ }
@@ -127,7 +127,7 @@ fn last_round(
         n,
         m,
         phases,
-        linked,
+        shown,
         best.laid,
         best.p,
         best.q,
@@ -183,12 +183,12 @@ pub(crate) fn find(
     let mut starts = [0u32; 513];
     let mut arcs = [0u32; 8192];
     let phases = effort.phases;
-    let linked = fewer(effort.links, m);
+    let shown = fewer(effort.arcs, m);
     let best = search(
         n,
         m,
         phases,
-        linked,
+        shown,
         p,
         q,
         ends,
@@ -206,7 +206,7 @@ pub(crate) fn find(
         n,
         m,
         phases,
-        linked,
+        shown,
         best,
         ends,
         weights,

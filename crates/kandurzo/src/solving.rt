@@ -71,7 +71,7 @@ fn sheet_in(
 {
     let effort = Effort {
         phases: PHASES,
-        links: m,
+        arcs: m,
     };
     solve(n, m, effort, &mut work[..12288], members, cores, shares)
 }

@@ -48,8 +48,8 @@ pub(crate) fn peel(list: Reading, words: &[u32]) -> Peeled
     }
 }
 
-// Solve with at most so many push phases before its searches, and links of at most so many pairs; on a copy of the words, which solve uses up.
-pub(crate) fn solve(list: Reading, phases: usize, links: usize, words: &[u32]) -> Solved
+// Solve with at most so many push phases before its searches, and arcs of at most so many pairs; on a copy of the words, which solve uses up.
+pub(crate) fn solve(list: Reading, phases: usize, arcs: usize, words: &[u32]) -> Solved
     requires { ⌜ Holds-list (list .n) (list .m) (now words) ⌝ }
 {
     let mut members = [0u8; 512];
@@ -62,7 +62,7 @@ pub(crate) fn solve(list: Reading, phases: usize, links: usize, words: &[u32]) -
     let record = densest::solve(
         n,
         m,
-        Effort { phases, links },
+        Effort { phases, arcs },
         &mut lent,
         &mut members,
         &mut cores,

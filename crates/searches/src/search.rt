@@ -1,4 +1,4 @@
-// Peel and solve of a list beside the plain computations: solve with push phases and links, with links alone, and with neither.
+// Peel and solve of a list beside the plain computations: solve with push phases and arcs, with arcs alone, and with neither.
 use crate::calls;
 use crate::peels::alter_peel;
 use crate::peels::peel_plainly;
@@ -12,7 +12,7 @@ use crate::tally::Tally;
 use pairfile::Reading;
 ghost use Rattle.theory.specs.Words.{Holds-list};
 
-// Solve with neither phases nor links, of up to 40 modules: each slot of a chain is found by a pass over all slots.
+// Solve with neither phases nor arcs, of up to 40 modules: each slot of a chain is found by a pass over all slots.
 fn try_bare(list: Reading, words: &[u32], best: Best, cores: &[u32], seen: Tally) -> Tally
     requires { ⌜ Holds-list (list .n) (list .m) (now words) ⌝ }
 {

@@ -73,13 +73,13 @@ impl Tally {
         self
     }
 
-    // What searches did that had no links.
+    // What searches did that had no arcs.
     pub(crate) fn scanned(mut self, searches: Searches) -> Tally {
         self.scanned = wrapping_add_u32(self.scanned, searches.chains);
         self
     }
 
-    // What searches did that had links.
+    // What searches did that had arcs.
     pub(crate) fn searched(mut self, searches: Searches) -> Tally {
         self.chains = wrapping_add_u32(self.chains, searches.chains);
         self.longest = greater(self.longest, searches.longest);

@@ -29,7 +29,7 @@ abbrev begin : tie.After-peel → tie.Start
 begin c = c .before .before .before .before .before .before .before .before .before .before .before .before
 
 abbrev peeled : tie.After-find-in-core → tie.After-peel
-peeled c = c .before .before .before .before .before .before .before .before .before .before .before .before
+peeled c = c .before .before .before .before .before .before .before .before .before .before .before .before .before .before
 
 abbrev found : tie.After-write-shares → tie.After-find-in-core
 found c =
@@ -60,11 +60,11 @@ peels c = rw (part-to-end (begin c .args .words .now) 8192) at (c .peel .ensures
 bounded : (c : tie.After-find-in-core) → Bounded (c .find-in-core .result .p) (c .find-in-core .result .q)
 bounded c = gathering-bounded _ _ _ _ (held (start c)) _ _ _ _ _ _ _ (c .find-in-core .ensures)
 
-core-long : (c : tie.After-find-in-core) → length (c .find-in-core .last .1 .1 .1 .1 .1 .1 .1 .0) ≡ start c .args .n
-core-long c = c .find-in-core .kept .1 .1 .1 .1 .1 .1 .1 .0 ∙ start c .pre .1 .0 .0
+core-long : (c : tie.After-find-in-core) → length (c .find-in-core .last .1 .1 .1 .1 .1 .1 .1 .1 .1 .0) ≡ start c .args .n
+core-long c = c .find-in-core .kept .1 .1 .1 .1 .1 .1 .1 .1 .1 .0 ∙ start c .pre .1 .0 .0
 
-scope-long : (c : tie.After-find-in-core) → length (c .find-in-core .last .1 .1 .1 .1 .1 .1 .1 .1 .0) ≡ start c .args .n
-scope-long c = c .find-in-core .kept .1 .1 .1 .1 .1 .1 .1 .1 .0 ∙ start c .pre .1 .0 .1
+scope-long : (c : tie.After-find-in-core) → length (c .find-in-core .last .1 .1 .1 .1 .1 .1 .1 .1 .1 .1 .0) ≡ start c .args .n
+scope-long c = c .find-in-core .kept .1 .1 .1 .1 .1 .1 .1 .1 .1 .1 .0 ∙ start c .pre .1 .0 .1
 
 sub-peel : tie.Need-sub-peel
 sub-peel c = omega (arith, c .before .before .before .before .before .before .before .pre .0 .long)
@@ -78,10 +78,16 @@ peel-requires c κs =
     let s = c .before .before .before .before .before .before .before .before .before .before .before in
     rw (part-to-end (s .args .words .now) 8192) (held s, peelable-zeros _ _ _ _ _ (held s) (s .pre .1 .1 .1))
 
+slice-aggregate-find-in-core : tie.Need-slice-aggregate-find-in-core
+slice-aggregate-find-in-core c = sym (c .before .before .before .before .before .before .before .peel .kept .1 .1 .1 .1 .1 .0)
+
+slice-aggregate-find-in-core-2 : tie.Need-slice-aggregate-find-in-core-2
+slice-aggregate-find-in-core-2 c = sym (c .before .before .before .before .before .before .before .before .peel .kept .1 .1 .1 .1 .1 .1 .1 .0)
+
 find-in-core-requires : tie.Need-find-in-core-requires
 unfolding list-in
 find-in-core-requires c κs =
-    let p = c .before .before .before .before .before .before .before .before .before .before .before in
+    let p = c .before .before .before .before .before .before .before .before .before .before .before .before .before in
     let s = begin p in
     let q = s .pre in (
       record {
@@ -93,7 +99,13 @@ find-in-core-requires c κs =
         group-long = q .1 .1 .0;
         room = room-zeros (s .args .m) 8192 (omega (arith, short s));
       },
-      (omega (arith, q .0 .long), q .1 .0 .0, omega (arith, q .1 .1 .2)),
+      (
+        record {
+          order-long = omega (arith, few s, p .peel .kept .1 .1 .1 .1 .1 .0);
+          place-long = omega (arith, p .peel .kept .1 .1 .1 .1 .1 .1 .1 .0);
+        },
+        (omega (arith, q .0 .long), q .1 .0 .0, omega (arith, q .1 .1 .2)),
+      ),
     )
 
 slice-aggregate-write-shares : tie.Need-slice-aggregate-write-shares
@@ -104,13 +116,13 @@ slice-aggregate-write-shares c =
 slice-aggregate-write-shares-2 : tie.Need-slice-aggregate-write-shares-2
 slice-aggregate-write-shares-2 c =
     let f = c .before .before .before .before .before .before .before .before .before .before .before .before .before .before .before in
-    sym (f .find-in-core .kept .1 .1 .1 .1 .1 .1 .1 .1 .1 .0)
+    sym (f .find-in-core .kept .1 .1 .1 .1 .1 .1 .1 .1 .1 .1 .1 .0)
 
 write-shares-requires : tie.Need-write-shares-requires
 write-shares-requires c κs =
     let f = c .before .before .before .before .before .before .before .before .before .before .before .before .before .before .before .before in
     let s = start f in
-    let k = f .find-in-core .kept .1 .1 .1 .1 .1 .1 .1 .1 .1 in (
+    let k = f .find-in-core .kept .1 .1 .1 .1 .1 .1 .1 .1 .1 .1 .1 in (
       bounded f .small,
       (
         (core-long f, scope-long f, omega (arith, few s, peeled f .peel .kept .1 .1 .1 .1 .1 .1 .1 .0)),
@@ -141,7 +153,7 @@ returns c =
       solution-written (s .args .n) (s .args .m) (s .args .words .now) (counts-of (s .args .words .now)) (held s) _ _ _ _ _ _ _ (f .find-in-core .ensures)
           (p .peel .last .1 .1 .1 .1 .1 .1 .1 .0) (w .write-shares .last .1 .1 .1 .1 .1 .1 .1 .0) _
           (peeled-by-place (list-of s) (held s .listed) _ _ _ _ _ _ _ (peels p))
-          (w .write-shares .kept .1 .1 .1 .1 .1 .1 .1 .0 ∙ f .find-in-core .kept .1 .1 .1 .1 .1 .1 .1 .1 .1 .1 .1 .0 ∙ s .pre .1 .1 .2)
+          (w .write-shares .kept .1 .1 .1 .1 .1 .1 .1 .0 ∙ f .find-in-core .kept .1 .1 .1 .1 .1 .1 .1 .1 .1 .1 .1 .1 .1 .0 ∙ s .pre .1 .1 .2)
           (w .write-shares .ensures) refl refl (c .before .before .rounded-up .ensures) (c .group-size .ensures),
     )
 
@@ -155,6 +167,8 @@ solve-in-spec =
     (λ c. search needs)
     (λ c. search needs)
     peel-requires
+    slice-aggregate-find-in-core
+    slice-aggregate-find-in-core-2
     (λ c. search needs)
     find-in-core-requires
     slice-aggregate-write-shares

@@ -9,13 +9,13 @@ use Rattle.densest.proofs.search.search.Statement.{statement}
 use Rattle.densest.proofs.search.search.Tie as tie
 
 abbrev Inv-loop : tie.InvT-loop
-Inv-loop n m phases linked p0 q0 ends weights cores order place starts₀ arcs₀ scope₀ hold₀ group₀ p₀ q₀ old₀ done₀ settled₀ laid₀ searches₀
+Inv-loop n m phases shown p0 q0 ends weights cores order place starts₀ arcs₀ scope₀ hold₀ group₀ p₀ q₀ old₀ done₀ settled₀ laid₀ searches₀
     starts arcs scope hold group p q old done settled laid searches =
     Going n m ends weights cores scope hold group p q done settled × Arc-room n starts arcs × (length starts ≡ length starts₀)
     × (length arcs ≡ length arcs₀) × (length scope ≡ length scope₀) × (length hold ≡ length hold₀) × (length group ≡ length group₀)
 
 abbrev μ-loop : tie.MeasureT-loop
-μ-loop n m phases linked p0 q0 ends weights cores order place starts₀ arcs₀ scope₀ hold₀ group₀ p₀ q₀ old₀ done₀ settled₀ laid₀ searches₀
+μ-loop n m phases shown p0 q0 ends weights cores order place starts₀ arcs₀ scope₀ hold₀ group₀ p₀ q₀ old₀ done₀ settled₀ laid₀ searches₀
     starts arcs scope hold group p q old done settled laid searches = steps n p q done
 
 -- from a round back to the loop, and to the function's entry
