@@ -1,5 +1,6 @@
 -- The test of the held records, one record at a time, is the test of the list.
 --   scan-more        one record more
+--   same-test        two tests that follow from each other
 --   tested-le         how many records are tested: no more than there are, and at most 4,096
 --   scan-agrees      what the scan says is `agrees`
 --   agrees-count     where head and list agree, M records are there, and they are few
@@ -30,7 +31,7 @@ scan-more n s (p ∷ ps) zero l = refl
 scan-more n s (p ∷ ps) (suc i) l = scan-more n (step-of n s p) ps i (omega (arith, l))
 
 -- two tests that follow from each other
-same-test : (a b : Bool) → (a ≡ true → b ≡ true) → (b ≡ true → a ≡ true) → a ≡ b
+pub same-test : (a b : Bool) → (a ≡ true → b ≡ true) → (b ≡ true → a ≡ true) → a ≡ b
 same-test true b to from = sym (to refl)
 same-test false true to from = from refl
 same-test false false to from = refl

@@ -4,10 +4,10 @@
 //   copy_in    words to records
 //   agree      whether head and list agree (document 01, number 13)
 //   lookup     whether a pair is held, and its place (document 02, item 3): the search of crate pairs, on the records where they lie
-// Each but the last is one pass over the records that it names, and all are blind to what is in a record: lay, record_at, step and look_at know that.
+// Each but the last is one pass over the records that it names, and all are blind to what is in a record: lay, record_at, rises, step and look_at know that.
 ghost use mathlib.Core.Path.{_≡_};
 ghost use lib.ListN.{take};
-ghost use Rattle.theory.specs.Lists.{pair};
+ghost use Rattle.theory.specs.Lists.{pair, stands-before};
 ghost use Rattle.pairs.specs.Located.{located};
 ghost use Rattle.pairs.specs.Searching.{narrowed, Looks};
 ghost use Rattle.records.specs.Records.{copied-record, word-record, copied-out, put-back, Room-at, Fits-at, Room-out, Room-back, agrees};
@@ -126,6 +126,13 @@ fn tested(head: Head, ok: bool) -> usize
     0
 }
 
+// Whether the record before stands before p. The two numbers of each are compared as one, so that no branch goes by chance.
+fn rises(last: Pair, p: Pair) -> bool
+    ensures { λ r. ⌜ r ≡ stands-before (as-pair last) (as-pair p) ⌝ }
+{
+    65536 * (last.a as u32) + (last.b as u32) < 65536 * (p.a as u32) + (p.b as u32)
+}
+
 // One record more.
 fn step(n: u32, seen: Seen, p: Pair) -> Seen
     ensures { λ r. ⌜ r ≡ step-of n seen p ⌝ }
@@ -145,14 +152,8 @@ fn step(n: u32, seen: Seen, p: Pair) -> Seen
     if 1000 < p.w {
         return Seen { ok: false, last: p };
     }
-    if seen.last.a == p.a {
-        return Seen {
-            ok: seen.last.b < p.b,
-            last: p,
-        };
-    }
     Seen {
-        ok: seen.last.a < p.a,
+        ok: rises(seen.last, p),
         last: p,
     }
 }
