@@ -35,21 +35,22 @@ pub(crate) fn over(p: u32, x: u32) -> u32
     if p < x { x - p } else { 0 }
 }
 
-// One phase, with labels as `label_all` leaves them; false where nobody whom it reached is active.
+// One phase, with labels as `label_all` leaves them. `modules` has those that were reached, in order, and once the active ones are queued, each module's current
+// arc.
 fn phase(
     n: usize,
     m: usize,
     p: u32,
     count: usize,
-    reached: &[u32],
+    modules: &mut [u32],
     ends: &[u32],
     starts: &[u32],
     arcs: &[u32],
     hold: &mut [u32],
     load: &mut [u32],
     label: &mut [u32],
-) -> bool
-    requires { ⌜ (n ≤ 512) × (count ≤ length (now reached)) ⌝ }
+)
+    requires { ⌜ (n ≤ 512) × (count ≤ length (now modules)) × (512 ≤ length (now modules)) ⌝ }
     requires { ⌜ Ends n m (now ends) ⌝ }
     requires { ⌜ Arc-room n (now starts) (now arcs) ⌝ }
     requires { ⌜ Room m (now hold) ⌝ }
@@ -57,11 +58,10 @@ fn phase(
     requires { ⌜ (512 ≤ length (now load)) × (512 ≤ length (now label)) ⌝ }
     ensures { λ r. ⌜ Kept n m (now (ends .entry)) (now (hold .entry)) (now (load .entry)) (now (hold .exit)) (now (load .exit)) ⌝ }
 {
-    let mut current = [0u32; 512];
     let mut sizes = [0u32; 513];
     let mut queue = [0u32; 640];
-    let active = queue_active(p, count, reached, load, label, &mut sizes, &mut queue);
-    copy(n, starts, &mut current);
+    let active = queue_active(p, count, modules, load, label, &mut sizes, &mut queue);
+    copy(n, starts, modules);
     discharge_all(
         n,
         m,
@@ -73,11 +73,10 @@ fn phase(
         hold,
         load,
         label,
-        &mut current,
+        modules,
         &mut sizes,
         &mut queue,
     );
-    active > 0
 }
 
 // Whether a module is active: loaded above p.
@@ -94,8 +93,8 @@ fn any_active(n: usize, p: u32, load: &[u32]) -> bool
     false
 }
 
-// Whether the far modules have most of what lies above p.
-fn any_stuck(n: usize, p: u32, load: &[u32], label: &[u32]) -> bool
+// Whether the far modules have half or more of what lies above p, and some.
+fn mostly_stuck(n: usize, p: u32, load: &[u32], label: &[u32]) -> bool
     requires { ⌜ (n ≤ length (now load)) × (n ≤ length (now label)) ⌝ }
 {
     let mut all = 0;
@@ -113,7 +112,7 @@ fn any_stuck(n: usize, p: u32, load: &[u32], label: &[u32]) -> bool
     wrapping_sub_u32(all, stuck) <= stuck
 }
 
-// At most `most` phases, as long as a module is loaded above p and units of one can still move on. True where they ended because most of what lies above p
+// At most `most` phases, as long as a module is loaded above p. True where they ended because most of what lies above p
 // is stuck: `label` is FAR then for the modules of the scope from which nothing can go. How well they balance the loads is free, and so is `label`: whatever
 // moves, it moves within pairs.
 pub fn phases(
@@ -156,24 +155,22 @@ pub fn phases(
             label,
             &mut reached,
         );
-        if any_stuck(n, p, load, label) {
+        if mostly_stuck(n, p, load, label) {
             return true;
         }
-        if !phase(
+        phase(
             n,
             m,
             p,
             count,
-            &reached,
+            &mut reached,
             ends,
             starts,
             arcs,
             hold,
             load,
             label,
-        ) {
-            return false;
-        }
+        );
     }
     false
 }

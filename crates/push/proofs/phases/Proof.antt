@@ -66,8 +66,8 @@ label-all-requires c κs =
       ((b .0, kept-covers (i .0) (q .1 .1 .1 .1 .0) .long), (q .1 .1 .0, (r .long, (omega (arith, b .2, i .1), omega (arith, q .0, i .2))))),
     )
 
-any-stuck-requires : tie.Need-any-stuck-requires Inv-loop μ-loop
-any-stuck-requires c κs =
+mostly-stuck-requires : tie.Need-mostly-stuck-requires Inv-loop μ-loop
+mostly-stuck-requires c κs =
     let f = c .before .before .before .before .before in
     let l = inside f in
     let q = begin l .pre in
@@ -95,7 +95,7 @@ phase-requires c κs =
     let k = f .label-all .kept .1 .1 .1 .1 .1 .1 .1 .1 in
     let b = q .1 .1 .1 .1 .1 in
     let e = i .0 .load-long in (
-      (q .0, omega (arith, f .label-all .ensures, k .1 .0)),
+      (q .0, omega (arith, f .label-all .ensures, k .1 .0), omega (arith, i .2, k .1 .0)),
       (
         q .1 .0,
         (
@@ -105,35 +105,23 @@ phase-requires c κs =
       ),
     )
 
-same-length-7 : tie.Need-same-length-7 Inv-loop μ-loop
-same-length-7 c = so-far (c .before .before .before .before .before .before .before) .hold-long
-
-same-length-8 : tie.Need-same-length-8 Inv-loop μ-loop
-same-length-8 c = so-far (c .before .before .before .before .before .before .before) .load-long
-
-same-length-9 : tie.Need-same-length-9 Inv-loop μ-loop
-same-length-9 c = label-long (c .before .before .before .before .before .before .before)
-
-returns-3 : tie.Need-returns-3 Inv-loop μ-loop
-returns-3 c = so-far (c .before .before .before .before .before .before .before)
-
 loop-again : tie.Need-loop-again Inv-loop μ-loop
 loop-again c =
     let d = c .before .before .before .before .before .before .before in
     let f = labelled d in
-    (so-far d, label-long d, f .label-all .kept .1 .1 .1 .1 .1 .1 .1 .1 .1 .0 ∙ inside f .loop .inv .2)
+    (so-far d, label-long d, d .phase .kept .1 .1 .1 .1 .0 ∙ f .label-all .kept .1 .1 .1 .1 .1 .1 .1 .1 .1 .0 ∙ inside f .loop .inv .2)
 
-same-length-10 : tie.Need-same-length-10 Inv-loop μ-loop
-same-length-10 c = c .before .loop .inv .0 .hold-long
+same-length-7 : tie.Need-same-length-7 Inv-loop μ-loop
+same-length-7 c = c .before .loop .inv .0 .hold-long
 
-same-length-11 : tie.Need-same-length-11 Inv-loop μ-loop
-same-length-11 c = c .before .loop .inv .0 .load-long
+same-length-8 : tie.Need-same-length-8 Inv-loop μ-loop
+same-length-8 c = c .before .loop .inv .0 .load-long
 
-same-length-12 : tie.Need-same-length-12 Inv-loop μ-loop
-same-length-12 c = c .before .loop .inv .1
+same-length-9 : tie.Need-same-length-9 Inv-loop μ-loop
+same-length-9 c = c .before .loop .inv .1
 
-returns-4 : tie.Need-returns-4 Inv-loop μ-loop
-returns-4 c = c .before .loop .inv .0
+returns-3 : tie.Need-returns-3 Inv-loop μ-loop
+returns-3 c = c .before .loop .inv .0
 
 pub phases-spec : {M : Type 1} → statement M
 phases-spec =
@@ -150,20 +138,16 @@ phases-spec =
     returns
     (λ c. omega arith)
     label-all-requires
-    any-stuck-requires
+    mostly-stuck-requires
     same-length-4
     same-length-5
     same-length-6
     returns-2
     (λ c. omega arith)
     phase-requires
+    (λ c. omega arith)
+    loop-again
     same-length-7
     same-length-8
     same-length-9
-    returns-3
-    (λ c. omega arith)
-    loop-again
-    same-length-10
-    same-length-11
-    same-length-12
-    returns-4)
+    returns-3)

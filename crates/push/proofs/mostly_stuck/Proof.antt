@@ -1,8 +1,8 @@
--- `push::any_stuck` meets its contract. Assumes nothing.
+-- `push::mostly_stuck` meets its contract. Assumes nothing.
 use native.Mathlib.Omega.{arith}
 use Prim.Native.Nat.{_-_, _≤_}
-use Rattle.push.proofs.any_stuck.Statement.{statement}
-use Rattle.push.proofs.any_stuck.Tie as tie
+use Rattle.push.proofs.mostly_stuck.Statement.{statement}
+use Rattle.push.proofs.mostly_stuck.Tie as tie
 
 abbrev Inv-loop : tie.InvT-loop
 Inv-loop n p load label all₀ stuck₀ v₀ all stuck v =
@@ -11,8 +11,8 @@ Inv-loop n p load label all₀ stuck₀ v₀ all stuck v =
 abbrev μ-loop : tie.MeasureT-loop
 μ-loop n p load label all₀ stuck₀ v₀ all stuck v = n - v
 
-pub any-stuck-spec : {M : Type 1} → statement M
-any-stuck-spec =
+pub mostly-stuck-spec : {M : Type 1} → statement M
+mostly-stuck-spec =
     tie.close
     (tie.spec
     Inv-loop
