@@ -1,9 +1,10 @@
 // The set search (document 01, "The list and its calls", solve), on a held list in words: the found group and its load sheet.
 //
-// It stands above the split search (crate `flow`) and knows only its promise. The densest remainder of the leaving order is the first group at
-// hand. Rounds lead from a group to a denser one until there is none (`search`: the Dinkelbach iteration for the maximal densest subgraph). Whatever
-// is as dense as the group at hand lies in the core of its ratio rounded up; so, where that core has few of the modules, the rounds go over the pairs
-// inside it only (`gather`). The units that the last round leaves make the load sheet (`sheet`).
+// It stands above the split search (crate `flow`) and knows only its promise; of what balances units before it (crate `push`) it knows that they move
+// within pairs. The densest remainder of the leaving order is the first group at hand. Rounds lead from a group to a denser one until there is none
+// (`search`: the Dinkelbach iteration for the maximal densest subgraph). Whatever is as dense as the group at hand lies in the core of its ratio rounded up;
+// so, where that core leaves out an eighth of the modules or more, the rounds go over the pairs inside it only (`gather`). The units that the last round
+// leaves make the load sheet (`sheet`).
 // Cost: peeling, and a few rounds over the core's pairs; ratios rise from round to round, so the rounds end. Nothing is refused, and 15 never comes.
 mod gather;
 mod packing;

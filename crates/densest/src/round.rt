@@ -24,7 +24,7 @@ pub(crate) struct Turn {
 }
 
 // A counted group's inside count and size, and whether it is denser than the one at hand.
-struct Stuck {
+struct Count {
     p: u32,
     q: u32,
     denser: bool,
@@ -59,7 +59,7 @@ fn open_round(
 }
 
 // Whether every module of the scope is loaded p: then no unit need move, and nobody looks for arcs.
-fn level(n: usize, p: u32, scope: &[u8], load: &[u32]) -> bool
+fn even(n: usize, p: u32, scope: &[u8], load: &[u32]) -> bool
     requires { ⌜ (n ≤ length (now scope)) × (n ≤ length (now load)) ⌝ }
 {
     let mut v = 0;
@@ -116,7 +116,7 @@ fn prepare(
     if laid {
         return true;
     }
-    if level(n, p, scope, load) {
+    if even(n, p, scope, load) {
         return false;
     }
     arcs::lay(n, shown, ends, place, starts, arcs);
@@ -158,7 +158,7 @@ fn balance(
     hold: &mut [u32],
     load: &mut [u32],
     group: &mut [u8],
-) -> Stuck
+) -> Count
     requires { ⌜ Held-words n m (now ends) (now weights) ⌝ }
     requires { ⌜ Candidate (list-in n m (now ends) (now weights)) p q ⌝ }
     requires { ⌜ Arc-room n (now starts) (now arcs) ⌝ }
@@ -182,7 +182,7 @@ fn balance(
         load,
         &mut label,
     ) {
-        return Stuck {
+        return Count {
             p: 0,
             q: 0,
             denser: false,
@@ -191,7 +191,7 @@ fn balance(
     groups::mark_at_least(n, push::FAR, &label, group);
     let inside = groups::inside_count(n, m, ends, weights, group);
     let size = groups::group_size(n, group);
-    Stuck {
+    Count {
         p: inside,
         q: size,
         denser: is_denser(inside, size, p, q),
@@ -235,6 +235,123 @@ fn close_round(
     }
 }
 
+// What a round begins with, and its arcs: of the first `shown` pairs, unless they are laid. A split in halves may give way to the leavers' start. Whether arcs
+// are laid now.
+fn begin_round(
+    n: usize,
+    m: usize,
+    shown: usize,
+    halves: bool,
+    laid: bool,
+    p: u32,
+    q: u32,
+    old: u32,
+    ends: &[u32],
+    weights: &[u32],
+    cores: &[u32],
+    order: &[u32],
+    place: &[u32],
+    starts: &mut [u32],
+    arcs: &mut [u32],
+    scope: &mut [u8],
+    hold: &mut [u32],
+    load: &mut [u32],
+) -> bool
+    requires { ⌜ Held-words n m (now ends) (now weights) ⌝ }
+    requires { ⌜ Candidate (list-in n m (now ends) (now weights)) p q ⌝ }
+    requires { ⌜ Cored (list-in n m (now ends) (now weights)) (now cores) ⌝ }
+    requires { ⌜ Leaving-room n (now order) (now place) ⌝ }
+    requires { ⌜ (shown ≤ m) × (length (now scope) ≡ n) × (length (now load) ≡ 512) ⌝ }
+    requires { ⌜ Arc-room n (now starts) (now arcs) ⌝ }
+    requires { ⌜ Room m (now hold) ⌝ }
+    ensures { λ r. ⌜ Arc-room n (now (starts .exit)) (now (arcs .exit)) ⌝ }
+    ensures { λ r. ⌜ Opened n m p q (now (ends .entry)) (now (weights .entry)) (now (scope .exit)) (now (hold .exit)) (now (load .exit)) ⌝ }
+{
+    open_round(n, m, p, q, old, ends, weights, cores, scope, hold, load);
+    prepare(
+        n,
+        m,
+        p,
+        shown,
+        halves,
+        laid,
+        order,
+        place,
+        scope,
+        ends,
+        starts,
+        arcs,
+        hold,
+        load,
+    )
+}
+
+// What a round decides: a counted group where phases get stuck and that is denser, else what the exact search finds.
+fn decide(
+    n: usize,
+    m: usize,
+    phases: usize,
+    p: u32,
+    q: u32,
+    laid: bool,
+    scope: &[u8],
+    ends: &[u32],
+    weights: &[u32],
+    starts: &[u32],
+    arcs: &[u32],
+    hold: &mut [u32],
+    load: &mut [u32],
+    group: &mut [u8],
+) -> Turn
+    requires { ⌜ Held-words n m (now ends) (now weights) ⌝ }
+    requires { ⌜ Candidate (list-in n m (now ends) (now weights)) p q ⌝ }
+    requires { ⌜ Arc-room n (now starts) (now arcs) ⌝ }
+    requires { ⌜ (length (now scope) ≡ n) × (length (now group) ≡ n) × (512 ≤ length (now load)) ⌝ }
+    requires { ⌜ Opened n m p q (now ends) (now weights) (now scope) (now hold) (now load) ⌝ }
+    ensures { λ r. ⌜ Round n m p q (now (ends .entry)) (now (weights .entry)) (now (scope .entry)) (now (hold .exit)) (now (group .exit)) (r .settled) ⌝ }
+    ensures { λ r. ⌜ Counted n m (now (ends .entry)) (now (weights .entry)) (now (group .exit)) (r .p) (r .q) ⌝ }
+{
+    let stuck = balance(
+        n,
+        m,
+        phases,
+        p,
+        q,
+        scope,
+        ends,
+        weights,
+        starts,
+        arcs,
+        hold,
+        load,
+        group,
+    );
+    if stuck.denser {
+        return Turn {
+            p: stuck.p,
+            q: stuck.q,
+            settled: false,
+            laid,
+            searches: no_searches(),
+        };
+    }
+    close_round(
+        n,
+        m,
+        p,
+        q,
+        laid,
+        scope,
+        ends,
+        weights,
+        starts,
+        arcs,
+        hold,
+        load,
+        group,
+    )
+}
+
 // One round. At most so many push phases go before the search, and arcs are of the first `shown` pairs.
 pub(crate) fn round(
     n: usize,
@@ -265,63 +382,31 @@ pub(crate) fn round(
     ensures { λ r. ⌜ Counted n m (now (ends .entry)) (now (weights .entry)) (now (group .exit)) (r .p) (r .q) ⌝ }
 {
     let mut load = [0u32; 512];
-    open_round(
+    let halves = (old == 0) & (phases > 0);
+    let made = begin_round(
         n,
         m,
+        shown,
+        halves,
+        laid,
         p,
         q,
         old,
         ends,
         weights,
         cores,
-        scope,
-        hold,
-        &mut load,
-    );
-    let halves = (old == 0) & (phases > 0);
-    let made = prepare(
-        n,
-        m,
-        p,
-        shown,
-        halves,
-        laid,
         order,
         place,
-        scope,
-        ends,
         starts,
         arcs,
+        scope,
         hold,
         &mut load,
     );
-    let stuck = balance(
+    decide(
         n,
         m,
         phases,
-        p,
-        q,
-        scope,
-        ends,
-        weights,
-        starts,
-        arcs,
-        hold,
-        &mut load,
-        group,
-    );
-    if stuck.denser {
-        return Turn {
-            p: stuck.p,
-            q: stuck.q,
-            settled: false,
-            laid: made,
-            searches: no_searches(),
-        };
-    }
-    close_round(
-        n,
-        m,
         p,
         q,
         made,

@@ -13,10 +13,12 @@ use flow::Searches;
 use flow::no_searches;
 use flow::together;
 
-// A group's inside count and size, whether the last round made a split at that size, whether arcs are laid, and what the searches of all rounds did.
+// A group's inside count and size, the share size of the units in the slots, whether the last round made a split at the group's size, whether arcs are laid,
+// and what the searches of all rounds did.
 pub(crate) struct Ratio {
     pub(crate) p: u32,
     pub(crate) q: u32,
+    pub(crate) old: u32,
     pub(crate) settled: bool,
     pub(crate) laid: bool,
     pub(crate) searches: Searches,
@@ -88,6 +90,7 @@ fn search(
     Ratio {
         p,
         q,
+        old,
         settled,
         laid,
         searches,
@@ -131,7 +134,7 @@ fn last_round(
         best.laid,
         best.p,
         best.q,
-        best.q,
+        best.old,
         ends,
         weights,
         cores,
@@ -146,6 +149,7 @@ fn last_round(
     Ratio {
         p: best.p,
         q: best.q,
+        old: best.q,
         settled: turn.settled,
         laid: turn.laid,
         searches: together(best.searches, turn.searches),

@@ -11,10 +11,10 @@ use crate::packing::inner;
 pub(crate) type Share = u32;
 
 // A pair's share: what its first slot holds where both ends are in the core, else all or nothing.
-fn share(inner: bool, held: u32, forced: u32) -> Share
-    ensures { λ r. ⌜ r ≡ cond inner held forced ⌝ }
+fn share(inside: bool, held: u32, whole: u32) -> Share
+    ensures { λ r. ⌜ r ≡ cond inside held whole ⌝ }
 {
-    if inner { held } else { forced }
+    if inside { held } else { whole }
 }
 
 // The load sheet, in the place of the pairs, which stand packed there: pairs inside the scope as their slots hold it, the others wholly with the end that

@@ -12,7 +12,7 @@ use crate::tally::Tally;
 use pairfile::Reading;
 ghost use Rattle.theory.specs.Words.{Holds-list};
 
-// Solve with neither phases nor arcs, of up to 40 modules: each slot of a chain is found by a pass over all slots.
+// Solve with neither phases nor arcs, of up to 40 modules: each slot of a chain is found by a pass over all pairs.
 fn try_bare(list: Reading, words: &[u32], best: Best, cores: &[u32], seen: Tally) -> Tally
     requires { ⌜ Holds-list (list .n) (list .m) (now words) ⌝ }
 {
