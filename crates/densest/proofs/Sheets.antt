@@ -215,6 +215,6 @@ module _ (n m : ℕ) (ends weights scope place hold t shares : List ℕ) (d : Sh
   unfolding list
   sheet-optimal = optimal list t shares (d .held .listed) (d .found .group) (handed-out .0) (omega (arith, handed-out .1))
 
-  pub sheet-outside : outside-good (list-in n m ends weights) (core-order (list-in n m ends weights) t) (size t) (list-in n m ends weights .pairs) shares ≡ true
+  pub sheet-outside : let g = list-in n m ends weights in outside-good g (core-order g t) (size t) (g .pairs) shares ≡ true
   unfolding list list-in
   sheet-outside = handed-out .2

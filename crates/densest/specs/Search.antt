@@ -11,7 +11,7 @@
 use mathlib.Core.Path.{_≡_}
 use mathlib.Core.Bool.{Bool, true, false, cond}
 use mathlib.Core.List.{List}
-use Prim.Native.Nat.{ℕ, _+_, _*_, _≤_, _<_}
+use Prim.Native.Nat.{ℕ, _*_, _≤_, _<_}
 use lib.Dec.{ltb}
 use lib.ListN.{length, getD, replicate}
 use Rattle.theory.specs.Lists.{Pair, Pairs}

@@ -1,6 +1,6 @@
 // The search among the pairs inside a core: all that is as dense as the group at hand lies in the core of its ratio rounded up. Where that core has at
-// most seven eighths of the modules its pairs are gathered, else all pairs, which are those inside the core of order 0. They are gathered at the front of the words that
-// held all pairs; these are packed first, a word each, in the lent shares, from which the load sheet is made in the end.
+// most seven eighths of the modules its pairs are gathered, else all pairs, which are those inside the core of order 0. They are gathered at the front of
+// the words that held all pairs; these are packed first, a word each, in the lent shares, from which the load sheet is made in the end.
 ghost use mathlib.Core.Path.{_≡_};
 ghost use mathlib.Core.Bool.{cond};
 ghost use Prim.Native.Nat.{ℕ, _≤_, _<_};

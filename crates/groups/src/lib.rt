@@ -4,9 +4,8 @@
 // number, say) is k or more. What asks for a group asks for exactly n bytes: a caller lends `&members[..n]`. Each costs one pass over the modules or the
 // pairs. Nothing is refused.
 ghost use mathlib.Core.Path.{_≡_};
-ghost use mathlib.Core.Bool.{_&&_};
 ghost use Prim.Native.Nat.{ℕ, _≤_, _<_};
-ghost use lib.Dec.{leb, eqb};
+ghost use lib.Dec.{leb};
 ghost use lib.ListN.{length, getD};
 ghost use Rattle.theory.specs.Basics.{mark};
 ghost use Rattle.theory.specs.Groups.{inside, size};

@@ -35,8 +35,8 @@ pub(crate) fn over(p: u32, x: u32) -> u32
     if p < x { x - p } else { 0 }
 }
 
-// One phase, with labels as `label_all` leaves them. `modules` has those that were reached, in order, and once the active ones are queued, each module's current
-// arc.
+// One phase, with labels as `label_all` leaves them. `modules` has those that were reached, in order, and once the active ones are queued, each module's
+// current arc.
 fn phase(
     n: usize,
     m: usize,

@@ -1,4 +1,4 @@
--- Units in slots, the links of a module's slots, splits in slots, a module's pairs, buffers; each file opens with what it gives.
+-- Units in slots, links, splits in slots, a module's pairs, buffers; each file opens with what it gives.
 pub mod Slots
 pub mod Links
 pub mod Split

@@ -1,4 +1,4 @@
--- Links: the places at which a module stands among module numbers (a list's slots, or its pairs' ends), as a chain from the last one back to the first.
+-- Links: the places at which a module stands among module numbers (its pairs' ends), as a chain from the last one back to the first.
 --   last-at      the last of the first k places at which a module stands
 --   Lasts        a buffer that has each module's
 --   Linked       buffers that have the links

@@ -79,7 +79,8 @@ returns-2 : tie.Need-returns-2
 returns-2 c =
     let k = c .before .before .before .before .before .before .before in (
       pushed k .phases .ensures,
-      λ e. marked-denser 512 (labels k) (group-of k) (group-long k) (k .mark-at-least .ensures) (c .before .before .before .inside-count .ensures) (c .before .group-size .ensures) (c .is-denser .ensures e),
+      λ e. marked-denser 512 (labels k) (group-of k) (group-long k) (k .mark-at-least .ensures)
+          (c .before .before .before .inside-count .ensures) (c .before .group-size .ensures) (c .is-denser .ensures e),
     )
 
 pub balance-spec : {M : Type 1} → statement M

@@ -14,7 +14,8 @@ begin c = c .before .before .before .before .before .before .before .before .bef
 
 -- what the round began with, after phases
 at-balance : (c : tie.After-balance) → let a = begin c .args in
-    Opened (a .n) (a .m) (a .p) (a .q) (a .ends .now) (a .weights .now) (a .scope .now) (c .balance .last .1 .1 .1 .1 .1 .1 .1 .1 .1 .1 .0) (c .balance .last .1 .1 .1 .1 .1 .1 .1 .1 .1 .1 .1 .0)
+    Opened (a .n) (a .m) (a .p) (a .q) (a .ends .now) (a .weights .now) (a .scope .now)
+    (c .balance .last .1 .1 .1 .1 .1 .1 .1 .1 .1 .1 .0) (c .balance .last .1 .1 .1 .1 .1 .1 .1 .1 .1 .1 .1 .0)
 at-balance c = opened-kept (begin c .pre .1 .1 .1 .1) (c .balance .ensures .0)
 
 balance-requires : tie.Need-balance-requires

@@ -1,6 +1,5 @@
 -- `densest::round::is_denser` meets its contract. Assumes nothing.
 use native.Mathlib.Omega.{arith}
-use mathlib.Core.Path.{sym}
 use Rattle.theory.proofs.Tests.{no}
 use Rattle.peel.proofs.Remainders.{cross-fits}
 use Rattle.densest.proofs.round.is_denser.Statement.{statement}

@@ -16,7 +16,8 @@ search-requires : tie.Need-search-requires
 search-requires c κs =
     let s = c .before .before .before .before .before .before .before .before .before .before .before .before .before .before in
     let q = s .pre in
-    (q .0, (q .1, (arc-zeros (s .args .n) 513 8192 (omega (arith, few-modules _ _ _ _ (q .0 .held .listed))) (omega arith), c .before .before .before .before .before .fewer .ensures)))
+    let room = arc-zeros (s .args .n) 513 8192 (omega (arith, few-modules _ _ _ _ (q .0 .held .listed))) (omega arith) in
+    (q .0, (q .1, (room, c .before .before .before .before .before .fewer .ensures)))
 
 last-round-requires : tie.Need-last-round-requires
 last-round-requires c κs =
@@ -32,7 +33,7 @@ last-round-requires c κs =
         group-long = e .kept .1 .1 .1 .1 .1 .1 .1 .1 .1 .1 .1 .1 .1 .1 .1 .0 ∙ q .group-long;
         room = e .ensures .1 .room;
       },
-      (s .pre .1, (e .ensures .0, (c .before .before .before .before .before .before .before .before .before .before .before .before .before .before .before .before .before .before .before .fewer .ensures, e .ensures .1))),
+      (s .pre .1, (e .ensures .0, (f .before .before .before .before .before .before .fewer .ensures, e .ensures .1))),
     )
 
 pub find-spec : {M : Type 1} → statement M

@@ -12,7 +12,9 @@ returns : tie.Need-returns
 returns c = rw (c .if1 .taken) at (c .before .before .before .before .before .before .before .before .before .before .before .pre .1 .1 .1 .1)
 
 round-requires : tie.Need-round-requires
-round-requires c κs = let q = c .before .before .before .before .before .before .before .before .before .before .before .before .before .before .before .before .pre in (q .0, (q .1 .0, (q .1 .1 .0, q .1 .1 .1 .0)))
+round-requires c κs =
+    let q = c .before .before .before .before .before .before .before .before .before .before .before .before .before .before .before .before .pre in
+    (q .0, (q .1 .0, (q .1 .1 .0, q .1 .1 .1 .0)))
 
 returns-2 : tie.Need-returns-2
 returns-2 c =

@@ -26,7 +26,9 @@ abbrev begin : tie.At-loop Inv-loop μ-loop → tie.Start Inv-loop μ-loop
 begin c = c .before .before .before .before .before .before .before .before .before .before .before .before
 
 loop-holds : tie.Need-loop-holds Inv-loop μ-loop
-loop-holds c = let k = c .before .before .before .before .before .before .before .before .before .before .before .pre in (record { asks = k .0; ended = λ e. no e }, k .1 .1 .0, refl, refl, refl, refl, refl)
+loop-holds c =
+    let k = c .before .before .before .before .before .before .before .before .before .before .before .pre in
+    (record { asks = k .0; ended = λ e. no e }, k .1 .1 .0, refl, refl, refl, refl, refl)
 
 round-requires : tie.Need-round-requires Inv-loop μ-loop
 round-requires c κs =
@@ -51,7 +53,9 @@ loop-again c =
     let k = r .round .kept in (
       going-on (a .n) (a .m) (a .ends .now) (a .weights .now) (a .cores .now) (l .scope) (l .hold) (l .group) _ _ _
           (l .p) (l .q) _ _ (l .done) (l .settled) _ (c .before .same .result) (l .inv .0) (r .round .ensures .1 .0) (r .round .ensures .1 .1)
-          (c .before .same .ensures) (k .1 .1 .1 .1 .1 .1 .1 .1 .1 .1 .1 .1 .1 .1 .1 .0 ∙ l .inv .0 .asks .scope-long) (k .1 .1 .1 .1 .1 .1 .1 .1 .1 .1 .1 .1 .1 .1 .1 .1 .1 .0 ∙ l .inv .0 .asks .group-long),
+          (c .before .same .ensures)
+          (k .1 .1 .1 .1 .1 .1 .1 .1 .1 .1 .1 .1 .1 .1 .1 .0 ∙ l .inv .0 .asks .scope-long)
+          (k .1 .1 .1 .1 .1 .1 .1 .1 .1 .1 .1 .1 .1 .1 .1 .1 .1 .0 ∙ l .inv .0 .asks .group-long),
       r .round .ensures .0,
       k .1 .1 .1 .1 .1 .1 .1 .1 .1 .1 .1 .1 .1 .0 ∙ l .inv .2,
       k .1 .1 .1 .1 .1 .1 .1 .1 .1 .1 .1 .1 .1 .1 .0 ∙ l .inv .3,
