@@ -53,16 +53,16 @@ enum {
  * other builds of the library, other memset and memcpy, and their binding at first use. */
 enum {
     KANDURZO_STACK_START = 16384,
-    KANDURZO_STACK_ADD = 65536,    /* add and add_to */
-    KANDURZO_STACK_REMOVE = 65536, /* remove and remove_from */
+    KANDURZO_STACK_ADD = 59392,    /* add and add_to */
+    KANDURZO_STACK_REMOVE = 59392, /* remove and remove_from */
     KANDURZO_STACK_PLACE = 16384,
     KANDURZO_STACK_READ = 16384,
     KANDURZO_STACK_READ_DIMACS = 16384,
-    KANDURZO_STACK_WRITE_DIMACS = 65536,
-    KANDURZO_STACK_PEEL = 49152,
-    KANDURZO_STACK_SOLVE = 184320, /* the most: enough for every call */
+    KANDURZO_STACK_WRITE_DIMACS = 59392,
+    KANDURZO_STACK_PEEL = 43008,
+    KANDURZO_STACK_SOLVE = 112640, /* the most: enough for every call */
     KANDURZO_STACK_CHECK = 16384,
-    KANDURZO_STACK_SURPLUS = 65536
+    KANDURZO_STACK_SURPLUS = 59392
 };
 
 /* A record: the pair's smaller module, its larger, and its stop count. */

@@ -9,9 +9,9 @@ pub mod stack {
     /// Of [`start`](super::start).
     pub const START: usize = 16384;
     /// Of [`add`](super::add) and [`add_to`](super::add_to).
-    pub const ADD: usize = 65536;
+    pub const ADD: usize = 59392;
     /// Of [`remove`](super::remove) and [`remove_from`](super::remove_from).
-    pub const REMOVE: usize = 65536;
+    pub const REMOVE: usize = 59392;
     /// Of [`place`](super::place).
     pub const PLACE: usize = 16384;
     /// Of [`read`](super::read).
@@ -19,15 +19,15 @@ pub mod stack {
     /// Of [`read_dimacs`](super::read_dimacs).
     pub const READ_DIMACS: usize = 16384;
     /// Of [`write_dimacs`](super::write_dimacs).
-    pub const WRITE_DIMACS: usize = 65536;
+    pub const WRITE_DIMACS: usize = 59392;
     /// Of [`peel`](super::peel).
-    pub const PEEL: usize = 49152;
+    pub const PEEL: usize = 43008;
     /// Of [`solve`](super::solve); the most.
-    pub const SOLVE: usize = 184320;
+    pub const SOLVE: usize = 112640;
     /// Of [`check`](super::check).
     pub const CHECK: usize = 16384;
     /// Of [`surplus`](super::surplus).
-    pub const SURPLUS: usize = 65536;
+    pub const SURPLUS: usize = 59392;
 }
 
 /// A record: the pair's smaller module, its larger, and its stop count. A list is in rising order by its modules, whatever the counts.
