@@ -186,7 +186,8 @@ fn densest(n: usize, least: usize, finals: &[u32]) -> Remainder
     best
 }
 
-// The leaving order, the core numbers and the places, and the densest remainder of at least `least` modules.
+// The leaving order, the core numbers and the places, and the densest remainder of at least `least` modules. `degrees` has those of all modules, and from
+// the turns on those with which modules leave.
 pub fn peel(
     n: usize,
     m: usize,
@@ -208,7 +209,6 @@ pub fn peel(
     let mut next = [0u32; 4096];
     let mut degrees = [0u32; 512];
     let mut work = [0u32; 1024];
-    let mut finals = [0u32; 512];
     slots::adjacency(
         n,
         m,
@@ -230,8 +230,8 @@ pub fn peel(
         &next,
         &mut work,
         order,
-        &mut finals,
+        &mut degrees,
     );
-    number(n, order, &finals, cores, place);
-    densest(n, least, &finals)
+    number(n, order, &degrees, cores, place);
+    densest(n, least, &degrees)
 }

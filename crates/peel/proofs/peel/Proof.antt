@@ -1,5 +1,7 @@
 -- `peel::peel` meets its contract. Assumes nothing.
 use mathlib.Core.Path.{refl}
+use Prim.Native.Nat.{_≤_}
+use lib.ListN.{length}
 use native.Mathlib.Omega.{arith}
 use borrow.Author.Needs.{needs}
 use Rattle.theory.specs.Groups.{everyone}
@@ -19,6 +21,10 @@ begin x = x .before .before .before .before .before .before .before .before .bef
 
 abbrev laid : tie.After-turns → tie.After-adjacency
 laid t = t .before .before .before .before .before .before .before .before .before .before .before .before .before .before .before
+
+-- the degrees' buffer keeps its length
+degrees-long : (x : tie.After-adjacency) → begin x .args .n ≤ length (x .adjacency .last .1 .1 .1 .1 .1 .1 .1 .0)
+degrees-long x = omega (arith, few-modules _ _ _ _ (begin x .pre .0 .listed), x .adjacency .kept .1 .1 .1 .1 .1 .1 .1 .0)
 
 adjacency-requires : tie.Need-adjacency-requires
 adjacency-requires c κs =
@@ -63,7 +69,7 @@ turns-requires c κs =
           (
             ranked-built (a .n) (a .m) (a .ends .now) (a .weights .now) (s .pre .0) _
                 (adjacency-degrees (s .pre .0) d) _ (b .build .ensures),
-            (s .pre .1 .order-long, few-modules (a .n) (a .m) (a .ends .now) (a .weights .now) (s .pre .0 .listed)),
+            (s .pre .1 .order-long, degrees-long x),
           ),
         ),
       ),
@@ -77,7 +83,7 @@ number-requires c κs =
     let a = s .args in
     let b = s .pre .1 in
     answer-numberable (list-in (a .n) (a .m) (a .ends .now) (a .weights .now)) (s .pre .0 .listed) _ _ _ _ (t .turns .ensures) _ _
-    (b .order-long) (few-modules (a .n) (a .m) (a .ends .now) (a .weights .now) (s .pre .0 .listed)) (b .cores-long) (b .place-long)
+    (b .order-long) (degrees-long (laid t)) (b .cores-long) (b .place-long)
 
 densest-requires : tie.Need-densest-requires
 unfolding list-in
@@ -88,7 +94,7 @@ densest-requires c κs =
     let b = s .pre .1 in
     answer-comparable (list-in (a .n) (a .m) (a .ends .now) (a .weights .now)) (s .pre .0 .listed) _ _ _ _ (t .turns .ensures)
     (a .least) (b .some) (b .few)
-    (few-modules (a .n) (a .m) (a .ends .now) (a .weights .now) (s .pre .0 .listed))
+    (degrees-long (laid t))
     (all-light (a .n) (a .m) (a .ends .now) (a .weights .now) (s .pre .0 .listed) (everyone (list-in (a .n) (a .m) (a .ends .now) (a .weights .now))))
 
 returns : tie.Need-returns
