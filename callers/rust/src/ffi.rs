@@ -21,9 +21,9 @@ pub mod stack {
     /// Of [`write_dimacs`](super::write_dimacs).
     pub const WRITE_DIMACS: usize = 59392;
     /// Of [`peel`](super::peel).
-    pub const PEEL: usize = 43008;
+    pub const PEEL: usize = 40960;
     /// Of [`solve`](super::solve); the most.
-    pub const SOLVE: usize = 112640;
+    pub const SOLVE: usize = 110592;
     /// Of [`check`](super::check).
     pub const CHECK: usize = 16384;
     /// Of [`surplus`](super::surplus).
