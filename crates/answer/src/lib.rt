@@ -1,4 +1,5 @@
 // The answer to the bytes of a pair file, which crate `texts` writes out.
+#![tactic(auto)]
 ghost use Rattle.std.specs.Prelude.{◌≡◌, ◌≤◌, length};
 ghost use Rattle.answer.specs.Answers.{Answers, RoomEnough, Sheeted};
 
@@ -6,7 +7,7 @@ use kandurzo::{read, solve};
 use records::{Head, Pair, copy_out};
 
 // The refusal number or 0; N and M; P and Q; K and the number of modules in the core of order K. Beside a refusal all but the number are 0.
-#[derive(Drop)]
+#[derive(Clone, Copy)]
 pub struct Answer {
     pub number: u32,
     pub n: u32,

@@ -1,6 +1,7 @@
 // Whether a sheet is the best there is of the list that a pair file names: `audit FILE SHEET`. Prints the refusal number, or 0 and the ratio. A file that
 // cannot be opened or read, a folder say, has no bytes, and standard error says why. A pair file is decided by its first 65,536 bytes and a sheet by its
 // first 140,000 (sheetfile, audit_first). What is printed is proved (texts, audit_text), and that the buffers have room for as many.
+#![tactic(auto)]
 ghost use Rattle.io.specs.Counts.{IsPrefixLen};
 
 use libc::STDOUT_FILENO;

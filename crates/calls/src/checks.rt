@@ -6,7 +6,7 @@ use records::Head;
 use verify::Verdict;
 
 // What is altered: the list; the first member byte and the first share; the lengths lent.
-#[derive(Drop)]
+#[derive(Clone, Copy)]
 pub(crate) struct Altered {
     pub(crate) damage: Damage,
     pub(crate) byte: u8,

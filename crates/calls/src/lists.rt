@@ -6,7 +6,7 @@ use records::Head;
 
 // What is altered of a list of 5 modules whose last record is 3,4 with the count 1: the head's N, how many more pairs than there are the head's M says, that
 // record, and the count of the record past it.
-#[derive(Drop)]
+#[derive(Clone, Copy)]
 pub(crate) struct Damage {
     pub(crate) n: u32,
     pub(crate) more: u32,
@@ -82,7 +82,7 @@ pub(crate) fn at_most(len: usize, k: usize) -> usize
 // ---- lists of 512 modules
 
 // The kinds of large lists: pairs by chance; each module with the next so many on a circle; all pairs of the first 64 modules, and of the last 90.
-#[derive(Drop)]
+#[derive(Clone, Copy)]
 pub(crate) enum Kind {
     Chance,
     Circle,
@@ -91,14 +91,14 @@ pub(crate) enum Kind {
 }
 
 // Their counts: each drawn, 1 to `top`, or all of them `top`.
-#[derive(Drop)]
+#[derive(Clone, Copy)]
 pub(crate) struct Counts {
     pub(crate) top: u32,
     pub(crate) drawn: bool,
 }
 
 // Two modules.
-#[derive(Drop)]
+#[derive(Clone, Copy)]
 struct Two {
     a: u32,
     b: u32,

@@ -4,7 +4,7 @@ use crate::lists::Damage;
 use crate::{lent, lists, print};
 
 // What is altered: the list, and the lengths lent.
-#[derive(Drop)]
+#[derive(Clone, Copy)]
 pub(crate) struct Altered {
     pub(crate) damage: Damage,
     pub(crate) order: usize,

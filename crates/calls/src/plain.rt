@@ -4,7 +4,7 @@ use records::Head;
 
 // The members' inside count and number, that ratio rounded up, how many core numbers are that or more, how many shares are above W times Q, and how many
 // loads above P.
-#[derive(Drop)]
+#[derive(Clone, Copy)]
 pub(crate) struct Second {
     pub(crate) p: u32,
     pub(crate) q: u32,

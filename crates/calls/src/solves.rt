@@ -10,7 +10,7 @@ use verify::Verdict;
 
 // What is altered: the list, the lengths lent, and by how much the first pair's count is raised before the answer is compared. And from where eight members
 // and core numbers are printed, and eight shares.
-#[derive(Drop)]
+#[derive(Clone, Copy)]
 pub(crate) struct Altered {
     pub(crate) damage: Damage,
     pub(crate) members: usize,

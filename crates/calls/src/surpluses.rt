@@ -4,7 +4,7 @@ use crate::{lent, lists, print};
 use verify::Difference;
 
 // What is altered: the list, and the lengths lent.
-#[derive(Drop)]
+#[derive(Clone, Copy)]
 struct Altered {
     damage: Damage,
     firsts: usize,

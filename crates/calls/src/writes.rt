@@ -7,7 +7,7 @@ use kandurzo::Written;
 use records::Head;
 
 // What is altered: the list, the length lent, and the byte of the text due at this place, from 1 on; 0 none.
-#[derive(Drop)]
+#[derive(Clone, Copy)]
 pub(crate) struct Altered {
     pub(crate) damage: Damage,
     pub(crate) text: usize,

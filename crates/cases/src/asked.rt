@@ -1,6 +1,6 @@
 // Pairs that are asked for beside a pair file: what `neighbours` prints of them.
 ghost use Rattle.std.specs.Prelude.{◌≤◌, length};
-ghost use Rattle.texts.specs.Contracts.{Input};
+ghost use Rattle.texts.specs.Printed.{Input};
 
 use crate::files::read_open;
 use crate::text::{Given, after, find, no_file, put, put_text};

@@ -5,7 +5,7 @@ use sheetfile::audit;
 use verify::Verdict;
 
 // What became of altered sheets.
-#[derive(Drop)]
+#[derive(Clone, Copy)]
 struct Fates {
     caught: u32,
     best: u32,

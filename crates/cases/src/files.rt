@@ -4,7 +4,7 @@ ghost use Rattle.io.specs.Counts.{IsPrefixLen};
 use crate::text::{after, find};
 
 // Two files that a line names, opened, and where the rest of the line begins.
-#[derive(Drop)]
+#[derive(Clone, Copy)]
 pub(crate) struct Opened {
     pub(crate) first: i32,
     pub(crate) second: i32,

@@ -5,7 +5,7 @@ use dimacs::read_words;
 
 // The lines of a file: so many `e` lines, then so many of the first again; before every so many of them, before the `p` line and at the end stands a
 // comment, so many bytes long behind its `c`. No comment where `every` is 0.
-#[derive(Drop)]
+#[derive(Clone, Copy)]
 struct Plan {
     lines: u32,
     again: u32,

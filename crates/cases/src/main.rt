@@ -41,6 +41,7 @@
 //                            and how much of what is read back is not the list with each count 1
 //
 // A line is printed for each list of cases, and one for each case that did not come out as due.
+#![tactic(auto)]
 mod asked;
 mod audited;
 mod edges;
@@ -61,7 +62,7 @@ use text::{Given, find, one_more, same};
 use written::{try_full, try_written};
 
 // What is tried.
-#[derive(Drop)]
+#[derive(Clone, Copy)]
 enum Kind {
     Files,
     Large,
@@ -77,7 +78,7 @@ enum Kind {
 }
 
 // How many cases came out as due, and how many did not.
-#[derive(Drop)]
+#[derive(Clone, Copy)]
 struct Tally {
     good: u32,
     bad: u32,

@@ -7,14 +7,14 @@ use crate::text::{
 use answer::{Answer, solve_file};
 
 // Empty lines, or lines of pairs: so many stops on the first, and one more every so many lines, unless that is 0.
-#[derive(Drop)]
+#[derive(Clone, Copy)]
 enum Lines {
     Empty,
     Pairs { first: u32, every: u32 },
 }
 
 // How many bytes the text has, and how many bytes the run has that is still to be put.
-#[derive(Drop)]
+#[derive(Clone, Copy)]
 struct Run {
     end: usize,
     count: u32,

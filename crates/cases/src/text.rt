@@ -2,14 +2,14 @@
 ghost use Rattle.std.specs.Prelude.{◌≤◌, length};
 
 // Where the answer due begins in the line, and how many bytes of the text the answer given has, the space among them that stands before each part.
-#[derive(Drop)]
+#[derive(Clone, Copy)]
 pub(crate) struct Given {
     pub(crate) due: usize,
     pub(crate) end: usize,
 }
 
 // A number in a line, and where the next begins.
-#[derive(Drop)]
+#[derive(Clone, Copy)]
 pub(crate) struct Number {
     pub(crate) value: u32,
     pub(crate) next: usize,

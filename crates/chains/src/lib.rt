@@ -6,6 +6,7 @@
 // reached are a set that no unit can leave (`settle`).
 // Cost: a search takes a step for each arc of the modules that it reaches. Arcs (crate `arcs`) say where to look first; that nothing leads out of a
 // set is found by one scan over all pairs (`exit`). There are at most as many searches as units lie above p. Nothing is refused.
+#![tactic(auto)]
 mod exits;
 mod search;
 
@@ -19,7 +20,7 @@ use std::num::wrapping_add_u32;
 
 // What searches did: chains along which units moved, the most slots that units moved along in one of them, and searches that reached no module loaded
 // below p. In every promise these counts are free.
-#[derive(Drop)]
+#[derive(Clone, Copy)]
 pub struct Searches {
     pub chains: u32,
     pub longest: u32,
@@ -27,7 +28,7 @@ pub struct Searches {
 }
 
 // How searches ended: whether no load is above p, and what they did.
-#[derive(Drop)]
+#[derive(Clone, Copy)]
 pub struct Ended {
     pub settled: bool,
     pub searches: Searches,

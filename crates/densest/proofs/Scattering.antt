@@ -7,7 +7,7 @@ use Rattle.std.proofs.Common.{◌≡◌, ℕ, ◌+◌, ◌*◌, ◌/◌, ◌%◌
 use Rattle.theory.specs.Basics.{table}
 use Rattle.theory.specs.Lists.{Pair}
 use Rattle.theory.specs.Groups.{holds_pair}
-use Rattle.theory.specs.Splits.{units as units-at}
+use Rattle.theory.specs.Splits.{units as units_at}
 use Rattle.theory.specs.Words.{word_pair}
 use Rattle.theory.proofs.Tests.{tests, no}
 use Rattle.theory.proofs.Tables.{length_table, table_at}
@@ -117,7 +117,7 @@ module _ (n m r : ℕ) (ends weights scope inner_ends inner_weights units hold :
   scattered_split q part sub sp = record {
     long = s.long;
     whole = λ j h. whole j h
-        ∙ part_only (holds_pair scope (at j)) (holds_pair part (at j)) _ (units-at q (at j))
-        (λ y. sp.whole (number j) (kept_low j h y) ∙ ap {B = ℕ} (λ (p : Pair). cond (holds_pair part p) (units-at q p) 0) (g.pairs j h y))
+        ∙ part_only (holds_pair scope (at j)) (holds_pair part (at j)) _ (units_at q (at j))
+        (λ y. sp.whole (number j) (kept_low j h y) ∙ ap {B = ℕ} (λ (p : Pair). cond (holds_pair part p) (units_at q p) 0) (g.pairs j h y))
         (λ y. let y' = simp tests at y in simp tests (sub _ y'.0, sub _ y'.1));
   }

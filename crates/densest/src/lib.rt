@@ -4,6 +4,7 @@
 // until there is none. Whatever is as dense as the group at hand lies in the core of its ratio rounded up; so, where that core leaves out an eighth of the
 // modules or more, the rounds go over the pairs inside it only (`gather`). The units that the last round leaves make the load sheet (`sheet`).
 // Cost: peeling, and a few rounds over the core's pairs; ratios rise from round to round, so the rounds end. Nothing is refused, and 15 never comes.
+#![tactic(auto)]
 mod gather;
 mod packing;
 mod sheet;
@@ -19,7 +20,7 @@ pub use rounds::{Effort, PHASES};
 use sheet::{Share, write_shares};
 
 // The found group's inside count p and size q, k = p/q rounded up, and the size of the core of order k; and what the searches did.
-#[derive(Drop)]
+#[derive(Clone, Copy)]
 pub struct Solution {
     pub p: u32,
     pub q: u32,

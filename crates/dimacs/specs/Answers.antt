@@ -18,7 +18,7 @@ use Rattle.pairfile.specs.declared.Reading.{Reading}
 use Rattle.dimacs.specs.Comments.{first_line, after_line, has_lf, is_comment, plain_lines}
 use Rattle.dimacs.specs.Edges.{problem_line, edge_line, read_edges, read_dimacs}
 use Rattle.dimacs.specs.declared.ProblemLine.{ProblemLine}
-use Rattle.dimacs.specs.declared.ProblemLine.TheVariants.{Refused as problem-refused, Sizes as sizes}
+use Rattle.dimacs.specs.declared.ProblemLine.TheVariants.{Refused as problem_refused, Sizes as sizes}
 
 -- LINE_END: where the line at a position ends behind its LF, and 0 where it has none
 pub record LineEnds (bytes : List ℕ) (at r : ℕ) : Type 0 where
@@ -35,12 +35,12 @@ pub record Skipped (bytes : List ℕ) (at r : ℕ) : Type 0 where
 
 -- Refused: its number, 16, 2, 3 or 11 by problem_line (specs/Edges.antt). Sizes: N and M; SizesEnd has the bytes after the line
 unfoldable pub sizes_in : ProblemLine → Outcome Line
-sizes_in (problem-refused k) = refused k
+sizes_in (problem_refused k) = refused k
 sizes_in (sizes n m i) = taken (record { numbers = n ∷ m ∷ []; rest = [] })
 
 -- the bytes after the `p` line
 unfoldable pub SizesEnd : (bytes : List ℕ) → (at : ℕ) → ProblemLine → Type 0
-SizesEnd bs at (problem-refused k) = Unit
+SizesEnd bs at (problem_refused k) = Unit
 SizesEnd bs at (sizes n m i) = (after_line (drop at bs) ≡ drop i bs) × (i ≤ length bs)
 
 -- PROBLEM_LINE: the `p` line at a position

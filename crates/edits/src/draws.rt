@@ -3,7 +3,7 @@
 use crate::{desk, model};
 
 // A step: add or remove, the pair, the stops that add is given, and the random state after the draw.
-#[derive(Drop)]
+#[derive(Clone, Copy)]
 pub(crate) struct Ask {
     pub(crate) adds: bool,
     pub(crate) a: u32,

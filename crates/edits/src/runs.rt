@@ -32,7 +32,7 @@ fn bad_head(way: u32, head: Head, len: u32) -> Head {
 }
 
 // The first two records of a list: a,b with the count v, and c,d with the count w.
-#[derive(Drop)]
+#[derive(Clone, Copy)]
 struct Two {
     a: u32,
     b: u32,

@@ -10,7 +10,7 @@ use records::Head;
 // How a run goes: modules, records of the list, steps of adds alone, steps of both, every how many steps the records are compared, how many steps are drawn
 // when the same stops are added again in other steps (0: they are not), and what is altered before it is compared (1 the number, 2 the number of pairs, 3 the
 // records, 4 the number of add_to and remove_from; of place 5 the number, 6 whether held, 7 the place; 8 a stop count, 9 one of those added again; 0 nothing).
-#[derive(Drop)]
+#[derive(Clone, Copy)]
 pub(crate) struct Plan {
     pub(crate) n: u32,
     pub(crate) len: u32,
@@ -22,7 +22,7 @@ pub(crate) struct Plan {
 }
 
 // Where a run stands: the head, that of the second list, the model's number of pairs, and the random state.
-#[derive(Drop)]
+#[derive(Clone, Copy)]
 pub(crate) struct Run {
     pub(crate) head: Head,
     pub(crate) own: Head,

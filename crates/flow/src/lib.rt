@@ -7,6 +7,7 @@
 // what stays is the largest set loaded p throughout. Push phases (crate `push`) leave little to search: they go before, in the caller, and the promise does
 // not depend on them.
 // Cost: the searches for chains, a step for each arc of the modules that drain, and scans over all pairs for who else does. Nothing is refused.
+#![tactic(auto)]
 mod drain;
 
 ghost use Rattle.std.specs.Prelude.{◌≡◌, List, ℕ, ◌≤◌, ◌<◌, length};

@@ -2,6 +2,7 @@
 // smaller module first and each with the stop count 1. A refused file prints the line `status=` with its number only; a longer file is refused by 109,
 // whatever it holds: the buffer has room for one byte more. What is printed is proved (texts, from_dimacs_text), and that the pair file's reader reads it as
 // the same list.
+#![tactic(auto)]
 ghost use Rattle.std.specs.Prelude.{◌≤◌, length};
 
 use libc::{STDIN_FILENO, STDOUT_FILENO};

@@ -3,6 +3,7 @@
 // A pair's ends, the size of a group and its inside count, whether a pair lies inside it, and the group of the modules whose entry in a buffer (a core
 // number, say) is k or more. What asks for a group asks for exactly n bytes: a caller lends `&members[..n]`. Each costs one pass over the modules or the
 // pairs. Nothing is refused.
+#![tactic(auto)]
 ghost use Rattle.std.specs.Prelude.{◌≡◌, ℕ, ◌≤◌, ◌<◌, leb, length, get_or};
 ghost use Rattle.theory.specs.Basics.{mark};
 ghost use Rattle.theory.specs.Groups.{inside, size};
@@ -11,7 +12,7 @@ ghost use Rattle.slots.specs.Slots.{Ends};
 ghost use Rattle.groups.specs.Pairs.{EndsAt, inner_at};
 
 // The two ends of a pair, as indices.
-#[derive(Drop)]
+#[derive(Clone, Copy)]
 pub struct TwoEnds {
     pub a: usize,
     pub b: usize,

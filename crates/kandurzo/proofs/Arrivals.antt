@@ -45,33 +45,33 @@ use Rattle.kandurzo.proofs.Keeping.{add_passed, add_says, start_head, start_agre
 
 module _ (h : Head) (ps : List Pair) (c : Lists.Pair) where
   -- head and list after the add
-  abbrev next-head : Head
-  next-head = head_of h.n (pairs_then h ps c.a c.b)
+  abbrev next_head : Head
+  next_head = head_of h.n (pairs_then h ps c.a c.b)
 
-  abbrev next-list : List Pair
-  next-list = added h ps c.a c.b c.w
+  abbrev next_list : List Pair
+  next_list = added h ps c.a c.b c.w
 
-  abbrev Next-taken : Type 0
-  Next-taken = add_number h ps c.a c.b c.w ≡ 0
+  abbrev NextTaken : Type 0
+  NextTaken = add_number h ps c.a c.b c.w ≡ 0
 
   -- the first of adds in a row is taken, and the others follow
-  adds_next : (cs : List Lists.Pair) (i : Head) (qs : List Pair) → Adds h ps (c ∷ cs) i qs → Next-taken × Adds next-head next-list cs i qs
+  adds_next : (cs : List Lists.Pair) (i : Head) (qs : List Pair) → Adds h ps (c ∷ cs) i qs → NextTaken × Adds next_head next_list cs i qs
   unfolding Adds
   adds_next cs i qs x =
       let p = add_passed x.2 x.3 in
       (p.taken, rw (p.head, p.list) at x.4)
 
   -- and back: an add that is taken, with others after it, is adds in a row
-  next_adds : (cs : List Lists.Pair) (i : Head) (qs : List Pair) → Next-taken → Adds next-head next-list cs i qs → Adds h ps (c ∷ cs) i qs
+  next_adds : (cs : List Lists.Pair) (i : Head) (qs : List Pair) → NextTaken → Adds next_head next_list cs i qs → Adds h ps (c ∷ cs) i qs
   unfolding Adds changed_to
-  next_adds cs i qs taken x = (changed_to 0 next-head, next-list, add_says h ps c.a c.b c.w taken, refl, x)
+  next_adds cs i qs taken x = (changed_to 0 next_head, next_list, add_says h ps c.a c.b c.w taken, refl, x)
 
 -- adds in a row leave one head and one list
 adds_only : (cs : List Lists.Pair) (h i j : Head) (ps qs rs : List Pair) → Adds h ps cs i qs → Adds h ps cs j rs → (i ≡ j) × (qs ≡ rs)
 unfolding Adds
 adds_only [] h i j ps qs rs x y = (x.0 ∙ sym y.0, x.1 ∙ sym y.1)
 adds_only (c ∷ cs) h i j ps qs rs x y =
-    adds_only cs (next-head h ps c) i j (next-list h ps c) qs rs (adds_next h ps c cs i qs x).1 (adds_next h ps c cs j rs y).1
+    adds_only cs (next_head h ps c) i j (next_list h ps c) qs rs (adds_next h ps c cs i qs x).1 (adds_next h ps c cs j rs y).1
 
 -- and each is of some stops
 adds_some : (cs : List Lists.Pair) (h i : Head) (ps qs : List Pair) → Adds h ps cs i qs → all some_stops cs ≡ true
@@ -79,7 +79,7 @@ unfolding all some_stops
 adds_some [] h i ps qs x = refl
 adds_some (c ∷ cs) h i ps qs x =
     let y = adds_next h ps c cs i qs x in
-    simp tests ((taken_addable h ps c.a c.b c.w y.0).some_stops, adds_some cs (next-head h ps c) i (next-list h ps c) qs y.1)
+    simp tests ((taken_addable h ps c.a c.b c.w y.0).some_stops, adds_some cs (next_head h ps c) i (next_list h ps c) qs y.1)
 
 -- ---- what adds in a row leave
 
@@ -115,37 +115,37 @@ reached_count h ps i qs agreed then fewer =
 
 -- ---- an add that is taken
 
-module _ (h : Head) (ps : List Pair) (c : Lists.Pair) (cs : List Lists.Pair) (i : Head) (qs : List Pair) (taken : Next-taken h ps c) where
-  next_agrees : agrees (next-head h ps c) (next-list h ps c) ≡ true
+module _ (h : Head) (ps : List Pair) (c : Lists.Pair) (cs : List Lists.Pair) (i : Head) (qs : List Pair) (taken : NextTaken h ps c) where
+  next_agrees : agrees (next_head h ps c) (next_list h ps c) ≡ true
   next_agrees = added_agrees h ps c.a c.b c.w taken
 
   -- the stops of the arrival and of those after it, beside what was held and beside what is held then
   next_stops : (p : Lists.Pair) →
-      stops_named p cs + weight_of p (held_list (next-head h ps c) (next-list h ps c)).pairs
+      stops_named p cs + weight_of p (held_list (next_head h ps c) (next_list h ps c)).pairs
       ≡ stops_named p (c ∷ cs) + weight_of p (held_list h ps).pairs
   unfolding stops_named
   next_stops p = omega (arith, (pair_added h ps c.a c.b c.w taken).stops p)
 
   -- records past the held ones stay
-  next_past : ((p : Lists.Pair) → weight_of p (held_list (next-head h ps c) (next-list h ps c)).pairs ≤ weight_of p (held_list i qs).pairs) →
-      agrees i qs ≡ true → drop i.m (next-list h ps c) ≡ drop i.m ps
+  next_past : ((p : Lists.Pair) → weight_of p (held_list (next_head h ps c) (next_list h ps c)).pairs ≤ weight_of p (held_list i qs).pairs) →
+      agrees i qs ≡ true → drop i.m (next_list h ps c) ≡ drop i.m ps
   unfolding head_of
   next_past fewer then =
-      drop_more (pairs_then h ps c.a c.b) i.m (next-list h ps c) ps
-      (reached_count (next-head h ps c) (next-list h ps c) i qs next_agrees then fewer) (pair_added h ps c.a c.b c.w taken).past
+      drop_more (pairs_then h ps c.a c.b) i.m (next_list h ps c) ps
+      (reached_count (next_head h ps c) (next_list h ps c) i qs next_agrees then fewer) (pair_added h ps c.a c.b c.w taken).past
 
   -- the lent list stays as long
-  next_long : length (next-list h ps c) ≡ length ps
+  next_long : length (next_list h ps c) ≡ length ps
   next_long = (pair_added h ps c.a c.b c.w taken).same_length
 
   -- from after it to before it
-  reached_before : Reached (next-head h ps c) (next-list h ps c) cs i qs → Reached h ps (c ∷ cs) i qs
+  reached_before : Reached (next_head h ps c) (next_list h ps c) cs i qs → Reached h ps (c ∷ cs) i qs
   unfolding head_of
   reached_before g =
       reached_from refl next_long (next_past (λ p. omega (arith, g.stops p)) g.agreed) (λ p. sym (next_stops p)) g
 
   -- and back
-  reached_after : Reached h ps (c ∷ cs) i qs → Reached (next-head h ps c) (next-list h ps c) cs i qs
+  reached_after : Reached h ps (c ∷ cs) i qs → Reached (next_head h ps c) (next_list h ps c) cs i qs
   unfolding head_of
   reached_after g =
       reached_from refl (sym next_long) (sym (next_past (λ p. omega (arith, next_stops p, g.stops p)) g.agreed)) next_stops g
@@ -157,7 +157,7 @@ adds_reach [] h i ps qs agreed x =
     rw (x.0, x.1) record { agreed = agreed; modules = refl; stops = λ p. omega arith; long = refl; past = refl }
 adds_reach (c ∷ cs) h i ps qs agreed x =
     let y = adds_next h ps c cs i qs x in
-    reached_before h ps c cs i qs y.0 (adds_reach cs (next-head h ps c) i (next-list h ps c) qs (next_agrees h ps c cs i qs y.0) y.1)
+    reached_before h ps c cs i qs y.0 (adds_reach cs (next_head h ps c) i (next_list h ps c) qs (next_agrees h ps c cs i qs y.0) y.1)
 
 -- ---- adds in any order and steps
 
@@ -202,7 +202,7 @@ module _ (h : Head) (ps : List Pair) (c : Lists.Pair) (cs : List Lists.Pair) (i 
       omega (arith, more, most, length_held h ps agreed)
 
   -- whichever comes first is taken
-  first_taken : Next-taken h ps c
+  first_taken : NextTaken h ps c
   first_taken =
       let ends = held_removable i qs c.a c.b goal.agreed first_held in
       let l = listed (held_list i qs) (held_is_list i qs goal.agreed) in
@@ -227,7 +227,7 @@ reached_adds (c ∷ cs) h i ps qs some agreed g =
     let some' = simp tests at some in
     let taken = first_taken h ps c cs i qs agreed g some'.0 in
     next_adds h ps c cs i qs taken
-    (reached_adds cs (next-head h ps c) i (next-list h ps c) qs some'.1 (next_agrees h ps c cs i qs taken) (reached_after h ps c cs i qs taken g))
+    (reached_adds cs (next_head h ps c) i (next_list h ps c) qs some'.1 (next_agrees h ps c cs i qs taken) (reached_after h ps c cs i qs taken g))
 
 -- stops that are taken in one order and in some steps are taken in every order and in any steps: the first add that is taken says that head and list agree,
 -- and where none comes none does
@@ -262,16 +262,16 @@ one_at_a_time h ps a b w i qs some =
 
 module _ (n : ℕ) (arrivals : List Lists.Pair) (ps : List Pair) (t : Gathered n arrivals) where
   -- the records of the pairs that arrive, in front of those that are not needed
-  abbrev goal-list : List Pair
-  goal-list = as_records t.pairs ++ drop (length arrivals) ps
+  abbrev goal_list : List Pair
+  goal_list = as_records t.pairs ++ drop (length arrivals) ps
 
   -- hold exactly these pairs with these stops
-  goal_named : NamesStops arrivals (held_list (head_of n (length arrivals)) goal-list).pairs
+  goal_named : NamesStops arrivals (held_list (head_of n (length arrivals)) goal_list).pairs
   goal_named = rw (held_front n (length arrivals) t.pairs (drop (length arrivals) ps) t.size) t.named
 
   -- and are reached from a head without pairs
   goal_reached : 1 ≤ n → n ≤ 512 → length arrivals ≤ 4096 → length arrivals ≤ length ps →
-      Reached (head_of n 0) ps arrivals (head_of n (length arrivals)) goal-list
+      Reached (head_of n 0) ps arrivals (head_of n (length arrivals)) goal_list
   unfolding head_of held_list as_pairs weight_of
   goal_reached low high short fits =
       let m : ℕ = length arrivals in
@@ -295,7 +295,7 @@ unfolding EveryListAdded
 every_list_added n arrivals ps low high short fits named once =
     let t = gathered n arrivals named once in
     let none : (started n).number ≡ 0 = unfold started in (modules_fit n low high) in
-    let after = goal-list n arrivals ps t in
+    let after = goal_list n arrivals ps t in
     let reached : Reached (started n).head ps arrivals (head_of n (length arrivals)) after =
     rw (start_head n none) (goal_reached n arrivals ps t low high short fits) in
     (after, reached_adds arrivals _ _ ps after (all_some n arrivals named) (start_agrees n ps none) reached, goal_named n arrivals ps t)

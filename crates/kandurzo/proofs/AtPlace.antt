@@ -233,11 +233,11 @@ never_14 d n a b e = go d (self_paired a b) (module_unknown 0 n a b) e
 
 module _ (h : Head) (ps : List Pair) (a b : ℕ) (r : Placed) (s : Changed) (ps' : List Pair)
     (says : PlaceSays h ps a b r) (remove : RemoveSays h ps a b s ps') where
-  abbrev As-remove : Type 0
-  As-remove = (r.number ≡ cond (eqb s.number 14) 0 s.number) × ((s.number ≡ 14) ↔ ((r.number ≡ 0) × (r.held ≡ 0)))
+  abbrev AsRemove : Type 0
+  AsRemove = (r.number ≡ cond (eqb s.number 14) 0 s.number) × ((s.number ≡ 14) ↔ ((r.number ≡ 0) × (r.held ≡ 0)))
 
   -- where place refuses nothing: 14 or 0, as the pair is held
-  as_held : r.number ≡ 0 → (t : Bool) → is_held (smaller_first_pair a b) (held_list h ps).pairs ≡ t → As-remove
+  as_held : r.number ≡ 0 → (t : Bool) → is_held (smaller_first_pair a b) (held_list h ps).pairs ≡ t → AsRemove
   unfolding remove_number held_list place_number mark
   as_held z true e =
       let n : s.number ≡ 0 = remove.number ∙ remove_taken _ (held_list h ps) a b (first_open h ps a b r says z) e in
@@ -248,7 +248,7 @@ module _ (h : Head) (ps : List Pair) (a b : ℕ) (r : Placed) (s : Changed) (ps'
       (z ∙ rw n, (λ f. (z, held_is h ps a b r says z ∙ rw e), λ x. n))
 
   -- and where it refuses: the same number
-  as_refused : (r.number ≡ 0 → ⊥) → As-remove
+  as_refused : (r.number ≡ 0 → ⊥) → AsRemove
   unfolding remove_number held_list place_number
   as_refused some =
       let n : s.number ≡ r.number =

@@ -3,7 +3,7 @@
 --   the_gate, the_words        what the gate says, and the words after the records went out
 --   enough, length_words       what the copy asks
 --   words_list, words_left     the words hold the list; a call leaves of them what it leaves of the buffer as it was
---   words_ready, Way, the_way  what the function on words asks; the way of a call to it
+--   words_ready                what the function on words asks
 -- Assumes nothing.
 use mathlib.Core.Path.{◌≡◌, refl, sym, ap, ◌∙◌}
 use mathlib.Core.Bool.{Bool, true, false, ◌||◌}
@@ -13,8 +13,6 @@ use native.Mathlib.Omega.{arith}
 use lib.Dec.{eqb}
 use lib.ListN.{length}
 use borrow.Author.Tests.{eqb-true, eqb-false, ne_eqb}
-use denote.Builtin.{u32}
-use denote.Slice.{Room}
 use Rattle.theory.specs.Lists as Lists
 use Rattle.theory.specs.Words.{laid_list}
 use Rattle.theory.specs.Refusals.{cause, refusal, if_taken}
@@ -23,7 +21,6 @@ use Rattle.theory.proofs.Lists.{listed}
 use Rattle.records.specs.declared.Pair.{Pair}
 use Rattle.records.specs.declared.Head.{Head}
 use Rattle.records.specs.Records.{held_list, agrees, copied_out, RoomOut}
-use Rattle.records.proofs.Records.{room_as}
 use Rattle.records.proofs.Copies.{length_copied_out, copied_out_none, copied_out_pairs, copied_out_past}
 use Rattle.on_words.specs.Buffers.{Buffer, any_short, work_left}
 use Rattle.on_words.specs.declared.Gate.{Gate}
@@ -115,15 +112,3 @@ module _ (h : Head) (ps : List Pair) (lent : ℕ → List Buffer) (work : List �
         long = λ z. rw same (passed h ps short z).1;
         shut = unfold gate_of in (gate_shut (agrees h ps) short);
       }
-
--- the values on the way of a call: the gate, and the words once the records are out
-pub record Way (work : List ℕ) : Type 0 where
-  pub gate : Gate
-  pub words : List ℕ
-  pub same : length words ≡ length work
-  pub room : Room u32 (length words)
-
-abbrev pub the_way : (h : Head) (ps : List Pair) (short : Bool) (work : List ℕ) → (short ≡ false → 12288 ≤ length work) → Room u32 (length work) → Way work
-the_way h ps short work long room =
-    let same = length_words h ps short work long in
-    record { gate = the_gate h ps short; words = the_words h ps short work; same = same; room = room_as u32 same room }

@@ -171,37 +171,37 @@ module _ (h : Head) (ps : List Pair) (a b w : ℕ) (taken : add_number h ps a b 
   passed : Addable h ps a b w
   passed = taken_addable h ps a b w taken
 
-  abbrev held-now : List Lists.Pair
-  held-now = (held_list h ps).pairs
+  abbrev held_now : List Lists.Pair
+  held_now = (held_list h ps).pairs
 
   -- a new pair is one more
-  pub added_length : length (raise_pair (stops_of a b w) held-now) ≡ pairs_then h ps a b
+  pub added_length : length (raise_pair (stops_of a b w) held_now) ≡ pairs_then h ps a b
   unfolding pairs_then
   added_length =
       let long = length_held h ps passed.agreed in
       let rises = (listed (held_list h ps) (held_is_list h ps passed.agreed)).rises in
-      by_test (is_held (smaller_first_pair a b) held-now)
-      (λ t. rw t (raise_long (stops_of a b w) held-now rises (stops_held a b w held-now ∙ t) ∙ long))
-      (λ t. rw t (omega (arith, raise_more (stops_of a b w) held-now (stops_held a b w held-now ∙ t), long)))
+      by_test (is_held (smaller_first_pair a b) held_now)
+      (λ t. rw t (raise_long (stops_of a b w) held_now rises (stops_held a b w held_now ∙ t) ∙ long))
+      (λ t. rw t (omega (arith, raise_more (stops_of a b w) held_now (stops_held a b w held_now ∙ t), long)))
 
   -- the list holds so many stops more of the pair, and otherwise what it held
-  pub held_added : held_list (head_of h.n (pairs_then h ps a b)) (added h ps a b w) ≡ record { n = h.n; pairs = raise_pair (stops_of a b w) held-now }
+  pub held_added : held_list (head_of h.n (pairs_then h ps a b)) (added h ps a b w) ≡ record { n = h.n; pairs = raise_pair (stops_of a b w) held_now }
   unfolding added
-  held_added = held_front h.n (pairs_then h ps a b) (raise_pair (stops_of a b w) held-now) _ added_length
+  held_added = held_front h.n (pairs_then h ps a b) (raise_pair (stops_of a b w) held_now) _ added_length
 
-  pub added_list : is_list (record { n = h.n; pairs = raise_pair (stops_of a b w) held-now }) ≡ true
+  pub added_list : is_list (record { n = h.n; pairs = raise_pair (stops_of a b w) held_now }) ≡ true
   unfolding stops_of
   added_list =
       let count : (1 ≤ w) × (w ≤ 1000) = (passed.some_stops, omega (arith, passed.few_stops)) in
       let good = stops_good h.n a b w (passed.first, passed.second, passed.different) count in
       unfold held_list in (raise_list (held_list h ps) (stops_of a b w) (held_is_list h ps passed.agreed) good.0 good.1 count.0
-      (omega (arith, stops_weight a b w held-now, passed.few_stops))
-      (λ new. omega (arith, length_held h ps passed.agreed, (passed.room (sym (stops_held a b w held-now) ∙ new)).0)))
+      (omega (arith, stops_weight a b w held_now, passed.few_stops))
+      (λ new. omega (arith, length_held h ps passed.agreed, (passed.room (sym (stops_held a b w held_now) ∙ new)).0)))
 
   -- 13 never follows a taken add
   pub added_agrees : agrees (head_of h.n (pairs_then h ps a b)) (added h ps a b w) ≡ true
   unfolding added
-  added_agrees = agrees_front h.n (pairs_then h ps a b) (raise_pair (stops_of a b w) held-now) _ added_length added_list
+  added_agrees = agrees_front h.n (pairs_then h ps a b) (raise_pair (stops_of a b w) held_now) _ added_length added_list
 
 -- ---- after a taken remove
 

@@ -1,5 +1,6 @@
 // The public calls of Kandurzo, over lent records (document 01, "The list and its calls"; document 02, items 1 to 4: DIMACS files; 5 before 4; place;
 // stop counts). An entry has crate `records` test head and list and copy the held records to words or back; the rest is done there, by crate `on_words`.
+#![tactic(auto)]
 ghost use Rattle.std.specs.Prelude.{◌≡◌};
 ghost use Rattle.pairfile.specs.File.{read_file};
 ghost use Rattle.dimacs.specs.Edges.{read_dimacs};
@@ -25,7 +26,7 @@ use verify::{Difference, Verdict};
 
 // What start, add, remove, read and read_dimacs answer: the refusal number or 0, and the head after the call.
 #[repr(C)]
-#[derive(Drop)]
+#[derive(Clone, Copy)]
 pub struct Changed {
     pub number: u32,
     pub head: Head,

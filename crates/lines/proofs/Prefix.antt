@@ -182,8 +182,8 @@ module _ (number d : ℕ) (form : List ℕ) (w : ℕ) (bs : List ℕ) (p : parte
         judge (cs l)
         taken (f l))
   unfolding judge passed ◌>>◌
-  judged_alike {A} trim cs f same-causes same =
-      alike_then 0 _ (omega arith) line_alike (λ l v m. rw (same-causes l v, same l v) (go (f l) v (refusal (cs l))))
+  judged_alike {A} trim cs f same_causes same =
+      alike_then 0 _ (omega arith) line_alike (λ l v m. rw (same_causes l v, same l v) (go (f l) v (refusal (cs l))))
     where
       go : (x : A) (v k : ℕ) → Alike trim v 0 (◌>>◌ (passed k) (taken (trim v x))) (◌>>◌ (passed k) (taken x))
       go x v zero = taken_alike x v refl refl (omega arith)

@@ -4,6 +4,7 @@
 // A line is read once and written once, from front to back, at the cost of its bytes. The digits of a number that is written are those of a tenth of
 // it and one more, so `write_number` runs once for each digit, at most ten times, each run called by the one before. How many digits a number that is
 // read may have is the caller's to say: four in pair files and DIMACS files, up to seven on sheets, nine at most.
+#![tactic(auto)]
 ghost use Rattle.std.specs.Prelude.{◌≡◌, ◌+◌, ◌≤◌, length, get_or};
 ghost use Rattle.lines.specs.Numbers.{spelled};
 ghost use Rattle.lines.specs.Lines.{places, filled};
@@ -13,14 +14,14 @@ ghost use Rattle.lines.specs.Answers.{NumberFound, LineFound, OneNumberFound};
 use numbers::between;
 
 // A number, and where it ends.
-#[derive(Drop)]
+#[derive(Clone, Copy)]
 pub enum FoundNumber {
     Number { value: u32, next: usize },
     Missing,
 }
 
 // A line of the form due, and where it ends.
-#[derive(Drop)]
+#[derive(Clone, Copy)]
 pub enum FoundLine {
     Line { next: usize },
     Malformed,

@@ -2,6 +2,7 @@
 // counted from 0, and the records before and after it; or the refusal number alone. The modules may come in either order; one that is no number, or is
 // missing, is refused by 110. A file that cannot be opened or read, a folder say, has no bytes, and standard error says why. A pair file is decided by its
 // first 65,536 bytes (pairfile, reads-first). What is printed is proved (texts, neighbours_text), and that the records are the nearest on either side.
+#![tactic(auto)]
 ghost use Rattle.io.specs.Counts.{IsPrefixLen};
 
 use libc::STDOUT_FILENO;

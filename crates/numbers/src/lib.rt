@@ -1,5 +1,6 @@
 // Small functions on numbers: the lesser and the greater of two, a quotient rounded up or as a float, tests of numbers and of bytes,
 // and tests as numbers. Nothing here branches by more than one test, and nothing is refused.
+#![tactic(auto)]
 ghost use Rattle.std.specs.Prelude.{◌≡◌, ◌&&◌, cond, ◌≤◌, min, max, leb, eqb};
 ghost use Rattle.theory.specs.Splits.{rounded_up};
 ghost use Rattle.theory.specs.Ratio.{float_ratio};

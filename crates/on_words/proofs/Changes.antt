@@ -192,11 +192,11 @@ module _ {h : Head} {t : Bool} {len : ℕ} {words : List ℕ} (ready : Ready h t
   ready_rising e = holds_rising h.n h.m words (ready.holds e)
 
   module _ (a b : ℕ) where
-    abbrev its-pair : Pair
-    its-pair = smaller_first_pair a b
+    abbrev its_pair : Pair
+    its_pair = smaller_first_pair a b
 
-    abbrev now-held : List Pair
-    now-held = laid_pairs h.m words
+    abbrev now_held : List Pair
+    now_held = laid_pairs h.m words
 
     -- where 13, 5 and 4 do not hold
     module _ (fine : First (not t) h.n a b ≡ 0) where
@@ -206,15 +206,15 @@ module _ {h : Head} {t : Bool} {len : ℕ} {words : List ℕ} (ready : Ready h t
       pub find_asks : RisingWords h.m words
       find_asks = ready_rising yes
 
-      pub room_asks : {count w : ℕ} → count ≡ weight_of its-pair now-held → refusal (count_causes w) ≡ 0 → (count ≤ 1000) × (w ≤ 1000)
+      pub room_asks : {count w : ℕ} → count ≡ weight_of its_pair now_held → refusal (count_causes w) ≡ 0 → (count ≤ 1000) × (w ≤ 1000)
       unfolding laid_list
       room_asks e c =
           let l = listed (laid_list h.n h.m words) (ready.holds yes).listed in
-          (omega (arith, e, weight_few its-pair now-held l.weights), (count_known _ c).1)
+          (omega (arith, e, weight_few its_pair now_held l.weights), (count_known _ c).1)
 
-      pub delete_asks : {place : Place} → place ≡ located its-pair now-held → place.held ≡ true →
+      pub delete_asks : {place : Place} → place ≡ located its_pair now_held → place.held ≡ true →
           (place.at < h.m) × (h.m ≤ 4096) × (12288 ≤ length words)
-      delete_asks found held = (count_within h.m its-pair words found held, find_asks.few, find_asks.long)
+      delete_asks found held = (count_within h.m its_pair words found held, find_asks.few, find_asks.long)
 
 -- ---- stops more of a pair
 
@@ -226,8 +226,8 @@ module _ (h : Head) (t : Bool) (len : ℕ) (words : List ℕ) (ready : Ready h t
   agreed : t ≡ true
   agreed = not-false t passed.agreed
 
-  abbrev held-now : List Pair
-  held-now = laid_pairs h.m words
+  abbrev held_now : List Pair
+  held_now = laid_pairs h.m words
 
   abbrev there : Place
   there = pair_located h words a b
@@ -236,13 +236,13 @@ module _ (h : Head) (t : Bool) (len : ℕ) (words : List ℕ) (ready : Ready h t
   unfolding pair_located located laid_list
   free new = full_less h len (ready_rising ready agreed).few (ready.fits agreed) (passed.room new)
 
-  found : there ≡ located (stops_of a b w) held-now
+  found : there ≡ located (stops_of a b w) held_now
   unfolding pair_located
-  found = stops_located a b w held-now
+  found = stops_located a b w held_now
 
-  below : weight_of (stops_of a b w) held-now + w ≤ 1000
+  below : weight_of (stops_of a b w) held_now + w ≤ 1000
   unfolding laid_list
-  below = omega (arith, stops_weight a b w held-now, count_stays (smaller_first_pair a b) w held-now passed.within)
+  below = omega (arith, stops_weight a b w held_now, count_stays (smaller_first_pair a b) w held_now passed.within)
 
   pub raised_asks : {place : Place} → place ≡ there → Raisable h.m place w words
   unfolding stops_of
@@ -257,16 +257,16 @@ module _ (h : Head) (t : Bool) (len : ℕ) (words : List ℕ) (ready : Ready h t
       (λ e. rw e ((ready_rising ready agreed).few, ready.fits agreed))
       (λ e. rw e (omega (arith, (free e).0), omega (arith, (free e).1)))
 
-  raised_list : is_list (record { n = h.n; pairs = raise_pair (stops_of a b w) held-now }) ≡ true
+  raised_list : is_list (record { n = h.n; pairs = raise_pair (stops_of a b w) held_now }) ≡ true
   unfolding laid_list stops_of
   raised_list =
       let count = count_known w passed.stops in
       let good = stops_good h.n a b w (modules_known h.n a b passed.modules) count in
       raise_list (laid_list h.n h.m words) (stops_of a b w) (ready.holds agreed).listed good.0 good.1 count.0 below
-      (λ new. omega (arith, length_laid h.m words, (free (unfold pair_located located in (sym (stops_held a b w held-now) ∙ new))).0))
+      (λ new. omega (arith, length_laid h.m words, (free (unfold pair_located located in (sym (stops_held a b w held_now) ∙ new))).0))
 
   edit_added : length words ≡ 12288 → (k : ℕ) → k ≡ 0 →
-      Edited h len k (head_of h.n (pairs_raised h.m there)) (pairs_raised h.m there) (raise_pair (stops_of a b w) held-now)
+      Edited h len k (head_of h.n (pairs_raised h.m there)) (pairs_raised h.m there) (raise_pair (stops_of a b w) held_now)
       (raised h.m there (stops_of a b w) words)
   unfolding edit_of if_taken stops_of
   edit_added long k z =
@@ -277,7 +277,7 @@ module _ (h : Head) (t : Bool) (len : ℕ) (words : List ℕ) (ready : Ready h t
         in_list = rw k0 raised_few.1;
         room = rw k0 raised_few.0;
         pairs = λ _. same;
-        fit = rw k0 (list_fits (record { n = h.n; pairs = raise_pair (stops_of a b w) held-now }) _ _ raised_list same);
+        fit = rw k0 (list_fits (record { n = h.n; pairs = raise_pair (stops_of a b w) held_now }) _ _ raised_list same);
       }
 
 -- ---- a pair less

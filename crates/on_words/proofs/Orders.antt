@@ -41,8 +41,8 @@ none_of_two : (n a b : ℕ) (ds : List Cause) → refusal (pair_causes 0 n a b +
 none_of_two n a b ds e = let z = refusal_split (pair_causes 0 n a b) ds e in (z, sym (pair_then 0 n a b z ds) ∙ e)
 
 module _ (d : Bool) (g : Pairs) (full : Bool) (a b w : ℕ) where
-  abbrev its-pair : Pair
-  its-pair = smaller_first_pair a b
+  abbrev its_pair : Pair
+  its_pair = smaller_first_pair a b
 
   pub add_13 : d ≡ true → refusal (add_causes d g full a b w) ≡ 13
   unfolding add_causes
@@ -59,7 +59,7 @@ module _ (d : Bool) (g : Pairs) (full : Bool) (a b w : ℕ) where
   -- then 19 and 11
   pub add_room : First d g.n a b ≡ 0 → refusal (count_causes w) ≡ 0 →
       refusal (add_causes d g full a b w)
-      ≡ refusal (cause 19 (count_passes its-pair w g.pairs) ∷ cause 11 (not (is_held its-pair g.pairs) && full) ∷ [])
+      ≡ refusal (cause 19 (count_passes its_pair w g.pairs) ∷ cause 11 (not (is_held its_pair g.pairs) && full) ∷ [])
   unfolding add_causes
   add_room e c = order_rest d g.n a b _ e ∙ count_then w c _
 
@@ -68,14 +68,14 @@ module _ (d : Bool) (g : Pairs) (full : Bool) (a b w : ℕ) where
     pub agreed : d ≡ false
     pub modules : refusal (pair_causes 0 g.n a b) ≡ 0
     pub stops : refusal (count_causes w) ≡ 0
-    pub within : count_passes its-pair w g.pairs ≡ false
-    pub room : is_held its-pair g.pairs ≡ false → full ≡ false
+    pub within : count_passes its_pair w g.pairs ≡ false
+    pub room : is_held its_pair g.pairs ≡ false → full ≡ false
 
   pub add_taken : Unmet → refusal (add_causes d g full a b w) ≡ 0
   unfolding refusal cause
   add_taken x =
       add_room (none_first d g.n a b x.agreed x.modules) x.stops
-      ∙ rw x.within (by_test (is_held its-pair g.pairs) (λ h. rw h) (λ h. rw (h, x.room h)))
+      ∙ rw x.within (by_test (is_held its_pair g.pairs) (λ h. rw h) (λ h. rw (h, x.room h)))
 
   pub add_none : refusal (add_causes d g full a b w) ≡ 0 → Unmet
   unfolding add_causes

@@ -6,6 +6,7 @@
 // clears the work buffer. Add and remove look the pair up in the words and shift what stands behind it; a reader leaves the file's pairs in them.
 // Each costs what the crate below it does (pairs, peel, densest, verify, pairfile, dimacs), and the 16,384 words that are cleared. They refuse by 13, 5,
 // 4, 18, 19, 11 (add), 13, 5, 4, 14 (remove), 13, 5, 4 (place), 12 and the file's numbers (both readers), 13, 12 and 7, 8, 9 (the others).
+#![tactic(auto)]
 mod buffers;
 pub mod edits;
 pub mod judging;
@@ -19,7 +20,7 @@ use records::Head;
 
 // What place answers: the refusal number or 0; 1 where the pair is held, else 0; and its place, or where it would go. Both are 0 beside a refusal.
 #[repr(C)]
-#[derive(Drop)]
+#[derive(Clone, Copy)]
 pub struct Placed {
     pub number: u32,
     pub held: u32,
@@ -29,7 +30,7 @@ pub struct Placed {
 // What solve answers: the refusal number or 0; P and Q, the found group's inside count and size; K, P/Q rounded up; the number of modules in the
 // core of order K; and P divided by Q, rounded once.
 #[repr(C)]
-#[derive(Drop)]
+#[derive(Clone, Copy)]
 pub struct Solved {
     pub number: u32,
     pub p: u32,
@@ -41,14 +42,14 @@ pub struct Solved {
 
 // What write_dimacs answers: the refusal number or 0, and how many bytes it has written.
 #[repr(C)]
-#[derive(Drop)]
+#[derive(Clone, Copy)]
 pub struct Written {
     pub number: u32,
     pub length: u32,
 }
 
 // A change of the words: the number, the head after it, and how many records come back to the list.
-#[derive(Drop)]
+#[derive(Clone, Copy)]
 pub struct Edit {
     pub number: u32,
     pub head: Head,
@@ -56,7 +57,7 @@ pub struct Edit {
 }
 
 // What the first two refusals say: 13, 12 or 0, and how many records go out to words.
-#[derive(Drop)]
+#[derive(Clone, Copy)]
 pub struct Gate {
     pub number: u32,
     pub out: usize,

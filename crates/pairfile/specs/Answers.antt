@@ -17,19 +17,19 @@ use Rattle.lines.specs.Lines.{Line}
 use Rattle.lines.specs.Outcomes.{Outcome, refused, taken}
 use Rattle.pairfile.specs.File.{Named, pair_line, read_pairs, read_file}
 use Rattle.pairfile.specs.declared.HeadLine.{HeadLine}
-use Rattle.pairfile.specs.declared.HeadLine.TheVariants.{Refused as head-refused, Number as head}
+use Rattle.pairfile.specs.declared.HeadLine.TheVariants.{Refused as head_refused, Number as head}
 use Rattle.pairfile.specs.declared.PairLine.{PairLine}
 use Rattle.pairfile.specs.declared.PairLine.TheVariants.{Refused as line_refused, Named as named}
 use Rattle.pairfile.specs.declared.Reading.{Reading}
 
 -- Refused: its number, 1 or 2 by modules_line, 1, 3 or 11 by pairs_line (specs/File.antt). Number: N or M, and the bytes after its line
 unfoldable pub head_in : (bytes : List ℕ) → HeadLine → Outcome Line
-head_in bs (head-refused k) = refused k
+head_in bs (head_refused k) = refused k
 head_in bs (head v i) = taken (record { numbers = v ∷ []; rest = drop i bs })
 
 -- where it ends
 unfoldable pub head_end : HeadLine → ℕ
-head_end (head-refused k) = 0
+head_end (head_refused k) = 0
 head_end (head v i) = i
 
 -- MODULES_LINE and PAIRS_LINE: the line that is due

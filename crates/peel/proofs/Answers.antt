@@ -33,14 +33,14 @@ module _ (g : Pairs) (h : is_list g ≡ true) (order finals order' finals' : Lis
   -- the order's entries
   order_at : (i : ℕ) → i < g.n → get_or order' i 0 ≡ get_or (leaving g) i 0
   unfolding entry
-  order_at i l = t.order-is.front i l
+  order_at i l = t.order_is.front i l
 
   pub answer_numberable : (cores place : List ℕ) → g.n ≤ length order → g.n ≤ length finals → g.n ≤ length cores → g.n ≤ length place →
       Numberable g.n order' finals' cores place
   answer_numberable cores place a b c d =
       record {
         few = (listed g h).few;
-        order_long = omega (arith, t.order-is.long);
+        order_long = omega (arith, t.order_is.long);
         finals_long = omega (arith, t.finals_are.long);
         cores_long = c;
         place_long = d;
@@ -92,7 +92,7 @@ module _ (g : Pairs) (h : is_list g ≡ true) (order finals order' finals' : Lis
         l.at_is ∙ densest_by_is g h finals' t.finals_are.front (g.n - least) (omega arith) in
         let le : r.at ≤ g.n = omega (arith, densest_le g (g.n - least)) in
         record {
-          order_is = rw leaving_entries at (written_all g.n (entry (leaving g)) order order' a t.order-is);
+          order_is = rw leaving_entries at (written_all g.n (entry (leaving g)) order order' a t.order_is);
           cores_are = written_all g.n (core_number g) cores cores' b answer_cores;
           places_are = written_all g.n (index_of (leaving g)) place place' c answer_places;
           at_is = at;

@@ -4,6 +4,7 @@
 // degree (`slots::adjacency`). Module by module the first of the ranking leaves, and the degrees of its neighbours, the modules that its pairs join
 // it to, get lower: for N modules and M pairs about N + M steps of the ranking. The core number of a leaver is the greatest degree at leaving so
 // far. Refuses nothing: its callers have tested the list and the buffers.
+#![tactic(auto)]
 ghost use Rattle.std.specs.Prelude.{◌≡◌, ◌-◌, ◌≤◌, length};
 ghost use Rattle.theory.specs.Groups.{everyone};
 ghost use Rattle.theory.specs.Words.{list_in, HeldWords};
@@ -16,7 +17,7 @@ ghost use Rattle.peel.specs.Steps.{RankingOf, LeaversWritten, Numberable, Number
 ghost use Rattle.peel.specs.Steps.{remaining, densest_by, denser, Comparable, RemainderAt};
 
 // What is left when `at` modules have left: its inside count p and its size q.
-#[derive(Drop)]
+#[derive(Clone, Copy)]
 pub struct Remainder {
     pub p: u32,
     pub q: u32,

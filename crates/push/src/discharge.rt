@@ -12,7 +12,7 @@ use slots::{shift, wide};
 
 // What a module's turn came to: the queue's new length, the arc at which it stopped, and the lowest label that it can still send units to, among the arcs
 // that it looked at.
-#[derive(Drop)]
+#[derive(Clone, Copy)]
 struct Turn {
     tail: usize,
     at: u32,

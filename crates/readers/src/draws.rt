@@ -5,7 +5,7 @@ use crate::{desk, model, reads};
 // How lists are drawn and read: modules, records of the list, draws, pairs at most, the greatest count, and whether they are DIMACS files; in how many ways
 // they are read; and what is altered before it is compared (1 the number, 2 the number of pairs, 3 the records, 4 the work buffer, 5 the first count due; 0
 // nothing).
-#[derive(Drop)]
+#[derive(Clone, Copy)]
 pub(crate) struct Plan {
     pub(crate) n: u32,
     pub(crate) len: u32,
@@ -18,7 +18,7 @@ pub(crate) struct Plan {
 }
 
 // Two modules, and the random state after the draw.
-#[derive(Drop)]
+#[derive(Clone, Copy)]
 struct Two {
     a: u32,
     b: u32,
@@ -26,7 +26,7 @@ struct Two {
 }
 
 // Two modules and a count.
-#[derive(Drop)]
+#[derive(Clone, Copy)]
 struct Stops {
     a: u32,
     b: u32,
@@ -34,7 +34,7 @@ struct Stops {
 }
 
 // A file's length so far, how many comments it has, and the pair of its last line.
-#[derive(Drop)]
+#[derive(Clone, Copy)]
 pub(crate) struct Text {
     pub(crate) end: usize,
     pub(crate) comments: u32,

@@ -7,7 +7,7 @@ use crate::{desk, lent, print};
 use kandurzo::Changed;
 
 // How a file is made.
-#[derive(Drop)]
+#[derive(Clone, Copy)]
 struct File {
     n: u32,
     m: u32,

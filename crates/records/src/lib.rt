@@ -5,6 +5,7 @@
 //   agree      whether head and list agree (document 01, number 13)
 //   lookup     whether a pair is held, and its place (document 02, item 3): the search of crate pairs, on the records where they lie
 // Each but the last is one pass over the records that it names, and all are blind to what is in a record: lay, record_at, rises, step and look_at know that.
+#![tactic(auto)]
 ghost use Rattle.std.specs.Prelude.{◌≡◌, take};
 ghost use Rattle.theory.specs.Lists.{pair, stands_before};
 ghost use Rattle.pairs.specs.Located.{located};
@@ -17,7 +18,7 @@ use pairs::{Place, Search, begin_search, found, narrow};
 
 // A record: two module numbers, the smaller first, and the pair's stop count.
 #[repr(C)]
-#[derive(Drop)]
+#[derive(Clone, Copy)]
 pub struct Pair {
     pub a: u16,
     pub b: u16,
@@ -26,7 +27,7 @@ pub struct Pair {
 
 // A head: the number of modules, and of pairs held.
 #[repr(C)]
-#[derive(Drop)]
+#[derive(Clone, Copy)]
 pub struct Head {
     pub n: u32,
     pub m: u32,
@@ -79,7 +80,7 @@ pub fn copy_in(list: &mut [Pair], words: &[u32], m: usize)
 }
 
 // What the test of the records keeps: whether all so far are good, and the last one.
-#[derive(Drop)]
+#[derive(Clone, Copy)]
 struct Seen {
     ok: bool,
     last: Pair,

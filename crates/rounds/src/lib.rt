@@ -5,6 +5,7 @@
 // what does not drain is the found group. The split search (crate `flow`) decides, and of it only the promise is known; of what balances units before it
 // (crate `push`), that they move within pairs (`round`). The caller has the core numbers, and a ratio that some group reaches.
 // Cost: a few rounds, each some passes over the pairs and what its searches cost; ratios rise from round to round, so the rounds end. Nothing is refused.
+#![tactic(auto)]
 mod round;
 mod search;
 
@@ -14,7 +15,7 @@ pub use search::{Ratio, find};
 pub const PHASES: usize = 64;
 
 // What goes before the searches to make them short: at most so many push phases, and arcs of at most so many pairs.
-#[derive(Drop)]
+#[derive(Clone, Copy)]
 pub struct Effort {
     pub phases: usize,
     pub arcs: usize,

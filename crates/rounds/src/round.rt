@@ -13,7 +13,7 @@ use flow::{Searches, no_searches};
 use std::num::wrapping_add_u32;
 
 // What a round leaves: its group's inside count and size, whether it found a split, whether arcs are laid, and what its searches did.
-#[derive(Drop)]
+#[derive(Clone, Copy)]
 pub(crate) struct Turn {
     pub(crate) p: u32,
     pub(crate) q: u32,
@@ -23,7 +23,7 @@ pub(crate) struct Turn {
 }
 
 // A counted group's inside count and size, and whether it is denser than the one at hand.
-#[derive(Drop)]
+#[derive(Clone, Copy)]
 struct Count {
     p: u32,
     q: u32,

@@ -8,7 +8,7 @@ use crate::round::round;
 use flow::{Searches, no_searches, together};
 
 // A group's inside count and size, and what the searches of all rounds did.
-#[derive(Drop)]
+#[derive(Clone, Copy)]
 pub struct Ratio {
     pub p: u32,
     pub q: u32,

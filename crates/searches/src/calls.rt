@@ -6,7 +6,7 @@ use pairfile::Reading;
 use verify::{Difference, Verdict};
 
 // What peel answers: leaving order, core numbers, places, and the densest remainder.
-#[derive(Drop)]
+#[derive(Clone, Copy)]
 pub struct Peeled {
     pub order: [u32; 512],
     pub cores: [u32; 512],
@@ -15,7 +15,7 @@ pub struct Peeled {
 }
 
 // What solve answers: the found group's member bytes, core numbers, shares, and the record.
-#[derive(Drop)]
+#[derive(Clone, Copy)]
 pub struct Solved {
     pub members: [u8; 512],
     pub cores: [u32; 512],

@@ -3,7 +3,7 @@
 use std::num::wrapping_add_u32;
 
 // The ends of a pair, and its stop count.
-#[derive(Drop)]
+#[derive(Clone, Copy)]
 pub struct Pair {
     pub a: u32,
     pub b: u32,

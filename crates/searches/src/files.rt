@@ -5,7 +5,7 @@ use crate::lists::{Listed, stops, takes};
 use std::num::wrapping_add_u32;
 
 // How far a walk has come: the pair a,b is next; pairs passed and taken, the stops of those taken, the random state, and where the text ends.
-#[derive(Drop)]
+#[derive(Clone, Copy)]
 pub struct Walk {
     pub a: u32,
     pub b: u32,

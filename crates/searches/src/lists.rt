@@ -4,7 +4,7 @@ use std::num::{wrapping_add_u32, wrapping_sub_u32};
 
 // A row of the table of what is tried: what is asked of each list and with what (module `trials`), the kind of the lists and its two numbers, which stop
 // counts their pairs have, how many modules the first has, how many lists there are of each number of modules, and how many in all.
-#[derive(Drop)]
+#[derive(Clone, Copy)]
 pub struct Row {
     pub asked: u32,
     pub with: u32,
@@ -18,7 +18,7 @@ pub struct Row {
 }
 
 // A list to make: its kind and the two numbers, which stop counts, its own number in the row, and how many modules it has.
-#[derive(Drop)]
+#[derive(Clone, Copy)]
 pub struct Listed {
     pub kind: u32,
     pub x: u32,

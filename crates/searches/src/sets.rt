@@ -6,7 +6,7 @@ use pairfile::Reading;
 use std::num::wrapping_add_u32;
 
 // The densest set so far: its mask, its inside count and its size.
-#[derive(Drop)]
+#[derive(Clone, Copy)]
 pub struct Best {
     pub mask: u32,
     pub p: u32,

@@ -5,7 +5,7 @@ use flow::Searches;
 use numbers::greater;
 use std::num::wrapping_add_u32;
 
-#[derive(Drop)]
+#[derive(Clone, Copy)]
 pub struct Tally {
     pub lists: u32,
     pub pairs: u32,

@@ -8,7 +8,7 @@ use std::num::{nearest_i64_to_f64, wrapping_add_u32, wrapping_sub_u32};
 use verify::{Difference, Verdict};
 
 // A group: its size and its inside count; both 0 where the set is no group.
-#[derive(Drop)]
+#[derive(Clone, Copy)]
 pub struct Group {
     pub size: u32,
     pub inside: u32,

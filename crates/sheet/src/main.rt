@@ -2,6 +2,7 @@
 // each module's core number, and a line `share=A,B,U` for each pair in list order: of the pair's units, Q for each stop, the smaller module A receives U.
 // A refused file has the first line only. The program `audit` answers whether a sheet is the best there is; what is printed here it accepts
 // (texts, sheet_text).
+#![tactic(auto)]
 use libc::{STDIN_FILENO, STDOUT_FILENO};
 
 fn main() {

@@ -63,8 +63,8 @@ one_alike : (d : ℕ) (form : List ℕ) (own : Line → Cause) (pick : Line → 
     ((l : Line) (v : ℕ) → own (trim_line v l) ≡ own l) → ((l : Line) (v : ℕ) → pick (trim_line v l) ≡ pick l) →
     Alike trim_number w (span d form) (judged_line d form own pick (take w bs)) (judged_line d form own pick bs)
 unfolding judged_line
-one_alike d form own pick w bs p h same-own same-pick =
-    judged_alike 101 d form w bs p h trim_number (λ l. own l ∷ []) _ (λ l v. rw (same-own l v)) (λ l v. rw (same-pick l v))
+one_alike d form own pick w bs p h same_own same_pick =
+    judged_alike 101 d form w bs p h trim_number (λ l. own l ∷ []) _ (λ l v. rw (same_own l v)) (λ l v. rw (same_pick l v))
 
 -- one line after another: a member line has at most 12 bytes, a number line 15, a share line 30
 members_alike : (left low : ℕ) (s : List ℕ) (w : ℕ) (bs : List ℕ) → 12 * left ≤ w →

@@ -8,7 +8,7 @@ ghost use Rattle.sheetfile.specs.Answers.{LineRead, PartRead, NumbersRead, Besid
 use lines::{FoundLine, FoundNumber, line_at, one_number_at};
 
 // A line: its refusal number or 0, a number on it, and where it ends.
-#[derive(Drop)]
+#[derive(Clone, Copy)]
 struct OneLine {
     number: u32,
     value: u32,
@@ -16,14 +16,14 @@ struct OneLine {
 }
 
 // Some lines: their refusal number or 0, and where they end.
-#[derive(Drop)]
+#[derive(Clone, Copy)]
 struct Lines {
     number: u32,
     next: usize,
 }
 
 // The refusal number or 0; P and Q; K and the number of modules in the core of order K.
-#[derive(Drop)]
+#[derive(Clone, Copy)]
 pub(crate) struct SheetHead {
     pub(crate) number: u32,
     pub(crate) p: u32,

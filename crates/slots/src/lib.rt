@@ -5,6 +5,7 @@
 // `spread` makes a split and adds up the loads, `shift` moves units (no other function does). `adjacency` finds each module's pairs and its degree in one
 // pass over a list that rises: the pairs whose first end it is stand side by side, its row (`earlier_in_row` goes back along it), and those whose second
 // end it is are chained by links (`link`). Nothing is refused: what is asked is in the contracts.
+#![tactic(auto)]
 ghost use Rattle.std.specs.Prelude.{◌≡◌, ◌&&◌, cond, ℕ, ◌+◌, ◌*◌, ◌≤◌, ◌<◌, eqb, ltb, length, get_or, set};
 ghost use Rattle.theory.specs.Words.{HeldWords};
 ghost use Rattle.slots.specs.Slots.{mate, moved, Ends, Room, Own, Loads, Covers};

@@ -188,10 +188,10 @@ module _ (h : Head) (ps : List Pair) (t s : List ℕ) (d : Difference) (once : O
   abbrev both : List Cause
   both = surplus_causes (held_list h ps) (take h.n t) (take h.n s)
 
-  abbrev either-short : Bool
-  either-short = ltb (length t) h.n || ltb (length s) h.n
+  abbrev either_short : Bool
+  either_short = ltb (length t) h.n || ltb (length s) h.n
 
-  same_either : ours.any_short (surplus_buffers h (length t) (length s)) ≡ either-short
+  same_either : ours.any_short (surplus_buffers h (length t) (length s)) ≡ either_short
   unfolding surplus_buffers ours.buffer ours.any_short
   same_either = simp or-false
 
@@ -199,7 +199,7 @@ module _ (h : Head) (ps : List Pair) (t s : List ℕ) (d : Difference) (once : O
   unfolding surplus_call_causes surplus_causes refusal cause surplus_refusal plain.list_in
   surplus_order_as =
       call.number ∙ ap (λ (b : Bool). refusal (cause 13 (not (agrees h ps)) ∷ cause 12 b ∷ both)) same_either
-      ∙ sym (turned (eqb (refused h ps) 0) 13 _ ∙ orders h ps once either-short _ both (λ e l.
+      ∙ sym (turned (eqb (refused h ps) 0) 13 _ ∙ orders h ps once either_short _ both (λ e l.
       let n = surplus_enough h _ _ (same_either ∙ l) in
       rw (same_list h ps once e, members_plain (g h ps) t n.0, members_plain (g h ps) s n.1)
       (two_sets (is_group (weighted (g h ps)) (take h.n t)) (is_group (weighted (g h ps)) (take h.n s)))))

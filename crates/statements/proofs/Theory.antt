@@ -26,13 +26,13 @@ module _ (g : plain.Pairs) where
   held l = is_list_plain g ∙ l
 
   -- no group has a higher ratio, both ways
-  abbrev Densest-plain : List ℕ → Type 0
-  Densest-plain s = (t : List ℕ) → plain.is_group g t ≡ true → plain.at_most g t s ≡ true
+  abbrev DensestPlain : List ℕ → Type 0
+  DensestPlain s = (t : List ℕ) → plain.is_group g t ≡ true → plain.at_most g t s ≡ true
 
-  densest_plain : (s : List ℕ) → NoneDenser (weighted g) s → Densest-plain s
+  densest_plain : (s : List ℕ) → NoneDenser (weighted g) s → DensestPlain s
   densest_plain s d t h = sym (at_most_plain g t s) ∙ d t (is_group_plain g t ∙ h)
 
-  densest_weighted : (s : List ℕ) → Densest-plain s → NoneDenser (weighted g) s
+  densest_weighted : (s : List ℕ) → DensestPlain s → NoneDenser (weighted g) s
   densest_weighted s d t h = at_most_plain g t s ∙ d t (sym (is_group_plain g t) ∙ h)
 
 -- ---- ratio and greatest load over share size

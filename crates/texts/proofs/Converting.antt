@@ -17,15 +17,15 @@ use Rattle.theory.specs.Words.{laid_list}
 use Rattle.lines.specs.Outcomes.{Outcome, taken}
 use Rattle.pairfile.specs.File.{read_file}
 use Rattle.pairfile.specs.Answers.{WordsRead}
-use Rattle.pairfile.specs.Promise.{WrittenReadsBack as File-back, ReadsLists as File-lists}
+use Rattle.pairfile.specs.Promise.{WrittenReadsBack as FileBack, ReadsLists as FileLists}
 use Rattle.pairfile.specs.declared.Reading.{Reading}
 use Rattle.pairfile.proofs.Readings.{Sound, reading_refused, reading_taken}
-use Rattle.pairfile.proofs.Promises.{written_reads_back as file-back, reads_lists as file-lists}
+use Rattle.pairfile.proofs.Promises.{written_reads_back as file_back, reads_lists as file_lists}
 use Rattle.dimacs.specs.Edges.{read_dimacs, dimacs_of}
-use Rattle.dimacs.specs.Promise.{once_each, WrittenReadsOnce, ReadsLists as Dimacs-lists, WrittenFits}
-use Rattle.dimacs.proofs.Promises.{written_reads_once, reads_lists as dimacs-lists, written_fits}
+use Rattle.dimacs.specs.Promise.{once_each, WrittenReadsOnce, ReadsLists as DimacsLists, WrittenFits}
+use Rattle.dimacs.proofs.Promises.{written_reads_once, reads_lists as dimacs_lists, written_fits}
 use Rattle.texts.specs.Texts.{refusal_text}
-use Rattle.texts.specs.Contracts.{ReadOf}
+use Rattle.texts.specs.Printed.{ReadOf}
 use Rattle.texts.specs.Converted.{
   converted,
   pair_file,
@@ -91,10 +91,10 @@ module _ (file : List ℕ) (g : Pairs) (short : is_long file ≡ false) (e : rea
   from_printed = rw (short, e)
 
   from_same : read_file 4096 (from_dimacs_printed file) ≡ taken g
-  unfolding Dimacs-lists File-back pair_file
+  unfolding DimacsLists FileBack pair_file
   from_same =
-      let t = dimacs-lists 4096 file g e in
-      ap (read_file 4096) from_printed ∙ file-back 4096 g t.list t.fits
+      let t = dimacs_lists 4096 file g e in
+      ap (read_file 4096) from_printed ∙ file_back 4096 g t.list t.fits
 
 module _ (file : List ℕ) (g : Pairs) (e : read_file 4096 file ≡ taken g) where
   to_printed : to_dimacs_printed file ≡ dimacs_of g
@@ -102,15 +102,15 @@ module _ (file : List ℕ) (g : Pairs) (e : read_file 4096 file ≡ taken g) whe
   to_printed = rw e
 
   to_same : read_dimacs 4096 (to_dimacs_printed file) ≡ taken (once_each g)
-  unfolding File-lists WrittenReadsOnce
+  unfolding FileLists WrittenReadsOnce
   to_same =
-      let t = file-lists 4096 file g e in
+      let t = file_lists 4096 file g e in
       ap (read_dimacs 4096) to_printed ∙ written_reads_once 4096 g t.list t.fits
 
   -- a file that is printed is not too long
   to_short : is_long (to_dimacs_printed file) ≡ false
-  unfolding is_long File-lists WrittenFits
-  to_short = rw to_printed (le-ltb 1048576 (length (dimacs_of g)) (omega (arith, written_fits g (file-lists 4096 file g e).list)))
+  unfolding is_long FileLists WrittenFits
+  to_short = rw to_printed (le-ltb 1048576 (length (dimacs_of g)) (omega (arith, written_fits g (file_lists 4096 file g e).list)))
 
 pub from_dimacs_same : FromDimacsSame
 unfolding FromDimacsSame

@@ -36,7 +36,7 @@ use Rattle.answer.specs.declared.Answer.{Answer}
 use Rattle.answer.specs.Answers.{refusal_of, group_answer, answer_to, members_after, Answers, solved_of, Sheeted}
 use Rattle.on_words.proofs.Sheets.{found_front}
 use Rattle.texts.specs.Texts.{refusal_text, group_text, group_printed, certificate, GroupFirst}
-use Rattle.texts.specs.Contracts.{Prints, SheetDue, SheetPrinted, answer_lines, sheet_lines}
+use Rattle.texts.specs.Printed.{Prints, SheetDue, SheetPrinted, answer_lines, sheet_lines}
 use Rattle.texts.proofs.Lengths.{group_length, sheet_length}
 
 pub prints : {Right : List ℕ → Type 0} {text out out' : List ℕ} {r : ℕ} → Right text → Puts text out 0 out' r → length text ≤ length out →

@@ -22,7 +22,7 @@ use Rattle.lines.proofs.Parts.{Left, left_start, left_step}
 use Rattle.sheetfile.specs.Sheet.{head_form, member_form, number_form, share_form}
 use Rattle.sheetfile.specs.Writer.{member_lines, number_lines, share_lines}
 use Rattle.answer.specs.declared.Answer.{Answer}
-use Rattle.texts.specs.Contracts.{answer_lines, sheet_lines}
+use Rattle.texts.specs.Printed.{answer_lines, sheet_lines}
 
 module _ (members : List ℕ) (v : ℕ) where
   pub next_member : v < length members →

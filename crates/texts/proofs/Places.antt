@@ -140,13 +140,13 @@ found_within m p words e = omega (arith, ap (λ (l : Place). l.at) e, place_with
 
 -- x is 1 or 0, whether the pair is held
 module _ (l : Place) (ps : List Pair) (out : List ℕ) (h : length (place_text l ps) ≤ length out) {x : ℕ} (e : x ≡ mark l.held) where
-  abbrev before-line : List ℕ
-  before-line = record_line before_form (record_before l.at ps)
+  abbrev before_line : List ℕ
+  before_line = record_line before_form (record_before l.at ps)
 
   abbrev after_line : List ℕ
   after_line = record_line after_form (record_before (l.at + x + 1) ps)
 
-  all_left : Left (place_text l ps) out 0 (filled place_form (x ∷ l.at ∷ []) ++ (before-line ++ after_line)) out 0
+  all_left : Left (place_text l ps) out 0 (filled place_form (x ∷ l.at ∷ []) ++ (before_line ++ after_line)) out 0
   unfolding place_text predecessor
   all_left = rw (e, successor_next l ps) (left_start (place_text l ps) out 0 (omega arith))
 
@@ -155,16 +155,16 @@ module _ (l : Place) (ps : List Pair) (out : List ℕ) (h : length (place_text l
   head_room = left_front all_left (filled place_form (x ∷ l.at ∷ [])) _ refl
 
   module _ {out₁ : List ℕ} {i : ℕ} (p : Puts (filled place_form (x ∷ l.at ∷ [])) out 0 out₁ i) where
-    records_left : Left (place_text l ps) out 0 (before-line ++ after_line) out₁ i
+    records_left : Left (place_text l ps) out 0 (before_line ++ after_line) out₁ i
     records_left = left_step all_left (filled place_form (x ∷ l.at ∷ [])) _ refl p
 
     -- behind them the line of the record before the pair
-    pub before_room : i + length before-line ≤ length out₁
-    before_room = left_front records_left before-line _ refl
+    pub before_room : i + length before_line ≤ length out₁
+    before_room = left_front records_left before_line _ refl
 
     -- and then that of the record after it
-    pub after_left : {out₂ : List ℕ} {j : ℕ} → Puts before-line out₁ i out₂ j → Left (place_text l ps) out 0 after_line out₂ j
-    after_left q = left_step records_left before-line _ refl q
+    pub after_left : {out₂ : List ℕ} {j : ℕ} → Puts before_line out₁ i out₂ j → Left (place_text l ps) out 0 after_line out₂ j
+    after_left q = left_step records_left before_line _ refl q
 
 -- ---- how long the texts are
 

@@ -15,7 +15,7 @@ use Rattle.sheetfile.specs.Audit.{audit}
 use Rattle.sheetfile.specs.Promise.{AuditFirst}
 use Rattle.sheetfile.proofs.Prefix.{audit_first}
 use Rattle.texts.specs.Texts.{group_printed, certificate, audit_text}
-use Rattle.texts.specs.Contracts.{SheetDue, SheetPrinted, ReadOf, GroupRead, SheetRead, AuditRead, SheetAnswered}
+use Rattle.texts.specs.Printed.{SheetDue, SheetPrinted, ReadOf, GroupRead, SheetRead, AuditRead, SheetAnswered}
 
 module _ {buffer : List ℕ} {n : ℕ} (room : 65536 ≤ length buffer) where
   -- what was read is taken or refused as the whole file is

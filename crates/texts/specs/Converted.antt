@@ -14,7 +14,7 @@ use Rattle.pairfile.specs.File.{read_file, file_of}
 use Rattle.dimacs.specs.Edges.{read_dimacs, dimacs_of}
 use Rattle.dimacs.specs.Promise.{once_each}
 use Rattle.texts.specs.Texts.{refusal_text}
-use Rattle.texts.specs.Contracts.{ReadOf}
+use Rattle.texts.specs.Printed.{ReadOf}
 
 -- of a refused file the status line only, of a list its file and nothing else
 unfoldable pub converted : (file_of_list : Pairs → List ℕ) → Outcome Pairs → List ℕ

@@ -32,7 +32,7 @@ use Rattle.on_words.specs.declared.Placed.{Placed}
 use Rattle.kandurzo.specs.Placing.{PlaceSays}
 use Rattle.kandurzo.specs.Promise.{Lent}
 use Rattle.texts.specs.Texts.{refusal_text}
-use Rattle.texts.specs.Contracts.{ReadOf}
+use Rattle.texts.specs.Printed.{ReadOf}
 use Rattle.texts.specs.declared.neighbours.Argument.{Argument}
 use Rattle.texts.specs.declared.neighbours.Argument.TheVariants.{Module, Malformed}
 

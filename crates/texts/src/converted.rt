@@ -4,7 +4,7 @@
 // 65,536 bytes decide. Comments of a DIMACS file have no bound, so a file of more than 1,048,576 bytes is refused by 109, and never cut short: the input's
 // buffer has room for a byte more, so that a longer file shows.
 ghost use Rattle.std.specs.Prelude.{◌≤◌, length};
-ghost use Rattle.texts.specs.Contracts.{Prints, Input};
+ghost use Rattle.texts.specs.Printed.{Prints, Input};
 ghost use Rattle.texts.specs.Converted.{FromDimacsRead, ToDimacsRead};
 
 use crate::write_refusal;

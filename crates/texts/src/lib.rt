@@ -5,6 +5,7 @@
 // A text is written once, from front to back, line by line, at the cost of its bytes. 8,192 bytes hold the text of any group, 140,000 that of any
 // sheet, 64 that of any audit or pair; a file is refused by its number on the status line. Of an input a caller lends the whole buffer, which has room for
 // every byte that decides (65,536 of a pair file, 140,000 of a sheet), and says how many bytes were read: the text is that of the whole file.
+#![tactic(auto)]
 mod converted;
 mod neighbours;
 
@@ -15,7 +16,7 @@ ghost use Rattle.lines.specs.Putting.{Puts};
 ghost use Rattle.sheetfile.specs.Sheet.{member_form};
 ghost use Rattle.sheetfile.specs.Writer.{member_lines, number_lines, share_lines};
 ghost use Rattle.texts.specs.Texts.{refusal_text};
-ghost use Rattle.texts.specs.Contracts.{Prints, Input, GroupRead, SheetRead, AuditRead, answer_lines, sheet_lines};
+ghost use Rattle.texts.specs.Printed.{Prints, Input, GroupRead, SheetRead, AuditRead, answer_lines, sheet_lines};
 
 use answer::{Answer, sheet_file, solve_file};
 pub use converted::{from_dimacs_text, to_dimacs_text};

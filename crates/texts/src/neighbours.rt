@@ -6,7 +6,7 @@
 ghost use Rattle.std.specs.Prelude.{◌≡◌, ◌+◌, ◌*◌, ◌≤◌, length};
 ghost use Rattle.theory.specs.Words.{laid_pairs, laid_list, HoldsList};
 ghost use Rattle.lines.specs.Putting.{Puts};
-ghost use Rattle.texts.specs.Contracts.{Prints, Input};
+ghost use Rattle.texts.specs.Printed.{Prints, Input};
 ghost use Rattle.texts.specs.Neighbours.{
   argument_number,
   record_before,
@@ -25,7 +25,7 @@ use numbers::{greater, lesser, one_if};
 use pairs::Place;
 
 // The module that an argument names by its number.
-#[derive(Drop)]
+#[derive(Clone, Copy)]
 enum Argument {
     Module { number: u32 },
     Malformed,

@@ -2,6 +2,7 @@
 // order and the smaller module first, modules numbered from 1, and no stop counts. A refused file prints the line `status=` with its number only. A pair
 // file is decided by its first 65,536 bytes (pairfile, reads-first). What is printed is proved (texts, to_dimacs_text), and that the reader of DIMACS files
 // reads it as the same pairs, each with the count 1.
+#![tactic(auto)]
 use libc::{STDIN_FILENO, STDOUT_FILENO};
 
 fn main() {

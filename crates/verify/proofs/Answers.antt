@@ -184,9 +184,9 @@ module _ (n m : ℕ) (es ws first second : List ℕ) (long_first : n ≤ length 
   pub valued : (a ≡ 0 → ⊥) → (b ≡ 0 → ⊥) → (p : ℕ) → p ≡ inside (list_in n m es ws) (take n first) →
       (r : ℕ) → r ≡ inside (list_in n m es ws) (take n second) → (v : ℤ) → v ≡ pos (b * p) -ℤ pos (r * a) → differs 0 v
   unfolding surplus_number surplus_causes refusal cause if_taken surplus SurplusSigned
-  valued some_IsFirst some-second p is_p r is-r v is-v =
+  valued some_IsFirst some_second p is_p r is_r v is_v =
       let i = group_some g' t long_t (λ z. some_IsFirst (is_a ∙ z)) in
-      let j = group_some g' u long_u (λ z. some-second (is_b ∙ z)) in
+      let j = group_some g' u long_u (λ z. some_second (is_b ∙ z)) in
       let e : surplus_number g' t u ≡ 0 = rw (i.0, j.0) in
       let d : v ≡ surplus g' t u = cc in
       record { number = sym e; value = rw e d; signs = λ z. rw d (surplus_signed g' t u) }

@@ -4,6 +4,7 @@
 // difference of two products, as i64. Both cost a few passes over modules and pairs, and write nothing.
 // Pair j has its ends at slots 2j and 2j + 1 of `ends`, its weight at place j of `weights`, and its smaller end's units at place j of `shares`. The
 // list has been found good and every buffer long enough (13 and 12 are the caller's); the refusals here are 7, 8 and 9, in document 01's order.
+#![tactic(auto)]
 ghost use Rattle.std.specs.Prelude.{◌≡◌, true, List, ℕ, ◌*◌, ◌≤◌, length, get_or, take, pos, ◌-ℤ◌};
 ghost use Rattle.theory.specs.Basics.{greatest};
 ghost use Rattle.theory.specs.Groups.{bytes_good};
@@ -14,7 +15,7 @@ ghost use Rattle.verify.specs.Answers.{refused_by, CheckSays, SurplusSays};
 
 // Check's answer: 0 and the group's inside count p and size q, or a refusal number and zeros.
 #[repr(C)]
-#[derive(Drop)]
+#[derive(Clone, Copy)]
 pub struct Verdict {
     pub number: u32,
     pub p: u32,
@@ -23,7 +24,7 @@ pub struct Verdict {
 
 // Surplus's answer: 0 and the value, or a refusal number and zero.
 #[repr(C)]
-#[derive(Drop)]
+#[derive(Clone, Copy)]
 pub struct Difference {
     pub number: u32,
     pub value: i64,

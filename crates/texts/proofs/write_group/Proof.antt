@@ -2,7 +2,7 @@
 use native.Mathlib.Omega.{arith}
 use Rattle.lines.specs.Text.{text}
 use Rattle.sheetfile.specs.Sheet.{head_form}
-use Rattle.texts.specs.Contracts.{answer_lines}
+use Rattle.texts.specs.Printed.{answer_lines}
 use lib.ListN.{length-append}
 use Rattle.texts.proofs.Lines.{members_left}
 use borrow.Author.Rules.{rules}
