@@ -1,4 +1,4 @@
-//! Links libkandurzo.a, which `rt staticlib kandurzo` writes; KANDURZO_LIB names another folder.
+//! Links libkandurzo.a, which callers/library makes; KANDURZO_LIB names another folder.
 fn main() {
     let here = std::env::var("CARGO_MANIFEST_DIR").expect("cargo sets it");
     let folder = std::env::var("KANDURZO_LIB").unwrap_or(format!("{here}/../../target/staticlib"));
