@@ -1,6 +1,7 @@
 // Small functions on numbers: the lesser and the greater of two, a quotient rounded up or as a float, tests of numbers and of bytes,
 // and tests as numbers. Nothing here branches by more than one test, and nothing is refused.
 #![tactic(auto)]
+
 ghost use Rattle.std.specs.Prelude.{◌≡◌, ◌&&◌, cond, ◌≤◌, min, max, leb, eqb};
 ghost use Rattle.theory.specs.Splits.{rounded_up};
 ghost use Rattle.theory.specs.Ratio.{float_ratio};
@@ -20,6 +21,7 @@ pub fn greater(a: u32, b: u32) -> u32
 }
 
 // p over q, rounded up.
+#[tactic(auto, unfolding(theory::specs::Splits::rounded_up))]
 pub fn rounded_up(p: u32, q: u32) -> u32
     requires { 1 ≤ q }
     ensures { result ≡ rounded_up p q }
