@@ -6,6 +6,7 @@
 // pass over a list that rises: the pairs whose first end it is stand side by side, its row (`earlier_in_row` goes back along it), and those whose second
 // end it is are chained by links (`link`). Nothing is refused: what is asked is in the contracts.
 #![tactic(auto)]
+
 ghost use Rattle.std.specs.Prelude.{◌≡◌, ◌&&◌, cond, ℕ, ◌+◌, ◌*◌, ◌≤◌, ◌<◌, eqb, ltb, length, get_or, set};
 ghost use Rattle.theory.specs.Words.{HeldWords};
 ghost use Rattle.slots.specs.Slots.{mate, moved, Ends, Room, Own, Loads, Covers};
@@ -83,6 +84,7 @@ fn add(i: usize, d: u32, xs: &mut [u32])
 }
 
 // The first end of pair j.
+#[tactic(auto, unfolding(crate::specs::Rows::first_end))]
 pub fn first_end(j: usize, ends: &[u32]) -> usize
     requires { (j < 4096) × (2 * j < length ends.now) }
     ensures { result ≡ first_end ends.now j }
@@ -91,6 +93,7 @@ pub fn first_end(j: usize, ends: &[u32]) -> usize
 }
 
 // The second end of pair j.
+#[tactic(auto, unfolding(crate::specs::Rows::second_end))]
 pub fn second_end(j: usize, ends: &[u32]) -> usize
     requires { (j < 4096) × (2 * j + 1 < length ends.now) }
     ensures { result ≡ second_end ends.now j }
@@ -137,6 +140,7 @@ pub fn earlier_in_row(k: usize, v: usize, ends: &[u32]) -> usize
 }
 
 // Moves d from place i to place j.
+#[tactic(auto, unfolding(crate::specs::Slots::moved))]
 fn carry(i: usize, j: usize, d: u32, xs: &mut [u32])
     requires i_in_bounds { i < length xs.old }
     requires j_in_bounds { j < length xs.old }
