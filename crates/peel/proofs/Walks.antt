@@ -1,6 +1,6 @@
 -- The walk back over a leaver's pairs, along its row or its chain.
 --   Lowering, lowering_start      s is the next place, and 1 more
---   lowering_low, lowering_own, lowering_fits, lowering_next    the pair at hand
+--   lowering_low, lowering_own, lowering_pair, lowering_fits, lowering_next    the pair at hand
 --   lowering_end                  all of its pairs are done
 --   lowerable_row, lowerable_chain, lowered_both    one way after the other
 -- Assumes nothing.
@@ -12,10 +12,12 @@ use native.Mathlib.Omega.{arith}
 use lib.Dec.{eqb}
 use lib.ListN.{get_or}
 use borrow.Author.Tests.{eqb-true, eqb-false, eq-eqb, ne_eqb}
+use Rattle.theory.specs.Words.{HeldWords}
 use Rattle.ranking.specs.Ranking.{Ranking, has, carries, Lowered}
 use Rattle.slots.specs.Slots.{total}
 use Rattle.slots.specs.Links.{last_at}
 use Rattle.slots.proofs.Linking.{link_back, total_linked}
+use Rattle.slots.proofs.Rows.{PairAt, pair_at}
 use Rattle.peel.specs.Steps.{pair_to, one_way, by_row, by_chain, both_ways, LowerableBy, LoweredBy}
 
 -- s is the next place of v, and 1 more; who is present carries less by what the pairs from s on count from v to it
@@ -48,6 +50,10 @@ module _ {m v s : ℕ} {from to : ℕ → ℕ} {weights old new : List ℕ} (w :
   -- and v's
   pub lowering_own : from k ≡ v
   lowering_own = (link_back w.link.0 from v).1 k (sym w.link.2 ∙ more)
+
+  -- what the words have at it
+  pub lowering_pair : {n : ℕ} {ends : List ℕ} → HeldWords n m ends weights → PairAt n k ends weights
+  lowering_pair h = pair_at h k lowering_low
 
   -- with x at its other end, and of weight y
   module _ {x y : ℕ} (xs : x ≡ to k) (ys : y ≡ get_or weights k 0) where

@@ -5,6 +5,7 @@
 // it to, get lower: for N modules and M pairs about N + M steps of the ranking. The core number of a leaver is the greatest degree at leaving so
 // far. Refuses nothing: its callers have tested the list and the buffers.
 #![tactic(auto)]
+
 ghost use Rattle.std.specs.Prelude.{◌≡◌, ◌-◌, ◌≤◌, length};
 ghost use Rattle.theory.specs.Groups.{everyone};
 ghost use Rattle.theory.specs.Words.{list_in, HeldWords};

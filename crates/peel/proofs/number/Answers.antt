@@ -1,0 +1,25 @@
+-- `peel::number` meets its contract. The loop's invariant: the first i are numbered, and top is the greatest degree so far. Assumes nothing.
+use mathlib.Core.Path.{◌≡◌, refl}
+use Prim.Native.Nat.{suc}
+use native.Mathlib.Omega.{arith}
+use native.Mathlib.Numerals.{add-one}
+use Rattle.theory.specs.Basics.{greatest}
+use Rattle.theory.proofs.Tables.{greatest_suc}
+use Rattle.slots.specs.Buffers.{entry}
+use Rattle.peel.proofs.Numbers.{numbered_none, numbered_next}
+use Rattle.peel.proofs.number.Goals as goal
+
+pub loop-i-init : goal.loop-i-init
+unfolding greatest
+loop-i-init c = (numbered_none _ _ _ _ _, omega arith, refl)
+
+pub loop-i-preserved : goal.loop-i-preserved
+loop-i-preserved c =
+    let a = c.args in
+    let top : c.greater-top.result ≡ greatest (suc c.loop-i.i) (entry a.finals.now) =
+    unfold entry in omega (arith, c.greater-top.ensures, greatest_suc c.loop-i.i (entry a.finals.now), c.loop-i.invariant.2) in (
+      numbered_next a.n a.order.now a.finals.now a.cores.now a.place.now c.requires c.loop-i.i (omega arith)
+          c.loop-i.cores c.loop-i.place c.loop-i.invariant.0 _ _ c.wide-v.ensures top,
+      omega arith,
+      rw add-one top,
+    )
