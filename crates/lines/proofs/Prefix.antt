@@ -18,7 +18,7 @@ use lib.ListN.{length, take, drop}
 use lib.Seq.{take_all, take-nil, length-take-le}
 use Rattle.theory.proofs.Tests.{tests, fails, implied, by_test}
 use Rattle.theory.specs.Refusals.{Cause, refusal}
-use Rattle.lines.specs.Numbers.{is_digit, digits, is_number, value, Number, number_of}
+use Rattle.lines.specs.Numbers.{is_digit, digits, is_number, Number, number_of}
 use Rattle.lines.specs.Lines.{is_place, Line, with_numbers, after_number, after_byte, line_of}
 use Rattle.lines.specs.Outcomes.{Outcome, refused, taken, ◌>>=◌, ◌>>◌, passed, judge, line_or, line_due}
 use Rattle.lines.proofs.Spelling.{some_same, none_not_some}

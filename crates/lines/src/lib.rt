@@ -5,6 +5,7 @@
 // it and one more, so `write_number` runs once for each digit, at most ten times, each run called by the one before. How many digits a number that is
 // read may have is the caller's to say: four in pair files and DIMACS files, up to seven on sheets, nine at most.
 #![tactic(auto)]
+
 ghost use Rattle.std.specs.Prelude.{◌≡◌, ◌+◌, ◌≤◌, length, get_or};
 ghost use Rattle.lines.specs.Numbers.{spelled};
 ghost use Rattle.lines.specs.Lines.{places, filled};
