@@ -5,6 +5,7 @@
 // Pair j has its ends at slots 2j and 2j + 1 of `ends`, its weight at place j of `weights`, and its smaller end's units at place j of `shares`. The
 // list has been found good and every buffer long enough (13 and 12 are the caller's); the refusals here are 7, 8 and 9, in document 01's order.
 #![tactic(auto)]
+
 ghost use Rattle.std.specs.Prelude.{◌≡◌, true, List, ℕ, ◌*◌, ◌≤◌, length, get_or, take, pos, ◌-ℤ◌};
 ghost use Rattle.theory.specs.Basics.{greatest};
 ghost use Rattle.theory.specs.Groups.{bytes_good};
