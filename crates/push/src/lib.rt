@@ -8,6 +8,7 @@
 // Whatever the labels say, units move within pairs only (`slots::shift`): the promise is that a split stays a split. How well it is balanced is free.
 // Cost: a phase takes a step for each slot of the modules that it labels and of those that come up in the queue. Nothing is refused.
 #![tactic(auto)]
+
 mod discharge;
 mod labels;
 mod leaving;
