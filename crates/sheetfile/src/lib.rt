@@ -4,6 +4,7 @@
 // what check counted and with the list's cores. Nothing on the sheet is trusted.
 // Refuses by the pair file's numbers; 101 to 106, line by line; 7, 8, 9; 107, 108.
 #![tactic(auto)]
+
 mod sheet;
 
 ghost use Rattle.std.specs.Prelude.{◌≡◌, ◌++◌, ◌≤◌, leb, length, drop};
