@@ -27,7 +27,8 @@ pub link-requires-clause-k_bound : goal.link-requires-clause-k_bound
 link-requires-clause-k_bound c = omega (arith, (pair_at c.requires.held_words c.loop-j.j c.loop-j-test.true).few)
 
 pub link-requires-clause-v_in_bounds : goal.link-requires-clause-v_in_bounds
-link-requires-clause-v_in_bounds c = let p = pair_at c.requires.held_words c.loop-j.j c.loop-j-test.true in omega (arith, c.loop-j.invariant.chains_are.first_long)
+link-requires-clause-v_in_bounds c =
+    let p = pair_at c.requires.held_words c.loop-j.j c.loop-j-test.true in omega (arith, c.loop-j.invariant.chains_are.first_long)
 
 pub add-requires-clause-i_in_bounds : goal.add-requires-clause-i_in_bounds
 add-requires-clause-i_in_bounds c = let p = pair_at c.requires.held_words c.loop-j.j c.loop-j-test.true in omega arith
