@@ -34,6 +34,6 @@ mod verdicts;
 // The table stands on standard input.
 fn main() {
     let mut text = [0u8; 16384];
-    let n = io::read_full(libc::STDIN_FILENO, &mut text);
+    let n = io::read_full(0, &mut text);
     table::try_rows(&text[..n]);
 }
