@@ -48,6 +48,6 @@ cross_difference-requires-clause-c_bound c =
 pub returns : goal.returns
 returns c =
     valued _ _ _ _ c.args.first.now c.args.second.now c.requires.n_in_bounds c.requires.n_in_bounds_2
-    _ c.counted-first_size.ensures _ c.counted-second_size.ensures c.if-first_size-eq0.false c.if-second_size-eq0.false
+    _ c.counted-first_size.ensures _ c.counted-second_size.ensures (λ z. omega arith) (λ z. omega arith)
     _ c.inside_count-first_inside.ensures _ c.inside_count-second_inside.ensures _
     (to_z-of_z w64 _ (record { sfits = c.cross_difference.type_inv }) ∙ c.cross_difference.ensures)
