@@ -17,7 +17,7 @@ use Rattle.theory.specs.Lists.{Pairs}
 use Rattle.theory.specs.Refusals.{Cause, cause, refusal, if_taken}
 use Rattle.theory.specs.Check.{check_number}
 use Rattle.theory.specs.Surplus.{surplus_number}
-use Rattle.theory.proofs.Tests.{tests, no}
+use Rattle.theory.proofs.Tests.{tests}
 use Rattle.theory.proofs.Refusals.{if_taken_old}
 use Rattle.lines.specs.Outcomes.{Outcome, refused, taken}
 use Rattle.pairfile.specs.Answers.{reading_of, pairs_of}

@@ -13,7 +13,6 @@ use lib.Dec.{eqb}
 use lib.ListN.{length, get_or, take, drop, length-append, length-drop, get_or-append}
 use lib.Seq.{get_or-take}
 use borrow.Author.Tests.{eqb-true, eqb-false}
-use Rattle.theory.specs.Lists as Lists
 use Rattle.theory.specs.Lists.{Pairs, pair, is_list}
 use Rattle.theory.specs.Groups.{size, is_group, everyone}
 use Rattle.theory.specs.Leaving.{leaving, remainder}
@@ -27,7 +26,6 @@ use Rattle.theory.proofs.Tables.{table_at, length_table}
 use Rattle.theory.proofs.Tests.{tests, by_test}
 use Rattle.theory.proofs.Leaving.{left_behind_same}
 use Rattle.theory.proofs.Splits.{shares_length, outside_at}
-use Rattle.lines.specs.Outcomes.{refused}
 use Rattle.verify.specs.declared.Verdict.{Verdict}
 use Rattle.records.specs.declared.Pair.{Pair}
 use Rattle.records.specs.declared.Head.{Head}
@@ -85,7 +83,8 @@ module _ (h : Head) (ps : List Pair) (order cores work : List ℕ) {r : ℕ} {or
     order_long = front_enough (leaving g) order order' (rw z at call.order_is) (leaving_steps g).0;
     cores_long = front_enough (core_numbers g) cores cores' (rw z at call.cores_are) (unfold core_numbers in length_table g.n (core_number g));
     leavers = λ i l.
-        rw (left_behind_same order' (leaving g) (everyone g) i (λ j b. place_is j (omega (arith, l)))) ((leaving_steps g).1 i l ∙ ap some (sym (place_is i l)));
+        rw (left_behind_same order' (leaving g) (everyone g) i (λ j b. place_is j (omega (arith, l))))
+        ((leaving_steps g).1 i l ∙ ap some (sym (place_is i l)));
     places = λ v l. let p = leaving_everyone g v l in (p.0, p.1, place_is p.0 p.1 ∙ p.2);
     numbers = λ v l. rw (number_is v l) (core_exact g v peeled_list l);
   }

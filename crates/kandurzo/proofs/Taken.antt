@@ -24,7 +24,7 @@ use Rattle.theory.specs.Lists as Lists
 use Rattle.theory.specs.Lists.{is_list}
 use Rattle.theory.proofs.Tests.{tests, by_test}
 use Rattle.theory.proofs.Lists.{listed}
-use Rattle.pairs.specs.Held.{is_held, weight_of, raise_pair, remove_pair, without_pair, smaller_first_pair, stops_of}
+use Rattle.pairs.specs.Held.{is_held, raise_pair, remove_pair, without_pair, smaller_first_pair, stops_of}
 use Rattle.pairs.specs.Causes.{count_passes}
 use Rattle.pairs.proofs.Causes.{modules_known, count_fit, count_known, count_stays, stops_good}
 use Rattle.pairs.proofs.Changes.{remove_length}
@@ -39,7 +39,7 @@ use Rattle.records.specs.Records.{as_pair, as_pairs, held_list, agrees, blank}
 use Rattle.on_words.specs.Edits.{head_of, is_full}
 use Rattle.kandurzo.specs.Listing.{as_record, as_records, add_number, pairs_then, added, remove_number, removed}
 use Rattle.kandurzo.specs.Keeping.{Addable, Removable}
-use Rattle.on_words.proofs.Orders.{First, none_first, Unmet, add_taken, add_none, remove_taken, remove_none}
+use Rattle.on_words.proofs.Orders.{First, none_first, add_taken, add_none, remove_taken, remove_none}
 use Rattle.on_words.proofs.Changes.{full_less}
 
 -- ---- records and pairs

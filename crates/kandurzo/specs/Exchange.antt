@@ -1,5 +1,5 @@
--- What the planner and the research group are promised of read_dimacs and write_dimacs (document 02, item 1). A statement is a type; proofs/Promises.antt has a
--- theorem for each, of the same name in small letters. Those of DIMACS files alone are in crate dimacs, specs/Promise.antt.
+-- What the planner and the research group are promised of read_dimacs and write_dimacs (document 02, item 1). A statement is a type; proofs/Promises.antt has
+-- a theorem for each, of the same name in small letters. Those of DIMACS files alone are in crate dimacs, specs/Promise.antt.
 --   EveryListWritten      write_dimacs writes every list
 --   WrittenRead            a list of ones that is written and read is the same list
 --   ReadRewritten          an accepted file without comments, in list order and with the smaller module first, is rewritten byte for byte

@@ -1,6 +1,7 @@
 // The public calls of Kandurzo, over lent records (document 01, "The list and its calls"; document 02, items 1 to 4: DIMACS files; 5 before 4; place;
 // stop counts). An entry has crate `records` test head and list and copy the held records to words or back; the rest is done there, by crate `on_words`.
 #![tactic(auto)]
+
 ghost use Rattle.std.specs.Prelude.{◌≡◌};
 ghost use Rattle.pairfile.specs.File.{read_file};
 ghost use Rattle.dimacs.specs.Edges.{read_dimacs};
