@@ -8,7 +8,7 @@
 --   excess, Pulled             what lies above p; units moved back along a chain
 --   Stuck, Settled             a set that no unit can leave; the answer of all searches
 -- Assumes nothing: these are definitions.
-use Rattle.std.specs.Prelude.{◌≡◌, ℕ, ◌+◌, ◌-◌, ◌*◌, ◌<◌, ◌≤◌, Bool, true, false, cond, ◌&&◌, List, length, set, ◌==◌, ◌≢◌, nat_lt, slice_index, slice_index_or, slice_set}
+use Rattle.std.specs.Prelude.{◌≡◌, ℕ, ◌+◌, ◌-◌, ◌*◌, ◌<◌, ◌≤◌, Bool, true, false, cond, ◌&&◌, List, length, ◌==◌, ◌≢◌, nat_lt, slice_index, slice_index_or, slice_set}
 use Rattle.slots.specs.Slots.{mate, total, pair_units, Kept}
 
 -- how many of the first k numbers are 0

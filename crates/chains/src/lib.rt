@@ -7,6 +7,7 @@
 // Cost: a search takes a step for each arc of the modules that it reaches. Arcs (crate `arcs`) say where to look first; that nothing leads out of a
 // set is found by one scan over all pairs (`exit`). There are at most as many searches as units lie above p. Nothing is refused.
 #![tactic(auto)]
+
 mod exits;
 mod search;
 
