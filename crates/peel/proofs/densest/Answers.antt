@@ -13,8 +13,6 @@ loop-i-init c =
     let a = c.args in (
       remaining_start a.n a.finals.now c.total-left.result c.total-left.ensures,
       best_start a.n a.finals.now _ c.total-left.ensures refl refl,
-      omega arith,
-      refl,
     )
 
 pub overflow_sub-left : goal.overflow_sub-left
@@ -33,6 +31,4 @@ loop-i-preserved c =
     omega (arith, c.loop-i.invariant.0, remaining_next a.n a.finals.now c.loop-i.i) in (
       less,
       (rw c.denser_of-best.ensures (best_next a.n a.finals.now c.loop-i.i _ _ c.loop-i.invariant.1 (record { at_is = refl; p_is = less; q_is = refl }))),
-      omega arith,
-      c.loop-i.invariant.3,
     )

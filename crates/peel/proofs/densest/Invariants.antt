@@ -1,7 +1,6 @@
 -- `peel::densest` meets its contract. The loop's invariant: what is left inside when i have left, and the densest remainder so far.
 -- Assumes nothing.
 use mathlib.Core.Path.{◌≡◌}
-use Prim.Native.Nat.{◌-◌, ◌≤◌}
 use Rattle.peel.specs.Steps.{remaining, densest_by, RemainderAt}
 use Rattle.peel.proofs.densest.Given as goal
 
@@ -9,8 +8,3 @@ abbrev pub invariant-loop-i : goal.invariant-loop-i
 invariant-loop-i l =
     (l.left ≡ remaining l.n l.finals l.i)
     × RemainderAt l.n l.finals (densest_by l.n (remaining l.n l.finals) l.i) l.best
-    × (l.i ≤ l.last)
-    × (l.last ≡ l.n - l.least)
-
-abbrev pub decreases-loop-i : goal.decreases-loop-i
-decreases-loop-i l = l.last - l.i

@@ -11,15 +11,14 @@ use Rattle.peel.proofs.number.Goals as goal
 
 pub loop-i-init : goal.loop-i-init
 unfolding greatest
-loop-i-init c = (numbered_none _ _ _ _ _, omega arith, refl)
+loop-i-init c = (numbered_none _ _ _ _ _, refl)
 
 pub loop-i-preserved : goal.loop-i-preserved
 loop-i-preserved c =
     let a = c.args in
     let top : c.greater-top.result ≡ greatest (suc c.loop-i.i) (entry a.finals.now) =
-    unfold entry in omega (arith, c.greater-top.ensures, greatest_suc c.loop-i.i (entry a.finals.now), c.loop-i.invariant.2) in (
+    unfold entry in omega (arith, c.greater-top.ensures, greatest_suc c.loop-i.i (entry a.finals.now), c.loop-i.invariant.1) in (
       numbered_next a.n a.order.now a.finals.now a.cores.now a.place.now c.requires c.loop-i.i (omega arith)
           c.loop-i.cores c.loop-i.place c.loop-i.invariant.0 _ _ c.wide-v.ensures top,
-      omega arith,
       rw add-one top,
     )

@@ -1,13 +1,9 @@
 -- `peel::number` meets its contract. The loop's invariant: the first i are numbered, and top is the greatest degree so far. Assumes nothing.
 use mathlib.Core.Path.{◌≡◌}
-use Prim.Native.Nat.{◌-◌, ◌≤◌}
 use Rattle.theory.specs.Basics.{greatest}
 use Rattle.slots.specs.Buffers.{entry}
 use Rattle.peel.specs.Steps.{Numbered}
 use Rattle.peel.proofs.number.Given as goal
 
 abbrev pub invariant-loop-i : goal.invariant-loop-i
-invariant-loop-i l = Numbered l.i l.n l.order l.finals l.initial.cores l.initial.place l.cores l.place × (l.i ≤ l.n) × (l.top ≡ greatest l.i (entry l.finals))
-
-abbrev pub decreases-loop-i : goal.decreases-loop-i
-decreases-loop-i l = l.n - l.i
+invariant-loop-i l = Numbered l.i l.n l.order l.finals l.initial.cores l.initial.place l.cores l.place × (l.top ≡ greatest l.i (entry l.finals))

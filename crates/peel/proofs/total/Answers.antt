@@ -9,7 +9,7 @@ use Rattle.peel.proofs.total.Goals as goal
 
 pub loop-i-init : goal.loop-i-init
 unfolding total
-loop-i-init c = (refl, omega arith)
+loop-i-init c = refl
 
 pub overflow_add-sum : goal.overflow_add-sum
 unfolding entry
@@ -17,13 +17,11 @@ overflow_add-sum c =
     let a = c.args in
     omega (
       arith,
-      c.loop-i.invariant.0,
+      c.loop-i.invariant,
       total_next c.loop-i.i (entry a.numbers.now),
       total_upto (c.loop-i.i + 1) a.n (entry a.numbers.now) (omega arith),
     )
 
 pub loop-i-preserved : goal.loop-i-preserved
 unfolding entry
-loop-i-preserved c =
-    let a = c.args in
-    (omega (arith, c.loop-i.invariant.0, total_next c.loop-i.i (entry a.numbers.now)), omega arith)
+loop-i-preserved c = omega (arith, c.loop-i.invariant, total_next c.loop-i.i (entry c.args.numbers.now))

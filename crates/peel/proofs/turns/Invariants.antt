@@ -1,16 +1,7 @@
 -- `peel::turns` meets its contract. The loop's invariant: i modules have left. Assumes nothing.
-use mathlib.Core.Path.{◌≡◌}
-use Prim.Native.Nat.{◌-◌, ◌≤◌}
-use lib.ListN.{length}
 use Rattle.theory.specs.Words.{list_in}
 use Rattle.peel.proofs.Orders.{TurnsDone}
 use Rattle.peel.proofs.turns.Given as goal
 
 abbrev pub invariant-loop-i : goal.invariant-loop-i
-invariant-loop-i l =
-    TurnsDone (list_in l.n l.m l.ends l.weights) l.i l.initial.order l.initial.finals l.work l.order l.finals
-    × (l.i ≤ l.n)
-    × (length l.work ≡ length l.initial.work)
-
-abbrev pub decreases-loop-i : goal.decreases-loop-i
-decreases-loop-i l = l.n - l.i
+invariant-loop-i l = TurnsDone (list_in l.n l.m l.ends l.weights) l.i l.initial.order l.initial.finals l.work l.order l.finals
