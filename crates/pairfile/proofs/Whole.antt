@@ -17,7 +17,7 @@ use Rattle.theory.specs.Words.{pairs_in, laid_pairs}
 use Rattle.theory.proofs.Words.{length_laid}
 use Rattle.pairs.proofs.General.{drop_more}
 use Rattle.lines.specs.Lines.{Line, first}
-use Rattle.lines.specs.Outcomes.{Outcome, refused, taken, ◌>>=◌, ◌>>◌}
+use Rattle.lines.specs.Outcomes.{Outcome, refused, taken, ◌>>=◌}
 use Rattle.pairfile.specs.File.{pairs_form, modules_line, pairs_causes, pairs_line, read_pairs, read_file}
 use Rattle.pairfile.specs.Answers.{
   head_in,
