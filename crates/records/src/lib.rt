@@ -6,6 +6,7 @@
 //   lookup     whether a pair is held, and its place (document 02, item 3): the search of crate pairs, on the records where they lie
 // Each but the last is one pass over the records that it names, and all are blind to what is in a record: lay, record_at, rises, step and look_at know that.
 #![tactic(auto)]
+
 ghost use Rattle.std.specs.Prelude.{◌≡◌, take};
 ghost use Rattle.theory.specs.Lists.{pair, stands_before};
 ghost use Rattle.pairs.specs.Located.{located};
@@ -34,6 +35,7 @@ pub struct Head {
 }
 
 // One record's numbers to words 2i and 2i + 1, and its count to word 8,192 + i.
+#[tactic(auto, unfolding(crate::specs::Records::copied_record))]
 fn lay(words: &mut [u32], i: usize, p: Pair)
     requires { RoomAt i words.old }
     ensures { words.new ≡ copied_record words.old i p }
@@ -87,6 +89,7 @@ struct Seen {
 }
 
 // What head and length show before the first record.
+#[tactic(auto, unfolding(crate::specs::Scan::begin_of, crate::specs::Scan::fits))]
 fn begin(head: Head, len: usize) -> Seen
     ensures { result ≡ begin_of head len }
 {
@@ -134,6 +137,7 @@ fn rises(last: Pair, p: Pair) -> bool
 }
 
 // One record more.
+#[tactic(auto, unfolding(crate::specs::Scan::step_of, crate::specs::Records::as_pair, theory::specs::Lists::weight_in_range))]
 fn step(n: u32, seen: Seen, p: Pair) -> Seen
     ensures { result ≡ step_of n seen p }
 {
