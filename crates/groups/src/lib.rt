@@ -4,6 +4,7 @@
 // number, say) is k or more. What asks for a group asks for exactly n bytes: a caller lends `&members[..n]`. Each costs one pass over the modules or the
 // pairs. Nothing is refused.
 #![tactic(auto)]
+
 ghost use Rattle.std.specs.Prelude.{◌≡◌, ℕ, ◌≤◌, ◌<◌, leb, length, get_or};
 ghost use Rattle.theory.specs.Basics.{mark};
 ghost use Rattle.theory.specs.Groups.{inside, size};
@@ -31,6 +32,7 @@ pub fn two_ends(n: usize, m: usize, j: usize, ends: &[u32]) -> TwoEnds
 }
 
 // Whether both ends of pair j are in a group.
+#[tactic(auto, unfolding(theory::specs::Groups::is_in))]
 pub fn inner(n: usize, m: usize, j: usize, ends: &[u32], group: &[u8]) -> bool
     requires ends { Ends n m ends.now }
     requires j_lt_m { (j < m) × (length group.now ≡ n) }
