@@ -6,17 +6,9 @@
 --   drained_largest                 so what stays is the largest
 --   flowed_good, flowed_bad         the promise, kept one way or the other
 -- Assumes nothing.
-use mathlib.Core.Path.{◌≡◌, refl, sym, ap, ◌∙◌, subst}
-use mathlib.Core.Bool.{Bool, true, false, ◌&&◌, cond}
-use mathlib.Core.List.{List, [], ◌∷◌}
-use mathlib.Core.Logic.{◌⊎◌, inl, inr, ⊎_elim}
-use Prim.Native.Nat.{ℕ, zero, suc, ◌+◌, ◌*◌, ◌/◌, ◌≤◌, ◌<◌}
-use native.Mathlib.Omega.{arith}
-use lib.Dec.{eqb}
-use lib.ListN.{length, get_or}
-use borrow.Author.Tests.{eqb-true, eq-eqb}
+use Rattle.std.proofs.Common.{◌≡◌, refl, sym, ap, ◌∙◌, subst, Bool, true, false, ◌&&◌, cond, List, ◌⊎◌, inl, inr, ⊎_elim, ℕ, zero, suc, ◌+◌, ◌*◌, ◌/◌, ◌≤◌, ◌<◌, arith, eqb, length, get_or, eqb-true, eq-eqb}
 use Rattle.theory.specs.Groups.{is_in, bytes_good}
-use Rattle.theory.proofs.Tests.{tests, no, fails}
+use Rattle.theory.proofs.Tests.{no, fails}
 use Rattle.theory.proofs.Sums.{over, over_const, byte_le}
 use Rattle.theory.proofs.Groups.{in_lt, size_in}
 use Rattle.slots.specs.Slots.{mate, held_inside, slot_load, staying, Ends, Loads, Kept}

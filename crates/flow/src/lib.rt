@@ -8,6 +8,7 @@
 // not depend on them.
 // Cost: the searches for chains, a step for each arc of the modules that drain, and scans over all pairs for who else does. Nothing is refused.
 #![tactic(auto)]
+
 mod drain;
 
 ghost use Rattle.std.specs.Prelude.{◌≡◌, List, ℕ, ◌≤◌, ◌<◌, length};
