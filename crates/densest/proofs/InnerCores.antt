@@ -5,19 +5,16 @@
 --   inner_dense                        inside a core of that order or lower, too, some group's ratio is p over q or more
 --   inner_found, inner_found_inside    the found group inside that core is the found group of all pairs, with as many pairs inside
 -- Assumes nothing.
-use Rattle.std.proofs.Common.{◌≡◌, ℕ, zero, suc, ◌*◌, ◌<◌, ◌≤◌, Bool, true, false, cond, eqb, leb, List, length, get_or, sym, refl, ap, ◌∙◌, subst, mul-le-mul_right, le_of_mul-le-mul_right, arith, ext_get_or, leb-true}
-use Rattle.theory.specs.Basics.{mark}
+use Rattle.std.proofs.Common.{◌≡◌, ℕ, ◌*◌, ◌<◌, ◌≤◌, Bool, true, false, cond, leb, List, sym, refl, ap, ◌∙◌, subst, mul-le-mul_right, arith, leb-true}
 use Rattle.theory.specs.Lists.{Pairs, is_list}
 use Rattle.theory.specs.Groups.{is_in, size, is_group, inside, at_most, Found}
-use Rattle.theory.specs.Leaving.{degree}
 use Rattle.theory.specs.Cores.{core, core_number}
 use Rattle.theory.specs.Splits.{rounded_up}
 use Rattle.theory.specs.Promise.{FoundThere, CoreMembers}
 use Rattle.theory.proofs.Tests.{tests}
-use Rattle.theory.proofs.Groups.{Bits, Sub, group_bits, size_pos, sub_within, within_both}
-use Rattle.theory.proofs.Sums.{byte_le}
+use Rattle.theory.proofs.Groups.{Bits, Sub, sub_within, within_both}
 use Rattle.theory.proofs.Best.{found_there}
-use Rattle.theory.proofs.Cores.{good_in_core, core_good, core_bits, length_core, core_members, number_of, in_own_core, found_degree, round_le}
+use Rattle.theory.proofs.Cores.{good_in_core, core_good, core_bits, length_core, core_members, number_of, in_own_core}
 use Rattle.rounds.proofs.Scopes.{found_ratio, dense_in_core}
 use Rattle.densest.specs.Inner.{inner_list}
 use Rattle.densest.proofs.InnerPairs.{inner_inside, inner_inside_same, inner_degree, inner_degree_same, inner_degree_none}

@@ -3,7 +3,7 @@
 --   scattered_held           each module holds what it held among the pairs gathered
 --   scattered_split          a split of the pairs gathered is one of all pairs
 -- Assumes nothing.
-use Rattle.std.proofs.Common.{◌≡◌, ℕ, ◌+◌, ◌*◌, ◌/◌, ◌%◌, ◌<◌, ◌≤◌, Bool, true, false, cond, eqb, List, length, get_or, sym, refl, ap, ◌∙◌, arith}
+use Rattle.std.proofs.Common.{◌≡◌, ℕ, ◌+◌, ◌*◌, ◌/◌, ◌%◌, ◌<◌, Bool, true, false, cond, eqb, List, get_or, sym, refl, ap, ◌∙◌, arith}
 use Rattle.theory.specs.Basics.{table}
 use Rattle.theory.specs.Lists.{Pair}
 use Rattle.theory.specs.Groups.{holds_pair}

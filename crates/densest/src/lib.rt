@@ -5,6 +5,7 @@
 // modules or more, the rounds go over the pairs inside it only (`gather`). The units that the last round leaves make the load sheet (`sheet`).
 // Cost: peeling, and a few rounds over the core's pairs; ratios rise from round to round, so the rounds end. Nothing is refused, and 15 never comes.
 #![tactic(auto)]
+
 mod gather;
 mod packing;
 mod sheet;
