@@ -35,6 +35,7 @@ pub struct Changed {
 
 // A list of n modules without pairs. Refuses by 2.
 #[unsafe(no_mangle)]
+#[tactic(auto, using(crate::proofs::Starting::started_without, crate::proofs::Starting::started_beyond, crate::proofs::Starting::started_within))]
 pub extern "C" fn kandurzo_start(n: u32) -> Changed
     ensures { result ≡ started n }
 {
@@ -99,6 +100,7 @@ pub use kandurzo_remove as remove;
 
 // Adds to the caller's own head and list, and answers the number.
 #[unsafe(no_mangle)]
+#[tactic(auto, unfolding(crate::specs::Listing::changed_to))]
 pub extern "C" fn kandurzo_add_to(head: &mut Head, list: &mut [Pair], a: u32, b: u32, w: u32) -> u32
     ensures { AddSays head.old list.old a b w (changed_to result head.new) list.new }
 {
@@ -111,6 +113,7 @@ pub use kandurzo_add_to as add_to;
 
 // Removes from the caller's own head and list, and answers the number.
 #[unsafe(no_mangle)]
+#[tactic(auto, unfolding(crate::specs::Listing::changed_to))]
 pub extern "C" fn kandurzo_remove_from(head: &mut Head, list: &mut [Pair], a: u32, b: u32) -> u32
     ensures { RemoveSays head.old list.old a b (changed_to result head.new) list.new }
 {
@@ -205,8 +208,6 @@ pub extern "C" fn kandurzo_peel(
     peel_on_words(head, gate.number, order, cores, work);
     gate.number
 }
-
-pub use kandurzo_peel as peel;
 
 // The largest group of greatest ratio, by member bytes; the core numbers; and a load sheet: a share for each pair, of a split at share size Q
 // with no load above P. Refuses by 13, 12 (members, cores, shares, work), 15.
