@@ -10,7 +10,7 @@
 --   at_found, steps, steps_fall   how many rounds are left at most: ratios rise, up to the found group's
 --   found_bounded                 the found group's inside count and size are small
 -- Assumes nothing.
-use Rattle.std.proofs.Common.{◌≡◌, ℕ, zero, suc, ◌-◌, ◌*◌, ◌/◌, ◌<◌, ◌≤◌, Bool, true, false, cond, ◌&&◌, eqb, leb, List, length, get_or, replicate, sym, refl, ap, ◌∙◌, mul-le-mul_right, div-le_self, arith}
+use Rattle.std.proofs.Common.{◌≡◌, ℕ, suc, ◌-◌, ◌*◌, ◌/◌, ◌<◌, ◌≤◌, Bool, true, false, cond, ◌&&◌, eqb, leb, List, length, get_or, replicate, sym, refl, ap, ◌∙◌, mul-le-mul_right, div-le_self, arith}
 use lib.ListN.{length-replicate}
 use Rattle.theory.specs.Basics.{mark}
 use Rattle.theory.specs.Lists.{Pairs, is_list}

@@ -6,6 +6,7 @@
 // (crate `push`), that they move within pairs (`round`). The caller has the core numbers, and a ratio that some group reaches.
 // Cost: a few rounds, each some passes over the pairs and what its searches cost; ratios rise from round to round, so the rounds end. Nothing is refused.
 #![tactic(auto)]
+
 mod round;
 mod search;
 
