@@ -11,7 +11,7 @@
 --   found_bounded                 the found group's inside count and size are small
 -- Assumes nothing.
 use Rattle.std.proofs.Common.{◌≡◌, ℕ, suc, ◌-◌, ◌*◌, ◌/◌, ◌<◌, ◌≤◌, Bool, true, false, cond, ◌&&◌, eqb, leb, List, length, get_or, replicate, sym, refl, ap, ◌∙◌, mul-le-mul_right, div-le_self, arith}
-use lib.ListN.{length-replicate}
+use Rattle.std.proofs.lemmas.List.{length-replicate}
 use Rattle.theory.specs.Basics.{mark}
 use Rattle.theory.specs.Lists.{Pairs, is_list}
 use Rattle.theory.specs.Groups.{size, is_group, inside, at_most, found_of}
