@@ -8,7 +8,6 @@ use mathlib.Core.List.{List}
 use Prim.Native.Nat.{ℕ}
 use native.Mathlib.Omega.{arith}
 use lib.ListN.{length, take, drop, take-append-drop}
-use Rattle.theory.specs.Lists as Lists
 use Rattle.theory.specs.Groups.{size, found_of}
 use Rattle.theory.specs.Splits.{is_split}
 use Rattle.theory.specs.Ratio.{float_ratio}
