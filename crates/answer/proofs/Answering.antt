@@ -1,7 +1,7 @@
 -- From what read and solve say, one after the other, to the answer.
 --   answer_of         the answer, of what read and solve return
 --   out_past          copy_out leaves the words past the pairs as they were
---   room_out, length_out    what copy_out asks, and that it leaves as many words
+--   room_out          what copy_out asks
 --   sheeted           the contract of sheet_file
 -- Assumes nothing.
 use mathlib.Core.Path.{◌≡◌, refl, sym, ap, ◌∙◌, subst}
@@ -25,7 +25,7 @@ use Rattle.pairfile.specs.Answers.{reading_of, pairs_of, SamePast}
 use Rattle.records.specs.declared.Pair.{Pair}
 use Rattle.records.specs.declared.Head.{Head}
 use Rattle.records.specs.Records.{held_list, agrees, ends_of, weights_of, copied_out, RoomOut}
-use Rattle.records.proofs.Copies.{length_ends_of, length_copied_out, copied_out_none, copied_out_pairs, agrees_room}
+use Rattle.records.proofs.Copies.{length_ends_of, copied_out_none, copied_out_pairs, agrees_room}
 use Rattle.kandurzo.specs.declared.Changed.{Changed}
 use Rattle.on_words.specs.declared.Solved.{Solved}
 use Rattle.on_words.specs.Buffers.{buffer, any_short, work_words}
@@ -140,13 +140,10 @@ module _ (bytes : List ℕ) (ps : List Pair) (work : List ℕ) (list_long : leng
       go (refused k) e = omega (arith, ap (λ (u : Head). u.m) (none_read k e))
       go (taken g) e = few_taken g e
 
-  -- what copy_out asks of the words, and that it leaves as many
+  -- what copy_out asks of the words
   module _ (kept : length ps' ≡ 4096) (words : List ℕ) (long : 12288 ≤ length words) where
     pub room_out : RoomOut ps' words h.m
     room_out = record { enough = omega (arith, few_records, kept); few = few_records; long = λ _. long }
-
-    pub length_out : length (copied_out ps' words h.m) ≡ length words
-    length_out = length_copied_out ps' words h.m room_out
 
   module _ (members cores shares words : List ℕ) (room : RoomEnough (length members) (length cores) (length shares) (length words))
       (found : Solved) (members' cores' shares' work'' : List ℕ)

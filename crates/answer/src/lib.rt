@@ -1,5 +1,6 @@
 // The answer to the bytes of a pair file, which crate `texts` writes out.
 #![tactic(auto)]
+
 ghost use Rattle.std.specs.Prelude.{◌≡◌, ◌≤◌, length};
 ghost use Rattle.answer.specs.Answers.{Answers, RoomEnough, Sheeted};
 
