@@ -7,6 +7,7 @@
 // Each costs what the crate below it does (pairs, peel, densest, verify, pairfile, dimacs), and the 16,384 words that are cleared. They refuse by 13, 5,
 // 4, 18, 19, 11 (add), 13, 5, 4, 14 (remove), 13, 5, 4 (place), 12 and the file's numbers (both readers), 13, 12 and 7, 8, 9 (the others).
 #![tactic(auto)]
+
 mod buffers;
 pub mod edits;
 pub mod judging;
