@@ -1,7 +1,7 @@
 -- From the leaving order to the answer.
 --   peeled_cored, peeled_candidate, peeled_by_place    what `peel` gives the search
 --   peelable_zeros, room_zeros, room_less              buffers are long enough: of zeros, and for fewer pairs
---   gathering_bounded, gathering_scope, gathering_unpacks    what is found among the pairs gathered, and the pairs packed
+--   gathering_bounded, gathering_unpacks               what is found among the pairs gathered, and the pairs packed
 --   solution_written, solves_of                        the answer, and where it stands in the buffers
 -- Assumes nothing.
 use Rattle.std.proofs.Common.{◌≡◌, ℕ, ◌*◌, ◌<◌, ◌≤◌, true, ltb, List, ◌++◌, length, get_or, drop, replicate, sym, refl, ap, ◌∙◌, arith, length-take-le, take_at, drop_at}
@@ -115,10 +115,6 @@ module _ (n m : ℕ) (ends weights : List ℕ) (h : HeldWords n m ends weights) 
 
   pub gathering_bounded : Bounded p q
   gathering_bounded = found_bounded n m ends weights h scope hold t p q true all_found
-
-  -- the scope is a core, by member bytes
-  pub gathering_scope : bytes_good scope ≡ true
-  gathering_scope = rw (all_found.last refl).scope_is (core_bits (list_in n m ends weights) (rounded_up p q)).1
 
   -- the pairs packed have ends below n
   pub gathering_unpacks : Unpacks n m packed

@@ -1,7 +1,6 @@
 // Pairs packed, each in one word: the first end from bit 19 on, the second end from bit 10 on, and the count in the lowest 10 bits.
-ghost use Rattle.std.specs.Prelude.{◌≡◌, ◌<◌, ◌≤◌, true, ◌&&◌, length, if◌then◌else◌, ◌==◌};
-ghost use Rattle.theory.specs.Basics.{mark};
-ghost use Rattle.theory.specs.Groups.{bytes_good, holds_pair};
+ghost use Rattle.std.specs.Prelude.{◌≡◌, ◌<◌, ◌≤◌, length, if◌then◌else◌};
+ghost use Rattle.theory.specs.Groups.{holds_pair};
 ghost use Rattle.theory.specs.Splits.{units};
 ghost use Rattle.densest.specs.Gather.{first_left, unpacked};
 
@@ -24,26 +23,6 @@ pub(crate) fn inner(pair: u32, group: &[u8]) -> bool
     let a = slots::wide(pair / 524288);
     let b = slots::wide(pair / 1024 % 512);
     numbers::both(group[a], group[b])
-}
-
-// 1 where two member bytes are 1, else 0, as a product: of a test the compiler makes a jump.
-fn product(a: u8, b: u8) -> u32
-    requires { (a ≤ 1) × (b ≤ 1) }
-    ensures { result ≡ mark (a == 1 && b == 1) }
-{
-    (a as u32) * (b as u32)
-}
-
-// 1 where both ends of a pair are in a group, else 0.
-pub(crate) fn inner_byte(pair: u32, group: &[u8]) -> u32
-    requires pair_in_bounds { (unpacked pair).a < length group.now }
-    requires pair_in_bounds_2 { (unpacked pair).b < length group.now }
-    requires group_value { bytes_good group.now ≡ true }
-    ensures { result ≡ mark (holds_pair group.now (unpacked pair)) }
-{
-    let a = slots::wide(pair / 524288);
-    let b = slots::wide(pair / 1024 % 512);
-    product(group[a], group[b])
 }
 
 // All units of a pair at share size q where its first end left before the second, else none.

@@ -1,21 +1,17 @@
 // The load sheet: what the slots hold inside the core, and all of a pair or nothing outside it.
-ghost use Rattle.std.specs.Prelude.{◌≡◌, ◌*◌, ◌≤◌, true, length, if◌then◌else◌, nat_eq};
-ghost use Rattle.theory.specs.Groups.{bytes_good};
+ghost use Rattle.std.specs.Prelude.{◌≡◌, ◌*◌, ◌≤◌, length, if◌then◌else◌};
 ghost use Rattle.densest.specs.Gather.{Unpacks, Written};
 
-use crate::packing::{forced, inner, inner_byte};
-use std::num::{wrapping_add_u32, wrapping_sub_u32};
+use crate::packing::{forced, inner};
 
 // An entry of the load sheet.
 pub(crate) type Share = u32;
 
-// A pair's share: what its first slot holds where `inside` is 1, else all or nothing. Who is inside comes as by chance, so nothing is chosen: the
-// difference is added, once or not at all.
-fn share(inside: u32, held: u32, whole: u32) -> Share
-    requires { inside ≤ 1 }
-    ensures { result ≡ (if nat_eq inside 1 then held else whole) }
+// A pair's share: what its first slot holds where both ends are in the core, else all or nothing.
+fn share(inside: bool, held: u32, whole: u32) -> Share
+    ensures { result ≡ (if inside then held else whole) }
 {
-    wrapping_add_u32(whole, inside * wrapping_sub_u32(held, whole))
+    if inside { held } else { whole }
 }
 
 // The load sheet, in the place of the pairs, which stand packed there: pairs inside the scope as their slots hold it, the others wholly with the end that
@@ -32,7 +28,6 @@ pub(crate) fn write_shares(
 )
     requires q_bound { q ≤ 512 }
     requires core_len { (length core.now ≡ n) × (length scope.now ≡ n) × (n ≤ length place.now) }
-    requires scope_value { bytes_good scope.now ≡ true }
     requires m_bound { (m ≤ 4096) × (2 * m ≤ length hold.now) × (m ≤ length shares.old) }
     requires unpacks { Unpacks n m shares.old }
     ensures { Written m q core.now scope.now place.now hold.now shares.old
@@ -42,7 +37,7 @@ pub(crate) fn write_shares(
     for j in 0..m {
         let pair = shares[j];
         let whole = forced(q, pair, place);
-        shares[j] = share(inner_byte(pair, scope), hold[2 * i], whole);
+        shares[j] = share(inner(pair, scope), hold[2 * i], whole);
         i = i + numbers::one_if(inner(pair, core));
     }
 }

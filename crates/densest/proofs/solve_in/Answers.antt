@@ -11,7 +11,6 @@ use Rattle.densest.proofs.Solving.{
   peelable_zeros,
   room_zeros,
   gathering_bounded,
-  gathering_scope,
   gathering_unpacks,
   solution_written,
 }
@@ -62,10 +61,6 @@ write_shares-requires-clause-core_len c =
       c.find_in_core-best.auto.scope ∙ c.requires.core_len.1,
       omega (arith, few, c.peel-start.auto.place),
     )
-
-pub write_shares-requires-clause-scope_value : goal.write_shares-requires-clause-scope_value
-write_shares-requires-clause-scope_value c =
-    gathering_scope _ _ _ _ (holds_held c.args.n c.args.m c.args.words.now c.requires.holds_list) _ _ _ _ _ _ _ c.find_in_core-best.ensures
 
 pub write_shares-requires-clause-m_bound : goal.write_shares-requires-clause-m_bound
 write_shares-requires-clause-m_bound c =
