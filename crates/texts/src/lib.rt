@@ -1,13 +1,15 @@
 // What the programs `group`, `sheet` and `audit` print, written into a lent buffer (document 01, end of "Lists tried by hand"); converted.rt has what
-// `from_dimacs` and `to_dimacs` print, neighbours.rt what `neighbours` prints.
+// `from_dimacs` and `to_dimacs` print, neighbours.rt what `neighbours` prints; reading.rt reads their input.
 //
 // A program reads its input, calls one of the public functions, and writes the first bytes of the buffer out, as many as the function answers.
 // A text is written once, from front to back, line by line, at the cost of its bytes. 8,192 bytes hold the text of any group, 140,000 that of any
 // sheet, 64 that of any audit or pair; a file is refused by its number on the status line. Of an input a caller lends the whole buffer, which has room for
 // every byte that decides (65,536 of a pair file, 140,000 of a sheet), and says how many bytes were read: the text is that of the whole file.
 #![tactic(auto)]
+
 mod converted;
 mod neighbours;
+mod reading;
 
 ghost use Rattle.std.specs.Prelude.{cond, [], ◌∷◌, ◌+◌, ◌*◌, ◌≤◌, ◌<◌, eqb, length};
 ghost use Rattle.theory.specs.Words.{laid_pairs};
@@ -22,6 +24,7 @@ use answer::{Answer, sheet_file, solve_file};
 pub use converted::{from_dimacs_text, to_dimacs_text};
 use lines::write_line;
 pub use neighbours::neighbours_text;
+pub use reading::read_full;
 
 // The status line of a refusal.
 pub(crate) fn write_refusal(number: u32, out: &mut [u8]) -> usize
