@@ -13,6 +13,7 @@ use pairs::{Place, count_number, delete, lookup, pair_number, raise};
 use records::Head;
 
 // How many records go out to words, or are looked at (place).
+#[tactic(auto, unfolding(crate::specs::Edits::records_out))]
 pub fn records_out(head: Head, agreed: bool) -> usize
     ensures { result ≡ records_out head agreed }
 {
@@ -33,6 +34,7 @@ fn refused(number: u32, head: Head) -> Edit
 }
 
 // The refusals that come first in add and remove, and are all that place has: 13, 5, 4.
+#[tactic(auto, unfolding(theory::specs::Refusals::cause, theory::specs::Refusals::refusal))]
 pub(crate) fn first_number(head: Head, agreed: bool, a: u32, b: u32) -> u32
     ensures { result ≡ refusal (place_causes (not agreed) head.n a b) }
 {
@@ -51,6 +53,7 @@ fn find(words: &[u32], m: usize, a: u32, b: u32) -> Place
 }
 
 // 11: M is 4,096 or the length of the list.
+#[tactic(auto, unfolding(crate::specs::Edits::is_full))]
 fn full(head: Head, len: usize) -> bool
     ensures { result ≡ is_full head len }
 {
@@ -75,6 +78,7 @@ fn count_there(words: &[u32], m: usize, place: Place, a: u32, b: u32) -> u32
 }
 
 // 19: the count of a held pair with w more passes 1,000; 11: no record is free for a new pair.
+#[tactic(auto, unfolding(theory::specs::Refusals::cause, theory::specs::Refusals::refusal))]
 fn room_number(head: Head, len: usize, held: bool, count: u32, w: u32) -> u32
     requires { (count ≤ 1000) × (w ≤ 1000) }
     ensures { result ≡ refusal (cause 19 (ltb 1000 (count + w)) ∷ cause 11 (not held && is_full head len) ∷ []) }

@@ -23,6 +23,7 @@ fn found_at(held: u32, at: usize) -> Placed
 }
 
 // Refuses by 13, 5, 4.
+#[tactic(auto, unfolding(crate::specs::Edits::placed_of, theory::specs::Refusals::if_taken, theory::specs::Basics::mark))]
 pub fn place_answer(head: Head, agreed: bool, a: u32, b: u32, place: Place) -> Placed
     requires { place.at ≤ 4096 }
     ensures { result ≡ placed_of (refusal (place_causes (not agreed) head.n a b)) place.held place.at }
