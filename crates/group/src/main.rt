@@ -2,12 +2,13 @@
 // the core of that order; and the members, rising. A refused file has the first line only. A file is decided by its first
 // 65,536 bytes (pairfile, reads-first). What is printed is proved (texts, group_text), and that the buffer has room for as many.
 #![tactic(auto)]
-use libc::{STDIN_FILENO, STDOUT_FILENO};
 
-fn main() {
+use std::io;
+
+fn main(rt: HostRuntime) -> io::Result<()> {
     let mut file = [0u8; 65536];
     let mut out = [0u8; 8192];
-    let n = io::read_full(STDIN_FILENO, &mut file);
+    let n = texts::read_full(&mut rt.stdin(), &mut file)?;
     let r = texts::group_text(&file, n, &mut out);
-    io::write_all(STDOUT_FILENO, &out[..r]);
+    rt.write_all(&out[..r])
 }
