@@ -3,12 +3,13 @@
 // A refused file has the first line only. The program `audit` answers whether a sheet is the best there is; what is printed here it accepts
 // (texts, sheet_text).
 #![tactic(auto)]
-use libc::{STDIN_FILENO, STDOUT_FILENO};
 
-fn main() {
+use std::io;
+
+fn main(rt: HostRuntime) -> io::Result<()> {
     let mut file = [0u8; 65536];
     let mut out = [0u8; 140000];
-    let n = io::read_full(STDIN_FILENO, &mut file);
+    let n = texts::read_full(&mut rt.stdin(), &mut file)?;
     let r = texts::sheet_text(&file, n, &mut out);
-    io::write_all(STDOUT_FILENO, &out[..r]);
+    rt.write_all(&out[..r])
 }
