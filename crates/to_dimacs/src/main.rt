@@ -3,12 +3,13 @@
 // file is decided by its first 65,536 bytes (pairfile, reads-first). What is printed is proved (texts, to_dimacs_text), and that the reader of DIMACS files
 // reads it as the same pairs, each with the count 1.
 #![tactic(auto)]
-use libc::{STDIN_FILENO, STDOUT_FILENO};
 
-fn main() {
+use std::io;
+
+fn main(rt: HostRuntime) -> io::Result<()> {
     let mut file = [0u8; 65536];
     let mut out = [0u8; 65536];
-    let n = io::read_full(STDIN_FILENO, &mut file);
+    let n = texts::read_full(&mut rt.stdin(), &mut file)?;
     let r = texts::to_dimacs_text(&file, n, &mut out);
-    io::write_all(STDOUT_FILENO, &out[..r]);
+    rt.write_all(&out[..r])
 }
