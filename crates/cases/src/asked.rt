@@ -2,7 +2,7 @@
 ghost use Rattle.std.specs.Prelude.{◌≤◌, length};
 ghost use Rattle.texts.specs.Printed.{Input};
 
-use crate::files::read_open;
+use crate::files::{open_named, read_open};
 use crate::text::{Given, after, find, no_file, put, put_text};
 use texts::neighbours_text;
 
@@ -24,18 +24,18 @@ fn put_printed(text: &mut [u8], file: &[u8], n: usize, first: &[u8], second: &[u
 }
 
 // A pair file that is there under its name, and behind it two arguments.
-pub(crate) fn try_asked(line: &[u8], text: &mut [u8]) -> Given {
+pub(crate) fn try_asked(rt: &HostRuntime, line: &[u8], text: &mut [u8]) -> Given {
     let mut file = io::large_buffer();
     let name = find(line, 0, b' ');
     let a = after_within(line, name);
     let first = find(line, a, b' ');
     let b = after_within(line, first);
     let second = find(line, b, b' ');
-    let fd = os::open_read(&line[0..name]);
-    if fd < 0 {
+    let opened = open_named(rt, &line[0..name]);
+    if opened.is_none() {
         return no_file(text, after(second));
     }
-    let n = read_open(fd, &mut file);
+    let n = read_open(opened, &mut file);
     Given {
         due: after(second),
         end: put_printed(text, &file, n, &line[a..first], &line[b..second]),

@@ -113,11 +113,11 @@ fn put_audit(text: &mut [u8], file: &[u8], sheet: &mut [u8], alters: bool) -> us
 }
 
 // A sheet beside a pair file, both whole.
-pub(crate) fn try_audit(line: &[u8], text: &mut [u8], alters: bool) -> Given {
+pub(crate) fn try_audit(rt: &HostRuntime, line: &[u8], text: &mut [u8], alters: bool) -> Given {
     let mut file = io::large_buffer();
     let mut sheet = io::large_buffer();
-    let opened = open_both(line);
-    if opened.first < 0 || opened.second < 0 {
+    let opened = open_both(rt, line);
+    if opened.first.is_none() || opened.second.is_none() {
         return no_file(text, opened.rest);
     }
     let n = read_open(opened.first, &mut file);
@@ -155,11 +155,11 @@ fn put_within(
 }
 
 // A sheet beside a pair file, each as far as its buffer holds it.
-pub(crate) fn try_limits(line: &[u8], text: &mut [u8]) -> Given {
+pub(crate) fn try_limits(rt: &HostRuntime, line: &[u8], text: &mut [u8]) -> Given {
     let mut file = [0u8; 65537];
     let mut sheet = [0u8; 140001];
-    let opened = open_both(line);
-    if opened.first < 0 || opened.second < 0 {
+    let opened = open_both(rt, line);
+    if opened.first.is_none() || opened.second.is_none() {
         return no_file(text, opened.rest);
     }
     let n = number_at(line, opened.rest);

@@ -1,7 +1,7 @@
 // DIMACS files that are read by name: the number, or the list in words.
 ghost use Rattle.std.specs.Prelude.{◌≤◌, length};
 
-use crate::files::read_open;
+use crate::files::{open_named, read_open};
 use crate::text::{Given, after, find, no_file, number_at, put_number, put_two};
 use dimacs::read_words;
 use pairfile::Reading;
@@ -59,16 +59,16 @@ fn put_list(text: &mut [u8], bytes: &[u8], room: usize) -> usize {
 }
 
 // The file whose name begins at `from`.
-fn try_named(line: &[u8], from: usize, room: usize, text: &mut [u8]) -> Given
+fn try_named(rt: &HostRuntime, line: &[u8], from: usize, room: usize, text: &mut [u8]) -> Given
     requires { from ≤ length line.now }
 {
     let mut file = io::large_buffer();
     let space = find(line, from, b' ');
-    let fd = os::open_read(&line[from..space]);
-    if fd < 0 {
+    let opened = open_named(rt, &line[from..space]);
+    if opened.is_none() {
         return no_file(text, after(space));
     }
-    let n = read_open(fd, &mut file);
+    let n = read_open(opened, &mut file);
     Given {
         due: after(space),
         end: put_list(text, &file[..n], room),
@@ -76,15 +76,15 @@ fn try_named(line: &[u8], from: usize, room: usize, text: &mut [u8]) -> Given
 }
 
 // A DIMACS file, read with room for 4,096 records.
-pub(crate) fn try_edges(line: &[u8], text: &mut [u8]) -> Given {
-    try_named(line, 0, 4096, text)
+pub(crate) fn try_edges(rt: &HostRuntime, line: &[u8], text: &mut [u8]) -> Given {
+    try_named(rt, line, 0, 4096, text)
 }
 
 // A DIMACS file behind the number of records that there is room for.
-pub(crate) fn try_room(line: &[u8], text: &mut [u8]) -> Given {
+pub(crate) fn try_room(rt: &HostRuntime, line: &[u8], text: &mut [u8]) -> Given {
     let room = number_at(line, 0);
     if line.len() < room.next {
         return no_file(text, line.len());
     }
-    try_named(line, room.next, room.value as usize, text)
+    try_named(rt, line, room.next, room.value as usize, text)
 }

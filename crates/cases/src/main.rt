@@ -42,6 +42,7 @@
 //
 // A line is printed for each list of cases, and one for each case that did not come out as due.
 #![tactic(auto)]
+
 mod asked;
 mod audited;
 mod edges;
@@ -54,8 +55,7 @@ mod written;
 use asked::try_asked;
 use audited::{try_audit, try_limits};
 use edges::{try_edges, try_room};
-use files::read_open;
-use libc::STDOUT_FILENO;
+use files::{open_named, read_open};
 use made::try_made;
 use solved::{try_file, try_large};
 use text::{Given, find, one_more, same};
@@ -85,18 +85,18 @@ struct Tally {
 }
 
 // Tries what a line names, and puts the answer into the text.
-fn try_case(kind: Kind, line: &[u8], text: &mut [u8]) -> Given {
+fn try_case(rt: &HostRuntime, kind: Kind, line: &[u8], text: &mut [u8]) -> Given {
     match kind {
-        Kind::Files => try_file(line, text),
+        Kind::Files => try_file(rt, line, text),
         Kind::Large => try_large(line, text),
-        Kind::Audited => try_audit(line, text, false),
-        Kind::Bytes => try_audit(line, text, true),
-        Kind::Limits => try_limits(line, text),
-        Kind::Asked => try_asked(line, text),
-        Kind::Edges => try_edges(line, text),
-        Kind::Rooms => try_room(line, text),
+        Kind::Audited => try_audit(rt, line, text, false),
+        Kind::Bytes => try_audit(rt, line, text, true),
+        Kind::Limits => try_limits(rt, line, text),
+        Kind::Asked => try_asked(rt, line, text),
+        Kind::Edges => try_edges(rt, line, text),
+        Kind::Rooms => try_room(rt, line, text),
         Kind::Made => try_made(line, text),
-        Kind::Written => try_written(line, text),
+        Kind::Written => try_written(rt, line, text),
         Kind::Full => try_full(line, text),
     }
 }
@@ -106,21 +106,21 @@ fn print_first(bytes: &[u8], n: usize) {
     if bytes.len() < n {
         return;
     }
-    io::write_all(STDOUT_FILENO, &bytes[0..n]);
+    io::write_all(1, &bytes[0..n]);
 }
 
 // A case that did not come out as due: its line, and the answer given.
 fn print_bad(line: &[u8], text: &[u8], end: usize) {
-    io::write_all(STDOUT_FILENO, line);
-    io::write_all(STDOUT_FILENO, b": not as due, but");
+    io::write_all(1, line);
+    io::write_all(1, b": not as due, but");
     print_first(text, end);
-    io::write_all(STDOUT_FILENO, b"\n");
+    io::write_all(1, b"\n");
 }
 
 // One case more.
-fn try_line(tally: Tally, kind: Kind, line: &[u8]) -> Tally {
+fn try_line(rt: &HostRuntime, tally: Tally, kind: Kind, line: &[u8]) -> Tally {
     let mut text = [0u8; 128];
-    let answer = try_case(kind, line, &mut text);
+    let answer = try_case(rt, kind, line, &mut text);
     if same(line, answer.due, &text, answer.end) {
         return Tally {
             good: one_more(tally.good),
@@ -135,41 +135,41 @@ fn try_line(tally: Tally, kind: Kind, line: &[u8]) -> Tally {
 }
 
 // The cases of a list.
-fn try_lines(kind: Kind, list: &[u8]) -> Tally {
+fn try_lines(rt: &HostRuntime, kind: Kind, list: &[u8]) -> Tally {
     let mut tally = Tally { good: 0, bad: 0 };
     let mut at = 0;
     while at < list.len() {
         let end = find(list, at, b'\n');
-        tally = try_line(tally, kind, &list[at..end]);
+        tally = try_line(rt, tally, kind, &list[at..end]);
         at = end + 1;
     }
     tally
 }
 
 // The list of that name, and how many of its cases came out as due.
-fn try_list(kind: Kind, name: &[u8]) {
+fn try_list(rt: &HostRuntime, kind: Kind, name: &[u8]) {
     let mut list = io::large_buffer();
-    let n = read_open(os::open_read(name), &mut list);
-    let tally = try_lines(kind, &list[..n]);
-    io::write_all(STDOUT_FILENO, name);
-    io::write_all(STDOUT_FILENO, b": as due=");
-    io::print_decimal(STDOUT_FILENO, tally.good as u64);
-    io::write_all(STDOUT_FILENO, b" not=");
-    io::print_decimal(STDOUT_FILENO, tally.bad as u64);
-    io::write_all(STDOUT_FILENO, b"\n");
+    let n = read_open(open_named(rt, name), &mut list);
+    let tally = try_lines(rt, kind, &list[..n]);
+    io::write_all(1, name);
+    io::write_all(1, b": as due=");
+    io::print_decimal(1, tally.good as u64);
+    io::write_all(1, b" not=");
+    io::print_decimal(1, tally.bad as u64);
+    io::write_all(1, b"\n");
 }
 
 // All lists.
-fn main() {
-    try_list(Kind::Files, b"files");
-    try_list(Kind::Large, b"large");
-    try_list(Kind::Audited, b"audited");
-    try_list(Kind::Bytes, b"bytes");
-    try_list(Kind::Limits, b"limits");
-    try_list(Kind::Asked, b"neighbours");
-    try_list(Kind::Edges, b"dimacs/files");
-    try_list(Kind::Rooms, b"dimacs/rooms");
-    try_list(Kind::Made, b"dimacs/made");
-    try_list(Kind::Written, b"dimacs/written");
-    try_list(Kind::Full, b"dimacs/full");
+fn main(rt: HostRuntime) {
+    try_list(&rt, Kind::Files, b"files");
+    try_list(&rt, Kind::Large, b"large");
+    try_list(&rt, Kind::Audited, b"audited");
+    try_list(&rt, Kind::Bytes, b"bytes");
+    try_list(&rt, Kind::Limits, b"limits");
+    try_list(&rt, Kind::Asked, b"neighbours");
+    try_list(&rt, Kind::Edges, b"dimacs/files");
+    try_list(&rt, Kind::Rooms, b"dimacs/rooms");
+    try_list(&rt, Kind::Made, b"dimacs/made");
+    try_list(&rt, Kind::Written, b"dimacs/written");
+    try_list(&rt, Kind::Full, b"dimacs/full");
 }

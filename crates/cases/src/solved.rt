@@ -1,5 +1,5 @@
 // Pair files that are read and solved: by name, and made here.
-use crate::files::read_open;
+use crate::files::{open_named, read_open};
 use crate::text::{
     Given, after, byte_at, find, no_file, number_at, one_more, put, put_decimal, put_number,
     put_text, put_two,
@@ -74,14 +74,14 @@ fn put_run(text: &mut [u8], at: usize, byte: u8, count: u32) -> usize {
 // ---- by name
 
 // A pair file that is there under its name.
-pub(crate) fn try_file(line: &[u8], text: &mut [u8]) -> Given {
+pub(crate) fn try_file(rt: &HostRuntime, line: &[u8], text: &mut [u8]) -> Given {
     let mut file = io::large_buffer();
     let space = find(line, 0, b' ');
-    let fd = os::open_read(&line[0..space]);
-    if fd < 0 {
+    let opened = open_named(rt, &line[0..space]);
+    if opened.is_none() {
         return no_file(text, after(space));
     }
-    let n = read_open(fd, &mut file);
+    let n = read_open(opened, &mut file);
     Given {
         due: after(space),
         end: put_solved(text, &file[..n]),

@@ -74,11 +74,11 @@ fn put_written(text: &mut [u8], pairs: &[u8], file: &[u8]) -> usize {
 // ---- by name
 
 // A pair file, and the DIMACS file of its list.
-pub(crate) fn try_written(line: &[u8], text: &mut [u8]) -> Given {
+pub(crate) fn try_written(rt: &HostRuntime, line: &[u8], text: &mut [u8]) -> Given {
     let mut pairs = io::large_buffer();
     let mut file = io::large_buffer();
-    let opened = open_both(line);
-    if opened.first < 0 || opened.second < 0 {
+    let opened = open_both(rt, line);
+    if opened.first.is_none() || opened.second.is_none() {
         return no_file(text, opened.rest);
     }
     let n = read_open(opened.first, &mut pairs);
