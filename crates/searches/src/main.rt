@@ -14,6 +14,7 @@
 // Then check and surplus (module `verdicts`): sheets of solve changed in one place each; every sheet of small lists, good and bad; the surplus of every
 // two sets of bytes of small lists, and of large groups around equal ratios. A line has how often check or surplus gave each answer.
 #![tactic(auto)]
+
 mod altered;
 mod calls;
 mod checks;
