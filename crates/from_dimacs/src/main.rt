@@ -3,22 +3,23 @@
 // whatever it holds: the buffer has room for one byte more. What is printed is proved (texts, from_dimacs_text), and that the pair file's reader reads it as
 // the same list.
 #![tactic(auto)]
+
 ghost use Rattle.std.specs.Prelude.{◌≤◌, length};
 
-use libc::{STDIN_FILENO, STDOUT_FILENO};
+use std::io;
 
 // Standard input read into one buffer, and the text of it printed from the other.
-fn run(file: &mut [u8], out: &mut [u8])
+fn run(rt: &HostRuntime, file: &mut [u8], out: &mut [u8]) -> io::Result<()>
     requires in_bounds { 1048577 ≤ length file.old }
     requires in_bounds_2 { 65536 ≤ length out.old }
 {
-    let n = io::read_full(STDIN_FILENO, file);
+    let n = texts::read_full(&mut rt.stdin(), file)?;
     let r = texts::from_dimacs_text(file, n, out);
-    io::write_all(STDOUT_FILENO, &out[..r]);
+    rt.write_all(&out[..r])
 }
 
-fn main() {
+fn main(rt: HostRuntime) -> io::Result<()> {
     let mut file = [0u8; 1048577];
     let mut out = [0u8; 65536];
-    run(&mut file, &mut out);
+    run(&rt, &mut file, &mut out)
 }
