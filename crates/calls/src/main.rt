@@ -4,6 +4,7 @@
 // Each line has the call, what is altered, the number that documents 01 and 02 give it and the number that the call gave; then what it answered
 // and what it left of the lent buffers: of those of 8 entries all, each 9 before, and of the work buffer how many words are 0 and how many are 7 as before.
 #![tactic(auto)]
+
 mod checks;
 mod lent;
 mod lists;
