@@ -3,7 +3,7 @@
 ghost use Rattle.std.specs.Prelude.{◌<◌, ◌≤◌, length};
 ghost use Rattle.records.specs.Records.{FitsRecords};
 
-use kandurzo::{Changed, Solved, Written, add, check, peel, solve, surplus, write_dimacs};
+use kandurzo::{Changed, Solved, Written, add, check, kandurzo_peel, solve, surplus, write_dimacs};
 use records::{Head, Pair, copy_in, copy_out};
 use verify::{Difference, Verdict};
 
@@ -54,7 +54,7 @@ pub(crate) fn peel_4096(
     let mut list = [Pair { a: 0, b: 0, w: 0 }; 4096];
     let k = held(words, 4096);
     copy_in(&mut list, words, k);
-    let answer = peel(head, &list, order, cores, work);
+    let answer = kandurzo_peel(head, &list, order, cores, work);
     copy_out(&list, words, k);
     answer
 }
