@@ -1,5 +1,6 @@
 // The public calls for C: each is the call of crate `kandurzo` of the same name, with its clauses. A static library, which C and Rust link.
 #![tactic(auto)]
+
 ghost use Rattle.std.specs.Prelude.{◌≡◌};
 ghost use Rattle.pairfile.specs.File.{read_file};
 ghost use Rattle.dimacs.specs.Edges.{read_dimacs};
