@@ -1,7 +1,7 @@
 // Where the pair of two modules stands in the list that a pair file names, or would stand: `neighbours FILE A B`. Prints whether the pair is held, its place,
 // counted from 0, and the records before and after it; or the refusal number alone. The modules may come in either order; one that is no number, or is
 // missing, is refused by 110. A file that cannot be opened or read, a folder say, or whose name is not UTF-8, has no bytes, and standard error says why. A
-// pair file is decided by its first 65,536 bytes (pairfile, reads-first). What is printed is proved (texts, neighbours_text), and that the records are the
+// pair file is decided by its first 65,536 bytes (pairfile, reads_first). What is printed is proved (texts, neighbours_text), and that the records are the
 // nearest on either side.
 #![tactic(auto)]
 
