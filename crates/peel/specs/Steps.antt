@@ -1,5 +1,5 @@
 -- What the functions under `peel` take and leave; only this crate cites it.
---   by_row, by_chain, both-ways    what joins two modules, along a module's row and its chain
+--   by_row, by_chain, both_ways    what joins two modules, along a module's row and its chain
 --   Degrees, RankingOf            degrees at first; the ranking holds the modules present, each with its degree
 --   LowerableBy, LoweredBy       before and after the pairs of a leaver are taken from its neighbours
 --   LeaversWritten                the leaving order and the final degrees: those at leaving

@@ -74,19 +74,15 @@ fn even(n: usize, p: u32, scope: &[u8], load: &[u32]) -> bool
     true
 }
 
-// Whether loads have much above p, in all: more than a sixteenth of p, or a thirty-second where there are fewer than three pairs for two modules, since
-// units go far there. It only guides: a sum that does not fit wraps.
-fn uneven(n: usize, m: usize, p: u32, load: &[u32]) -> bool
-    requires { (n ≤ 512) × (m ≤ 4096) × (n ≤ length load.now) }
+// What loads have above p, in all. It only guides: a sum that does not fit wraps.
+fn excess(n: usize, p: u32, load: &[u32]) -> u32
+    requires { n ≤ length load.now }
 {
     let mut sum = 0;
     for v in 0..n {
         sum = wrapping_add_u32(sum, numbers::greater(load[v], p) - p);
     }
-    if 2 * m < 3 * n {
-        return p / 32 < sum;
-    }
-    p / 16 < sum
+    sum
 }
 
 // Arcs of the first `shown` pairs, unless they are laid or every module of the scope is loaded p; and where a split in halves has much above p, the leavers'
@@ -127,7 +123,7 @@ fn prepare(
     if !halves {
         return true;
     }
-    if !uneven(n, m, p, load) {
+    if excess(n, p, load) <= p / 32 {
         return true;
     }
     push::leavers(n, m, p, order, place, ends, starts, arcs, hold, load);

@@ -1,4 +1,4 @@
--- `chains::search::search` meets its contract. The measures: the modules not yet looked at and those not reached; the arcs left. Assumes nothing.
+-- `chains::search::search` meets its contract. Assumes nothing.
 use Rattle.std.proofs.Common.{◌≡◌, ℕ, ◌*◌, ◌<◌, ◌≤◌, ◌≢◌, true, List, length, refl, ◌∙◌, le_trans, le_of_eq, lt_of_lt_of_le, lt_of_le_of_lt, arith, length-set}
 use Rattle.chains.specs.Search.{leads, Exit}
 use Rattle.chains.proofs.Bounds.{le_at, le_on, less_reached}

@@ -1,4 +1,5 @@
--- `chains::search::search`: the modules reached so far are a search tree, none of them loaded below p.
+-- `chains::search::search`: the modules reached so far are a search tree, none of them loaded below p. The measures: the
+-- modules not yet looked at and those not reached; the arcs left.
 use Rattle.std.proofs.Common.{◌≡◌, ◌+◌, ◌-◌, ◌*◌, ◌≤◌, length}
 use Rattle.chains.proofs.Visiting.{SearchInput, Scan}
 use Rattle.chains.proofs.search.search.Given as goal

@@ -1,4 +1,4 @@
--- What the loop of `densest::gather::keep_at_least` keeps: the numbers passed are pair-stored.
+-- What the loop of `densest::gather::keep_at_least` keeps: of the numbers passed those of k or more are kept, and the others are 0.
 use Rattle.std.proofs.Common.{◌≡◌, ℕ, ◌<◌, ◌≤◌, cond, leb, length, get_or}
 use Rattle.densest.proofs.gather.keep_at_least.Given as goal
 
