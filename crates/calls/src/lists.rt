@@ -1,8 +1,20 @@
-// The lists that are lent, in words.
-ghost use Rattle.std.specs.Prelude.{◌≤◌};
+// The lists that are lent.
+use model::{after, below, front};
+use records::{Head, Pair};
 
-use crate::{lent, words};
-use records::Head;
+// A head and its 4,096 records.
+#[derive(Clone, Copy)]
+pub(crate) struct Lent {
+    pub(crate) head: Head,
+    pub(crate) list: [Pair; 4096],
+}
+
+impl Lent {
+    // The records that are held.
+    pub(crate) fn pairs(&self) -> &[Pair] {
+        front(&self.list, self.head.m as usize)
+    }
+}
 
 // What is altered of a list of 5 modules whose last record is 3,4 with the count 1: the head's N, how many more pairs than there are the head's M says, that
 // record, and the count of the record past it.
@@ -10,73 +22,81 @@ use records::Head;
 pub(crate) struct Damage {
     pub(crate) n: u32,
     pub(crate) more: u32,
-    pub(crate) first: u32,
-    pub(crate) second: u32,
-    pub(crate) count: u32,
-    pub(crate) past: u32,
+    pub(crate) last: Pair,
+    pub(crate) past: u16,
 }
 
 // Nothing is.
-pub(crate) fn none() -> Damage {
+pub(crate) const NONE: Damage = Damage {
+    n: 5,
+    more: 0,
+    last: Pair { a: 3, b: 4, w: 1 },
+    past: 0,
+};
+
+// The last record has this count.
+pub(crate) fn counted(w: u16) -> Damage {
     Damage {
-        n: 5,
-        more: 0,
-        first: 3,
-        second: 4,
-        count: 1,
-        past: 0,
+        last: Pair { w, ..NONE.last },
+        ..NONE
     }
 }
 
-// The last record as it is altered, and the count of the one past it.
-fn put_last(damage: Damage, j: usize, words: &mut [u32]) {
-    words::put_record(words, j, damage.first, damage.second, damage.count);
-    words::put_count(words, words::plus(j, 1), damage.past);
+// The pairs of the small lists, without their last one: a cycle of 5 modules; the list *tail* of document 01, which has all six pairs of 0 to 3, and 3,4; two
+// triangles, of 0 to 2 and of 3 to 5.
+const CYCLE: [(u16, u16); 4] = [(0, 1), (0, 4), (1, 2), (2, 3)];
+
+const TAIL: [(u16, u16); 6] = [(0, 1), (0, 2), (0, 3), (1, 2), (1, 3), (2, 3)];
+
+const TRIANGLES: [(u16, u16); 6] = [(0, 1), (0, 2), (1, 2), (3, 4), (3, 5), (4, 5)];
+
+// A list of this head whose first records are these.
+pub(crate) fn of_records(head: Head, records: &[Pair]) -> Lent {
+    let mut list = [Pair::default(); 4096];
+    for (place, &record) in list.iter_mut().zip(records.iter()) {
+        *place = record;
+    }
+    Lent { head, list }
 }
 
-// A cycle of 5 modules: 5 pairs.
-pub(crate) fn cycle(damage: Damage, words: &mut [u32]) {
-    words::put_record(words, 0, 0, 1, 1);
-    words::put_record(words, 1, 0, 4, 1);
-    words::put_record(words, 2, 1, 2, 1);
-    words::put_record(words, 3, 2, 3, 1);
-    put_last(damage, 4, words);
+// A list of this head whose first pairs are these, each once, and then two records.
+fn of_pairs(head: Head, pairs: &[(u16, u16)], last: Pair, past: Pair) -> Lent {
+    let mut list = [Pair::default(); 4096];
+    let records = pairs.iter().map(|&(a, b)| Pair { a, b, w: 1 });
+    for (place, record) in list.iter_mut().zip(records.chain([last, past])) {
+        *place = record;
+    }
+    Lent { head, list }
 }
 
-// The list *tail* of document 01: all six pairs of 0 to 3, and 3,4.
-pub(crate) fn tail(damage: Damage, words: &mut [u32]) {
-    words::put_record(words, 0, 0, 1, 1);
-    words::put_record(words, 1, 0, 2, 1);
-    words::put_record(words, 2, 0, 3, 1);
-    words::put_record(words, 3, 1, 2, 1);
-    words::put_record(words, 4, 1, 3, 1);
-    words::put_record(words, 5, 2, 3, 1);
-    put_last(damage, 6, words);
-}
-
-// Two triangles, of 0 to 2 and of 3 to 5: 6 pairs.
-pub(crate) fn triangles(words: &mut [u32]) {
-    words::put_record(words, 0, 0, 1, 1);
-    words::put_record(words, 1, 0, 2, 1);
-    words::put_record(words, 2, 1, 2, 1);
-    words::put_record(words, 3, 3, 4, 1);
-    words::put_record(words, 4, 3, 5, 1);
-    words::put_record(words, 5, 4, 5, 1);
-}
-
-// The head of a list of m pairs that is altered so.
-pub(crate) fn head(damage: Damage, m: u32) -> Head {
-    Head {
+// A list of these pairs and the last one, which is altered.
+fn altered(damage: Damage, m: u32, pairs: &[(u16, u16)]) -> Lent {
+    let head = Head {
         n: damage.n,
-        m: std::num::wrapping_add_u32(m, damage.more),
-    }
+        m: damage.more.saturating_add(m),
+    };
+    let past = Pair {
+        a: 0,
+        b: 0,
+        w: damage.past,
+    };
+    of_pairs(head, pairs, damage.last, past)
 }
 
-// The smaller of the two.
-pub(crate) fn at_most(len: usize, k: usize) -> usize
-    ensures { result ≤ len }
-{
-    if k < len { k } else { len }
+// The cycle: 5 pairs.
+pub(crate) fn cycle(damage: Damage) -> Lent {
+    altered(damage, 5, &CYCLE)
+}
+
+// The list *tail*: 7 pairs.
+pub(crate) fn tail(damage: Damage) -> Lent {
+    altered(damage, 7, &TAIL)
+}
+
+// The first m pairs of the two triangles, with n modules.
+pub(crate) fn triangles(n: u32, m: u32) -> Lent {
+    let none = Pair::default();
+    of_pairs(Head { n, m }, &TRIANGLES, none, none)
 }
 
 // ---- lists of 512 modules
@@ -90,94 +110,58 @@ pub(crate) enum Kind {
     Wider,
 }
 
-// Their counts: each drawn, 1 to `top`, or all of them `top`.
+// Their counts: all of them this one, or each drawn, from 1 to this one.
 #[derive(Clone, Copy)]
-pub(crate) struct Counts {
-    pub(crate) top: u32,
-    pub(crate) drawn: bool,
+pub(crate) enum Counts {
+    All(u32),
+    Upto(u32),
 }
 
-// Two modules.
-#[derive(Clone, Copy)]
-struct Two {
-    a: u32,
-    b: u32,
+// What is drawn for i.
+fn drawn(i: u32) -> u32 {
+    after(after(i.wrapping_add(1)))
 }
 
 // Pair i of such a list: some come twice, or are of one module.
-fn pair(kind: Kind, i: u32) -> Two {
-    let state = words::next(words::next(std::num::wrapping_add_u32(i, 1)));
-    let step = std::num::wrapping_add_u32(std::num::wrapping_add_u32(i, 1), i / 512);
+fn pair(kind: Kind, i: u32) -> (u32, u32) {
     match kind {
-        Kind::Chance => Two {
-            a: state / 65536 % 512,
-            b: words::next(state) / 65536 % 512,
-        },
-        Kind::Circle => Two {
-            a: i % 512,
-            b: step % 512,
-        },
-        Kind::Clique => Two {
-            a: i % 64,
-            b: i / 64,
-        },
-        Kind::Wider => Two {
-            a: 422 + i % 90,
-            b: std::num::wrapping_add_u32(422, i / 90),
-        },
+        Kind::Chance => {
+            let state = drawn(i);
+            (below(state, 512), below(after(state), 512))
+        }
+        Kind::Circle => {
+            let next = i.wrapping_add(1).wrapping_add(i / 512);
+            (i % 512, next % 512)
+        }
+        Kind::Clique => (i % 64, i / 64),
+        Kind::Wider => (422 + i % 90, (i / 90).wrapping_add(422)),
     }
-}
-
-// Adds pair i to the list, where add takes it; the head then.
-fn add_pair(kind: Kind, i: u32, head: Head, words: &mut [u32]) -> Head {
-    let ends = pair(kind, i);
-    let answer = lent::add_4096(words, head, ends.a, ends.b, 1);
-    answer.head
-}
-
-// The head of a list to which so many of them are added; those that came twice count twice.
-fn add_pairs(kind: Kind, many: u32, words: &mut [u32]) -> Head {
-    let mut head = Head { n: 512, m: 0 };
-    let mut i = 0;
-    while i < many {
-        head = add_pair(kind, i, head, words);
-        i += 1;
-    }
-    head
 }
 
 // The count of record j.
-fn count(counts: Counts, j: u32) -> u32 {
-    if !counts.drawn {
-        return counts.top;
-    }
-    if counts.top == 0 {
-        return 0;
-    }
-    let state = words::next(words::next(std::num::wrapping_add_u32(j, 1)));
-    std::num::wrapping_add_u32(state / 65536 % counts.top, 1)
+fn count(counts: Counts, j: u32) -> u16 {
+    let w = match counts {
+        Counts::All(w) => w,
+        Counts::Upto(top) => below(drawn(j), top).saturating_add(1),
+    };
+    u16::try_from(w).unwrap_or(u16::MAX)
 }
 
-// Writes the counts of the first m records.
-fn put_counts(counts: Counts, m: u32, words: &mut [u32]) {
-    let mut j = 0;
-    while j < m {
-        words::put_count(words, j as usize, count(counts, j));
-        j += 1;
+// Writes the counts of the records held.
+fn put_counts(lent: &mut Lent, counts: Counts) {
+    let m = lent.head.m;
+    for (j, record) in (0..m).zip(lent.list.iter_mut()) {
+        record.w = count(counts, j);
     }
 }
 
-// A list of 512 modules to which so many pairs are added, with these counts; its head.
-pub(crate) fn large(kind: Kind, many: u32, counts: Counts, words: &mut [u32]) -> Head {
-    let head = add_pairs(kind, many, words);
-    put_counts(counts, head.m, words);
-    head
-}
-
-// Each count is 1.
-pub(crate) fn ones() -> Counts {
-    Counts {
-        top: 1,
-        drawn: false,
+// A list of 512 modules to which so many pairs are added, where add takes them, with these counts; those that come twice are one.
+pub(crate) fn large(kind: Kind, many: u32, counts: Counts) -> Lent {
+    let mut lent = of_records(Head { n: 512, m: 0 }, &[]);
+    for i in 0..many {
+        let (a, b) = pair(kind, i);
+        lent.head = kandurzo::add(lent.head, &mut lent.list, a, b, 1).head;
     }
+    put_counts(&mut lent, counts);
+    lent
 }

@@ -1,7 +1,7 @@
 -- The steps of this crate's loops. Crate `flow` needs what is known of slots that lead out, and of how many numbers are 0.
-mod Bounds
 pub mod Leads
 pub mod Zeros
+mod Ranking
 mod Visiting
 mod Excess
 mod Pulling

@@ -25,7 +25,7 @@ use Rattle.on_words.specs.Solving.{Handed}
 use Rattle.on_words.proofs.Peels.{cores_in_front}
 
 module _ (g : Pairs) (members cores shares members' cores' shares' : List ℕ) (r : Solution) (s : Solves g members cores shares members' cores' shares' r) where
-  pub some_modules : 1 ≤ r.q
+  pub some_modules : 1 ≤ r.ratio.q
   unfolding is_split
   some_modules = (simp tests at s.solved.optimal.is_a_split).0
 
@@ -39,7 +39,7 @@ module _ (g : Pairs) (held : is_list g ≡ true) (members cores shares members' 
       sym (take-append-drop g.n members') ∙ rw (same, s.members_rest, found_length g held)
 
   abbrev record_of : Solved
-  record_of = record { number = 0; p = r.p; q = r.q; k = r.k; coresize = r.core; ratio = float_ratio r.p r.q }
+  record_of = record { number = 0; p = r.ratio.p; q = r.ratio.q; k = r.k; coresize = r.core; ratio = float_ratio r.ratio.p r.ratio.q }
 
   pub handed : Handed g members cores shares record_of members' cores' shares'
   handed =

@@ -3,12 +3,15 @@ use Rattle.slots.proofs.Moves.{kept_loads}
 use Rattle.flow.proofs.Cutting.{flowed_good, flowed_bad}
 use Rattle.flow.proofs.flow.Goals as goal
 
-pub returns-then-split : goal.returns-then-split
-returns-then-split c = λ own l.
-    let e = c.settle-split.ensures in
-    flowed_good c.requires.ends e.kept (kept_loads e.kept l) c.mark.ensures c.if-split.true (e.good c.if-split.true) c.drain.ensures
+pub returns-then-split-clause-flowed : goal.returns-then-split-clause-flowed
+returns-then-split-clause-flowed c = λ own l.
+    let e = c.settle-split.ensures.settled in
+    let so = c.if-split.true in
+    flowed_good c.args.units.now.graph.pairs e.kept (kept_loads e.kept l) (rw c.requires.scope_len.1 at c.mark.ensures) so (e.good so)
+    (rw c.settle-split.ensures.same.graph at c.drain.ensures)
 
-pub returns : goal.returns
-returns c = λ own l.
-    let e = c.settle-split.ensures in
-    flowed_bad c.requires.ends e.kept (kept_loads e.kept l) c.mark-2.ensures c.if-split.false (e.bad c.if-split.false)
+pub returns-else-split-clause-flowed : goal.returns-else-split-clause-flowed
+returns-else-split-clause-flowed c = λ own l.
+    let e = c.settle-split.ensures.settled in
+    let so = c.if-split.false in
+    flowed_bad c.args.units.now.graph.pairs e.kept (kept_loads e.kept l) (rw c.requires.scope_len.1 at c.mark-else-split.ensures) so (e.bad so)

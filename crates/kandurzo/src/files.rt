@@ -1,0 +1,36 @@
+// Read, read_dimacs and write_dimacs: the new head or the file's length, or why they refuse.
+ghost use Rattle.on_words.specs.Writing.{written_of};
+ghost use Rattle.kandurzo.specs.Listing.{changed_of};
+ghost use Rattle.kandurzo.specs.Reading.{ReadCall};
+ghost use Rattle.kandurzo.specs.Writing.{WriteCall};
+
+use on_words::gate::held_beside;
+use on_words::reading::{Format, read_buffers};
+use on_words::writing::{write_buffers, write_on_words};
+use on_words::{any_short, clear};
+use records::{Head, Pair, copy_in, copy_out};
+use refusals::Refusal;
+
+// The head of the list in a file, whose pairs come into the records; refuses by 12 and the file's own numbers. The work buffer is cleared but after 12.
+pub fn read_as<F: Format>(bytes: &[u8], list: &mut [Pair], work: &mut [u32]) -> Result<Head, Refusal>
+    ensures { ReadCall F.says bytes.now list.old work.old (changed_of result record { n = 0; m = 0 }) list.new work.new }
+{
+    if any_short(&read_buffers(work.len())) {
+        return Err(Refusal::BufferTooShort);
+    }
+    let read = F::read_on_words(bytes, list.len(), work);
+    if let Ok(head) = read {
+        copy_in(&mut list[..head.m as usize], work);
+    }
+    clear(work);
+    read
+}
+
+// The length of the list's file, written into the front of the text; refuses by 13, 12.
+pub fn written(head: Head, list: &[Pair], text: &mut [u8]) -> Result<u32, Refusal>
+    ensures { WriteCall head list.now text.old (written_of result) text.new }
+{
+    let mut words = [0u32; 12288];
+    copy_out(held_beside(head, list, &write_buffers(text.len()))?, &mut words);
+    Ok(write_on_words(head, text, &words))
+}
