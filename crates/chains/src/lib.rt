@@ -6,6 +6,7 @@
 // reached are a set that no unit can leave (`settle`).
 // Cost: a search takes a step for each arc of the modules that it reaches. Arcs (crate `arcs`) say where to look first; that nothing leads out of a
 // set is found by one scan over all pairs (`Cut::exit`). There are at most as many searches as units lie above p. Nothing is refused.
+// `as` stands where std has no `From`: from u32 to usize, and where a bound lets a number fit fewer bits.
 #![tactic(auto)]
 
 mod counts;
@@ -19,7 +20,7 @@ pub use cut::Cut;
 pub use queue::Queue;
 pub use search::settle;
 
-// How searches ended: whether no load is above p, and what they did.
+// How searches ended: whether no load is above p, and what they did (either way, so that a Result would have that twice).
 #[derive(Clone, Copy, Debug, PartialEq, Eq)]
 pub struct Ended {
     pub settled: bool,

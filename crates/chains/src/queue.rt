@@ -23,7 +23,7 @@ impl Queue {
         }
     }
 
-    // No module, again.
+    // No module, again. (The entries stay: a new queue would write them all.)
     pub fn clear(&mut self)
         ensures { (self.new.at ≡ 0) × (self.new.tail ≡ 0) × (self.new.modules ≡ self.old.modules) }
     {

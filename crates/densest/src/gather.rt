@@ -68,7 +68,8 @@ fn gather<'a>(core: &[u8], words: &'a mut [u32], shares: &mut [u32]) -> List<'a>
     }
 }
 
-// The pairs inside the core that the ratio at hand asks for, as a list in the words that held all pairs, with its core numbers in `kept`; and all pairs, packed.
+// The pairs inside the core that the ratio at hand asks for, as a list in the words that held all pairs, with its core numbers in `kept`; and all of them,
+// packed.
 pub(crate) fn gather_core<'a>(
     start: Ratio,
     cores: &[u32],

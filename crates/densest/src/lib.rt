@@ -4,6 +4,7 @@
 // until there is none. Whatever is as dense as the group at hand lies in the core of its ratio rounded up; so, where that core leaves out an eighth of the
 // modules or more, the rounds go over the pairs inside it only (`gather`). The units that the last round leaves make the load sheet (`sheet`).
 // Cost: peeling, and a few rounds over the core's pairs; ratios rise from round to round, so the rounds end. Nothing is refused, and 15 never comes.
+// `as` stands where std has no `From`: from u32 to usize, and where a bound lets a number fit fewer bits.
 #![tactic(auto)]
 
 mod gather;
@@ -76,7 +77,8 @@ fn solve_in(
 }
 
 // The found group's member bytes, the core numbers, a share for each pair, and the numbers of solve's record. Entries past the first n and the first m
-// are as they were. The list lies in the words before; what they hold afterwards is free. Any effort gives such an answer.
+// are as they were. The list lies in the words before; what they hold afterwards is free. Any effort gives such an answer. (n and m stand beside the buffers,
+// which may be longer; each of these is lent by the call as it is, so a struct of them would be made for this call alone.)
 #[tactic(auto, using(theory::proofs::Words::holds_few))]
 pub fn solve(
     n: usize,

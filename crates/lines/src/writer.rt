@@ -30,7 +30,8 @@ impl<'a> Writer<'a> {
         self.at += 1;
     }
 
-    // The digits of a number, of which a u32 has at most ten: those of a tenth of it, and the last behind them.
+    // The digits of a number, of which a u32 has at most ten: those of a tenth of it, and the last behind them, which
+    // `as` makes a byte (std has no `From` for it).
     pub fn number(&mut self, value: u32)
         requires { HasRoom (spelled value) self.old }
         ensures { Writes (spelled value) self.old self.new }

@@ -4,6 +4,7 @@
 // (`slots::Adjacency`). Module by module the first of the ranking leaves, and the degrees of its neighbours, the modules that its pairs join
 // it to, get lower: for N modules and M pairs about N + M steps of the ranking. The core number of a leaver is the greatest degree at leaving so
 // far. Refuses nothing: its callers have tested the list and the buffers.
+// `as` stands where std has no `From`: from u32 to usize, and where a bound lets a number fit fewer bits.
 #![tactic(auto)]
 
 ghost use Rattle.std.specs.Prelude.{◌≡◌, ◌-◌, ◌≤◌, ◌<◌, length};

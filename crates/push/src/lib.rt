@@ -7,6 +7,7 @@
 // again. Where the queue's 640 places are used up, the phase ends. Where most of what modules have above p cannot move on, no phase helps: the phases end.
 // Whatever the labels say, units move within pairs only (`Units::shift`): the promise is that a split stays a split. How well it is balanced is free.
 // Cost: a phase takes a step for each slot of the modules that it labels and of those that come up in the queue. Nothing is refused.
+// `as` stands where std has no `From`: from u32 to usize, and where a bound lets a number fit fewer bits.
 #![tactic(auto)]
 
 mod distances;

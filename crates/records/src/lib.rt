@@ -5,6 +5,7 @@
 //   agree      whether head and list agree (document 01, number 13)
 //   lookup     where a pair is held (document 02, item 3): the search of crate pairs, on the records where they lie
 // Each but the last is one pass over the records that it names, and all are blind to what is in a record: the methods of Pair, lay and record_at know that.
+// `as` stands where std has no `From`: from u32 to usize, and where a bound lets a number fit fewer bits.
 #![tactic(auto)]
 
 ghost use Rattle.std.specs.Prelude.{◌≡◌, true, ◌&&◌, ◌+◌, ◌*◌, leb, length};

@@ -67,6 +67,7 @@ pub enum Refusal {
     BadArgument = 110,
 }
 
+// The number of a case is its discriminant, which only `as` reads.
 impl From<Refusal> for u32 {
     ghost from_gives = { λ refusal number. number ≡ number_of refusal };
 

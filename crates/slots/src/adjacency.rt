@@ -39,7 +39,8 @@ impl<'g, 'a> Adjacency<'g, 'a> {
         requires before_long { 2 * list.m ≤ length before.old }
         requires degrees_long { list.n ≤ length degrees.old }
         ensures same_list { result.list ≡ list.entry }
-        ensures degrees_are { (v : ℕ) → v < list.entry.n → get_or degrees.new v 0 ≡ weight_at list.entry.ends.now list.entry.weights.now list.entry.m v }
+        ensures degrees_are { (v : ℕ) → v < list.entry.n →
+            get_or degrees.new v 0 ≡ weight_at list.entry.ends.now list.entry.weights.now list.entry.m v }
     {
         last.fill(0);
         degrees.fill(0);

@@ -4,6 +4,7 @@
 // by sides. A module's load is its own, which does not move, and the units that it holds. `spread` makes a split and adds up the loads, `Units::shift` moves
 // units (no other function does). `Adjacency` chains each module's slots and adds up the degrees in one pass over the pairs, and goes through a module's
 // neighbours. Nothing is refused: what is asked is in the contracts.
+// `as` stands where std has no `From`: from u32 to usize, and where a bound lets a number fit fewer bits.
 #![tactic(auto)]
 
 mod adjacency;
