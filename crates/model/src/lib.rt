@@ -1,19 +1,28 @@
 // What the programs that test the public calls share: random numbers, records, and a list as a plain map from each pair to its stop count.
 #![tactic(auto)]
 
+ghost use Rattle.std.specs.Prelude.{◌≡◌, ◌-◌, ◌^◌, OnOk, OnErr, Some, None, length, take, count_by, nat_eq, min, map};
+ghost use Rattle.std.specs.BTreeMap.{btree_map_len, get, IsUnchanged};
+ghost use Rattle.model.specs.Draws.{drawn_after, drawn_below};
+ghost use Rattle.model.specs.Counts.{half, key, record_of, pair_cmp, count_of, Changed, record_at, written};
+
 use records::Pair;
 use std::alloc::{AllocError, Global};
 use std::collections::BTreeMap;
 
 // The number drawn after x, never 0 after one that is not (xorshift of Marsaglia, 32 bits).
-pub fn after(x: u32) -> u32 {
+pub fn after(x: u32) -> u32
+    ensures { result ≡ drawn_after x }
+{
     let y = x ^ (x << 13);
     let z = y ^ (y >> 17);
     z ^ (z << 5)
 }
 
 // A number below k by the upper 16 bits of one drawn; 0 where k is 0.
-pub fn below(drawn: u32, k: u32) -> u32 {
+pub fn below(drawn: u32, k: u32) -> u32
+    ensures { result ≡ drawn_below drawn k }
+{
     if k == 0 { 0 } else { (drawn >> 16) % k }
 }
 
@@ -25,19 +34,26 @@ pub struct Random {
 
 impl Random {
     // The next number.
-    pub fn draw(&mut self) -> u32 {
+    pub fn draw(&mut self) -> u32
+        ensures value { result ≡ drawn_after self.old.last }
+        ensures kept { self.new.last ≡ result }
+    {
         self.last = after(self.last);
         self.last
     }
 }
 
 // A number of 16 bits; 65,535 for one that has more.
-fn half(x: u32) -> u16 {
+fn half(x: u32) -> u16
+    ensures { result ≡ half x }
+{
     u16::try_from(x).unwrap_or(u16::MAX)
 }
 
 // The record of two modules and a count.
-pub fn record(a: u32, b: u32, w: u32) -> Pair {
+pub fn record(a: u32, b: u32, w: u32) -> Pair
+    ensures { result ≡ record_of a b w }
+{
     Pair {
         a: half(a),
         b: half(b),
@@ -46,23 +62,31 @@ pub fn record(a: u32, b: u32, w: u32) -> Pair {
 }
 
 // The first k items, or all where there are fewer.
-pub fn front<T>(items: &[T], k: usize) -> &[T] {
+pub fn front<T>(items: &[T], k: usize) -> &[T]
+    ensures { result.now ≡ take k items.now }
+{
     items.get(..k).unwrap_or(items)
 }
 
 // The same, to be written.
-pub fn front_mut<T>(items: &mut [T], k: usize) -> &mut [T] {
+pub fn front_mut<T>(items: &mut [T], k: usize) -> &mut [T]
+    ensures { result.now ≡ take k items.old }
+{
     let end = k.min(items.len());
     &mut items[..end]
 }
 
 // How many of the items are this one.
-pub fn occurrences(items: &[u32], item: u32) -> usize {
+pub fn occurrences(items: &[u32], item: u32) -> usize
+    ensures { result ≡ count_by (λ x. nat_eq x item) items.now }
+{
     items.iter().filter(|&&x| x == item).count()
 }
 
 // Two modules, the smaller first.
-fn key(a: u32, b: u32) -> (u32, u32) {
+fn key(a: u32, b: u32) -> (u32, u32)
+    ensures { result ≡ key a b }
+{
     (a.min(b), a.max(b))
 }
 
@@ -74,37 +98,54 @@ pub struct Stops {
 
 impl Stops {
     // No pairs.
-    pub fn new(alloc: Global) -> Stops {
+    pub fn new(alloc: Global) -> Stops
+        ensures { btree_map_len result.counts ≡ 0 }
+    {
         Stops {
             counts: BTreeMap::new(alloc),
         }
     }
 
     // How many pairs are held.
-    pub fn pairs(&self) -> u32 {
+    pub fn pairs(&self) -> u32
+        ensures { result ≡ min (btree_map_len self.now.counts) (2 ^ 32 - 1) }
+    {
         u32::try_from(self.counts.len()).unwrap_or(u32::MAX)
     }
 
     // The pair's count; 0 where it is not held.
-    pub fn count(&self, a: u32, b: u32) -> u32 {
+    pub fn count(&self, a: u32, b: u32) -> u32
+        ensures { result ≡ count_of self.now a b }
+    {
         self.counts.get(&key(a, b)).copied().unwrap_or(0)
     }
 
     // Gives the pair this count.
-    pub fn put(&mut self, a: u32, b: u32, w: u32) -> Result<(), AllocError> {
+    pub fn put(&mut self, a: u32, b: u32, w: u32) -> Result<(), AllocError>
+        ensures ok { OnOk result (Changed self.old self.new a b (Some w)) }
+        ensures err { OnErr result (IsUnchanged self.old.counts self.new.counts) }
+    {
         self.counts.insert(key(a, b), w)?;
         Ok(())
     }
 
     // Takes the pair out; its count, where it was held.
-    pub fn take(&mut self, a: u32, b: u32) -> Option<u32> {
+    pub fn take(&mut self, a: u32, b: u32) -> Option<u32>
+        ensures value { result ≡ get pair_cmp self.old.counts (key a b) }
+        ensures changed { Changed self.old self.new a b None }
+    {
         self.counts.remove(&key(a, b))
     }
 
     // Writes the pairs in rising order to the front of the list. The records after them stay.
-    pub fn write(&self, list: &mut [Pair]) {
-        for (place, (&(a, b), &w)) in list.iter_mut().zip(self.counts.iter()) {
-            *place = record(a, b, w);
+    #[tactic(auto, unfolding(crate::specs::Counts::written))]
+    pub fn write(&self, list: &mut [Pair])
+        ensures { list.new ≡ written 0 (map record_at self.now.counts.entries) list.old }
+    {
+        for (j, (&(a, b), &w)) in self.counts.iter().enumerate() {
+            if j < list.len() {
+                list[j] = record(a, b, w);
+            }
         }
     }
 }
