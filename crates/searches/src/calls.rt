@@ -2,7 +2,9 @@
 ghost use Rattle.theory.specs.Words.{HoldsList};
 
 use densest::{Effort, Solution};
-use pairfile::Reading;
+use lists::List;
+use records::Head;
+use refusals::Refusal;
 use verify::{Difference, Verdict};
 
 // What peel answers: leaving order, core numbers, places, and the densest remainder.
@@ -23,24 +25,14 @@ pub struct Solved {
     pub record: Solution,
 }
 
-pub(crate) fn peel(list: Reading, words: &[u32]) -> Peeled
+pub(crate) fn peel(list: Head, words: &[u32]) -> Peeled
     requires { HoldsList list.n list.m words.now }
 {
     let mut order = [0u32; 512];
     let mut cores = [0u32; 512];
     let mut place = [0u32; 512];
-    let n = list.n as usize;
-    let m = list.m as usize;
-    let best = peel::peel(
-        n,
-        m,
-        1,
-        words,
-        &words[8192..],
-        &mut order,
-        &mut cores,
-        &mut place,
-    );
+    let list = List::in_words(list.n as usize, list.m as usize, words);
+    let best = peel::peel(list, 1, &mut order, &mut cores, &mut place);
     Peeled {
         order,
         cores,
@@ -50,7 +42,8 @@ pub(crate) fn peel(list: Reading, words: &[u32]) -> Peeled
 }
 
 // Solve with at most so many push phases before its searches, and arcs of at most so many pairs; on a copy of the words, which solve uses up.
-pub(crate) fn solve(list: Reading, phases: usize, arcs: usize, words: &[u32]) -> Solved
+#[tactic(auto, using(crate::proofs::Held::sizes, crate::proofs::Held::front, crate::proofs::Held::copied))]
+pub(crate) fn solve(list: Head, phases: usize, arcs: usize, words: &[u32]) -> Solved
     requires { HoldsList list.n list.m words.now }
 {
     let mut members = [0u8; 512];
@@ -59,7 +52,7 @@ pub(crate) fn solve(list: Reading, phases: usize, arcs: usize, words: &[u32]) ->
     let mut lent = [0u32; 12288];
     let n = list.n as usize;
     let m = list.m as usize;
-    slots::copy(12288, words, &mut lent);
+    lent.copy_from_slice(&words[..12288]);
     let record = densest::solve(
         n,
         m,
@@ -77,42 +70,32 @@ pub(crate) fn solve(list: Reading, phases: usize, arcs: usize, words: &[u32]) ->
     }
 }
 
-// A verdict with a refusal number.
-pub(crate) fn refused(number: u32) -> Verdict {
-    Verdict { number, p: 0, q: 0 }
-}
-
 // Check; refused by 12 where a buffer is too short.
-pub(crate) fn check(list: Reading, words: &[u32], members: &[u8], shares: &[u32]) -> Verdict
+pub(crate) fn check(list: Head, words: &[u32], members: &[u8], shares: &[u32]) -> Verdict
     requires { HoldsList list.n list.m words.now }
 {
     let n = list.n as usize;
     let m = list.m as usize;
     if members.len() < n {
-        return refused(12);
+        return Verdict::from(Err(Refusal::BufferTooShort));
     }
     if shares.len() < m {
-        return refused(12);
+        return Verdict::from(Err(Refusal::BufferTooShort));
     }
-    verify::check_words(n, m, words, &words[8192..], members, shares)
-}
-
-// A difference with a refusal number.
-fn no_difference(number: u32) -> Difference {
-    Difference { number, value: 0 }
+    Verdict::from(verify::check_words(List::in_words(n, m, words), members, shares))
 }
 
 // Surplus; refused by 12 where a buffer is too short.
-pub(crate) fn surplus(list: Reading, words: &[u32], first: &[u8], second: &[u8]) -> Difference
+pub(crate) fn surplus(list: Head, words: &[u32], first: &[u8], second: &[u8]) -> Difference
     requires { HoldsList list.n list.m words.now }
 {
     let n = list.n as usize;
     let m = list.m as usize;
     if first.len() < n {
-        return no_difference(12);
+        return Difference::from(Err(Refusal::BufferTooShort));
     }
     if second.len() < n {
-        return no_difference(12);
+        return Difference::from(Err(Refusal::BufferTooShort));
     }
-    verify::surplus_words(n, m, words, &words[8192..], first, second)
+    Difference::from(verify::surplus_words(List::in_words(n, m, words), first, second))
 }

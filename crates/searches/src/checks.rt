@@ -7,7 +7,7 @@ use crate::calls;
 use crate::entries::{byte_at, mark, more, pair_at, put_byte, put_word, times, word_at};
 use crate::tally::Tally;
 use crate::verdicts::{check_plainly, same_verdict};
-use pairfile::Reading;
+use records::Head;
 
 // The answers are counted as accepted, refused by 7, by 8, by 9.
 fn answer(number: u32) -> usize {
@@ -20,7 +20,7 @@ fn answer(number: u32) -> usize {
 }
 
 // Check of one sheet, by both.
-fn judge(list: Reading, words: &[u32], members: &[u8], shares: &[u32], seen: Tally) -> Tally
+fn judge(list: Head, words: &[u32], members: &[u8], shares: &[u32], seen: Tally) -> Tally
     requires { HoldsList list.n list.m words.now }
 {
     let verdict = calls::check(list, words, members, shares);
@@ -94,7 +94,7 @@ fn change_bytes(change: u32, at: u32, members: &mut [u8]) {
 }
 
 // Solves the list, changes the sheet at a place, and tries it.
-fn try_change(change: u32, at: u32, list: Reading, words: &[u32], seen: Tally) -> Tally
+fn try_change(change: u32, at: u32, list: Head, words: &[u32], seen: Tally) -> Tally
     requires { HoldsList list.n list.m words.now }
 {
     let solved = calls::solve(list, densest::PHASES, 4096, words);
@@ -102,7 +102,7 @@ fn try_change(change: u32, at: u32, list: Reading, words: &[u32], seen: Tally) -
     let pair = pair_at(words, at);
     let mut members = solved.members;
     let mut shares = solved.shares;
-    change_shares(change, at, times(pair.w, record.q), &mut shares);
+    change_shares(change, at, times(pair.w, record.ratio.q), &mut shares);
     change_bytes(change, at, &mut members);
     judge(list, words, &members, &shares, seen)
 }
@@ -113,7 +113,7 @@ fn is_due(n: u32, at: u32) -> bool {
 }
 
 // A change at a place, where one is due.
-pub(crate) fn try_place(change: u32, at: u32, list: Reading, words: &[u32], seen: Tally) -> Tally
+pub(crate) fn try_place(change: u32, at: u32, list: Head, words: &[u32], seen: Tally) -> Tally
     requires { HoldsList list.n list.m words.now }
 {
     if is_due(list.n, at) {
@@ -167,7 +167,7 @@ pub(crate) fn sheet_codes(base: u32, m: u32) -> u32 {
 }
 
 // The sheet of a number: the member bytes of 81, and the shares.
-pub(crate) fn try_sheet(base: u32, code: u32, list: Reading, words: &[u32], seen: Tally) -> Tally
+pub(crate) fn try_sheet(base: u32, code: u32, list: Head, words: &[u32], seen: Tally) -> Tally
     requires { HoldsList list.n list.m words.now }
 {
     let members = spell_bytes(code % 81);

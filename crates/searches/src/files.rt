@@ -1,7 +1,7 @@
 // The pair file of a list, written into a text: the product's own reader takes it, and the words hold a list where it accepts. A walk goes over all pairs
 // a,b of n modules, a below b, in rising order, and takes each or not.
 use crate::entries::{byte_at, more, put_byte};
-use crate::lists::{Listed, stops, takes};
+use crate::rows::{Listed, stops, takes};
 use std::num::wrapping_add_u32;
 
 // How far a walk has come: the pair a,b is next; pairs passed and taken, the stops of those taken, the random state, and where the text ends.

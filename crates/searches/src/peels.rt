@@ -4,11 +4,10 @@ use crate::altered::raised;
 use crate::calls::Peeled;
 use crate::entries::same_words;
 use crate::plain::{leave, number_cores};
-use pairfile::Reading;
-use peel::Remainder;
+use records::Head;
 
 // The plain answer.
-pub(crate) fn peel_plainly(list: Reading, words: &[u32]) -> Peeled {
+pub(crate) fn peel_plainly(list: Head, words: &[u32]) -> Peeled {
     let mut order = [0u32; 512];
     let mut cores = [4096000u32; 512];
     let mut place = [512u32; 512];
@@ -40,16 +39,6 @@ pub(crate) fn alter_peel(thing: u32, peeled: Peeled) -> Peeled {
     }
 }
 
-fn same_remainder(x: Remainder, y: Remainder) -> bool {
-    if x.p != y.p {
-        return false;
-    }
-    if x.q != y.q {
-        return false;
-    }
-    x.at == y.at
-}
-
 // Whether two answers for n modules are the same.
 pub(crate) fn same_peel(n: u32, x: Peeled, y: Peeled) -> bool {
     if !same_words(n, &x.order, &y.order) {
@@ -61,5 +50,5 @@ pub(crate) fn same_peel(n: u32, x: Peeled, y: Peeled) -> bool {
     if !same_words(n, &x.place, &y.place) {
         return false;
     }
-    same_remainder(x.best, y.best)
+    x.best == y.best
 }

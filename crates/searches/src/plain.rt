@@ -2,8 +2,8 @@
 // looked at. Modules have levels: those of level k or more are present. Module v has left at turn i when its level, its place, is i; it has dropped
 // from the core of order k when its level, its core number, is below k.
 use crate::entries::{Pair, more, pair_at, put_word, word_at};
-use numbers::greater;
-use pairfile::Reading;
+use numbers::Ratio;
+use records::Head;
 use peel::Remainder;
 use std::num::{wrapping_add_u32, wrapping_sub_u32};
 
@@ -74,10 +74,10 @@ pub(crate) fn product(x: u32, y: u32) -> f64 {
 
 // The first remainder, unless the second has a higher ratio, or the first has no module.
 fn denser(first: Remainder, second: Remainder) -> Remainder {
-    if first.q == 0 {
+    if first.ratio.q == 0 {
         return second;
     }
-    if product(first.p, second.q) < product(second.p, first.q) {
+    if product(first.ratio.p, second.ratio.q) < product(second.ratio.p, first.ratio.q) {
         second
     } else {
         first
@@ -87,7 +87,7 @@ fn denser(first: Remainder, second: Remainder) -> Remainder {
 // Turn i: who leaves, at which place, and the densest remainder so far.
 fn turn(
     i: u32,
-    list: Reading,
+    list: Head,
     words: &[u32],
     best: Remainder,
     order: &mut [u32],
@@ -99,17 +99,17 @@ fn turn(
     put_word(order, i, v);
     put_word(place, v, i);
     let q = wrapping_sub_u32(list.n, i);
-    denser(best, Remainder { p, q, at: i })
+    denser(best, Remainder { ratio: Ratio { p, q }, at: i })
 }
 
 // The leaving order, the places, and the densest remainder, of equals the largest. Before it the places are 512.
 pub(crate) fn leave(
-    list: Reading,
+    list: Head,
     words: &[u32],
     order: &mut [u32],
     place: &mut [u32],
 ) -> Remainder {
-    let mut best = Remainder { p: 0, q: 0, at: 0 };
+    let mut best = Remainder { ratio: Ratio { p: 0, q: 0 }, at: 0 };
     let mut i = 0;
     while i < list.n {
         best = turn(i, list, words, best, order, place);
@@ -144,11 +144,11 @@ fn drop_modules(k: u32, n: u32, degrees: &[u32], levels: &mut [u32]) -> bool {
 // The order after k, where every module present has k stops or more: the next at which one drops.
 fn next_order(k: u32, n: u32, levels: &[u32], degrees: &[u32]) -> u32 {
     let v = fewest(k, n, levels, degrees);
-    more(greater(k, word_at(degrees, v)))
+    more(k.max(word_at(degrees, v)))
 }
 
 // One round at order k: the order of the next one, which is higher where nothing drops.
-fn round(k: u32, list: Reading, words: &[u32], cores: &mut [u32]) -> u32 {
+fn round(k: u32, list: Head, words: &[u32], cores: &mut [u32]) -> u32 {
     let mut degrees = [0u32; 512];
     count_pairs(k, list.m, words, cores, &mut degrees);
     if drop_modules(k, list.n, &degrees, cores) {
@@ -159,7 +159,7 @@ fn round(k: u32, list: Reading, words: &[u32], cores: &mut [u32]) -> u32 {
 }
 
 // The core numbers: at most n rounds drop modules, and n find none. Before them the core numbers are 4,096,000.
-pub(crate) fn number_cores(list: Reading, words: &[u32], cores: &mut [u32]) {
+pub(crate) fn number_cores(list: Head, words: &[u32], cores: &mut [u32]) {
     let rounds = wrapping_add_u32(list.n, list.n);
     let mut k = 1;
     let mut i = 0;

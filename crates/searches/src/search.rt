@@ -6,10 +6,10 @@ use crate::peels::{alter_peel, peel_plainly, same_peel};
 use crate::sets::{Best, densest_set};
 use crate::solves::{alter_solve, same_solve, solve_right};
 use crate::tally::Tally;
-use pairfile::Reading;
+use records::Head;
 
 // Solve with neither phases nor arcs, of up to 40 modules: each slot of a chain is found by a pass over all pairs.
-fn try_bare(list: Reading, words: &[u32], best: Best, cores: &[u32], seen: Tally) -> Tally
+fn try_bare(list: Head, words: &[u32], best: Best, cores: &[u32], seen: Tally) -> Tally
     requires { HoldsList list.n list.m words.now }
 {
     if 40 < list.n {
@@ -24,7 +24,7 @@ fn try_bare(list: Reading, words: &[u32], best: Best, cores: &[u32], seen: Tally
 // Solve beside the plain computations, with one thing altered where push phases went before the searches; and what the searches without them did.
 fn try_solve(
     thing: u32,
-    list: Reading,
+    list: Head,
     words: &[u32],
     best: Best,
     cores: &[u32],
@@ -46,7 +46,7 @@ fn try_solve(
 }
 
 // Peel and solve, with one thing altered.
-pub(crate) fn search(thing: u32, list: Reading, words: &[u32], seen: Tally) -> Tally
+pub(crate) fn search(thing: u32, list: Head, words: &[u32], seen: Tally) -> Tally
     requires { HoldsList list.n list.m words.now }
 {
     let plain = peel_plainly(list, words);

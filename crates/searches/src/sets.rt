@@ -1,8 +1,8 @@
 // The found group as document 01 defines it and as plainly as can be: every set of modules is counted. Module v is in the set of a mask where bit v is 1.
 use crate::entries::{Pair, byte_at, pair_at};
-use crate::lists::bit;
+use crate::rows::bit;
 use crate::plain::product;
-use pairfile::Reading;
+use records::Head;
 use std::num::wrapping_add_u32;
 
 // The densest set so far: its mask, its inside count and its size.
@@ -70,7 +70,7 @@ fn try_sets(count: u32, m: u32, words: &[u32]) -> Best {
 }
 
 // The densest set of a list of at most 12 modules, of equals the largest; no set of a larger list.
-pub(crate) fn densest_set(list: Reading, words: &[u32]) -> Best {
+pub(crate) fn densest_set(list: Head, words: &[u32]) -> Best {
     let n = list.n;
     if n < 13 {
         try_sets(1 << n, list.m, words)

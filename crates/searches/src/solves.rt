@@ -9,15 +9,15 @@ use crate::plain::core_size;
 use crate::sets::{Best, same_set};
 use crate::verdicts::same_verdict;
 use densest::Solution;
-use pairfile::Reading;
+use records::Head;
 use std::num::wrapping_add_u32;
 use verify::Verdict;
 
 // A record with one number altered.
 fn alter_record(thing: u32, record: Solution) -> Solution {
     let mut now = record;
-    now.p = raised(thing, altered::INSIDE, record.p);
-    now.q = raised(thing, altered::SIZE, record.q);
+    now.ratio.p = raised(thing, altered::INSIDE, record.ratio.p);
+    now.ratio.q = raised(thing, altered::SIZE, record.ratio.q);
     now.k = raised(thing, altered::K, record.k);
     now.core = raised(thing, altered::CORE_SIZE, record.core);
     now
@@ -44,7 +44,7 @@ pub(crate) fn alter_solve(thing: u32, words: &[u32], solved: Solved) -> Solved {
         thing,
         altered::SHARE,
         shares[0],
-        more(times(first.w, record.q)),
+        more(times(first.w, record.ratio.q)),
     );
     Solved {
         members,
@@ -61,10 +61,10 @@ fn group_right(n: u32, solved: Solved, best: Best) -> bool {
     if 12 < n {
         return true;
     }
-    if record.p != best.p {
+    if record.ratio.p != best.p {
         return false;
     }
-    if record.q != best.q {
+    if record.ratio.q != best.q {
         return false;
     }
     same_set(n, best.mask, &solved.members)
@@ -85,14 +85,14 @@ fn cores_right(n: u32, solved: Solved, cores: &[u32]) -> bool {
     if !same_words(n, &solved.cores, cores) {
         return false;
     }
-    if record.k != rounded_up(record.p, record.q) {
+    if record.k != rounded_up(record.ratio.p, record.ratio.q) {
         return false;
     }
     record.core == core_size(record.k, n, cores)
 }
 
 // Whether check accepts the sheet, and counts the same P and Q.
-fn sheet_right(list: Reading, words: &[u32], solved: Solved) -> bool
+fn sheet_right(list: Head, words: &[u32], solved: Solved) -> bool
     requires { HoldsList list.n list.m words.now }
 {
     let record = solved.record;
@@ -100,15 +100,15 @@ fn sheet_right(list: Reading, words: &[u32], solved: Solved) -> bool
     let verdict = check(list, words, &solved.members, &shares);
     let due = Verdict {
         number: 0,
-        p: record.p,
-        q: record.q,
+        p: record.ratio.p,
+        q: record.ratio.q,
     };
     same_verdict(verdict, due)
 }
 
 // Whether solve's answer is right, beside the densest set and the core numbers.
 pub(crate) fn solve_right(
-    list: Reading,
+    list: Head,
     words: &[u32],
     solved: Solved,
     best: Best,
@@ -126,10 +126,10 @@ pub(crate) fn solve_right(
 }
 
 fn same_record(x: Solution, y: Solution) -> bool {
-    if x.p != y.p {
+    if x.ratio.p != y.ratio.p {
         return false;
     }
-    if x.q != y.q {
+    if x.ratio.q != y.ratio.q {
         return false;
     }
     if x.k != y.k {

@@ -6,7 +6,7 @@ use crate::checks::spell_bytes;
 use crate::entries::mark;
 use crate::tally::Tally;
 use crate::verdicts::surplus_right;
-use pairfile::Reading;
+use records::Head;
 use verify::Difference;
 
 // The answers are counted as above zero, zero, below zero, refused by 7.
@@ -21,7 +21,7 @@ fn answer(difference: Difference) -> usize {
 }
 
 // Surplus of two sets, by both.
-fn weigh(list: Reading, words: &[u32], first: &[u8], second: &[u8], seen: Tally) -> Tally
+fn weigh(list: Head, words: &[u32], first: &[u8], second: &[u8], seen: Tally) -> Tally
     requires { HoldsList list.n list.m words.now }
 {
     let difference = surplus(list, words, first, second);
@@ -30,7 +30,7 @@ fn weigh(list: Reading, words: &[u32], first: &[u8], second: &[u8], seen: Tally)
 }
 
 // The two sets of bytes of a number below 6,561: 81 for each set.
-pub(crate) fn try_sets(code: u32, list: Reading, words: &[u32], seen: Tally) -> Tally
+pub(crate) fn try_sets(code: u32, list: Head, words: &[u32], seen: Tally) -> Tally
     requires { HoldsList list.n list.m words.now }
 {
     let first = spell_bytes(code % 81);
@@ -44,7 +44,7 @@ fn size_of(code: u32) -> u32 {
 }
 
 // The group of a number against the first `second` modules.
-pub(crate) fn try_firsts(code: u32, second: u32, list: Reading, words: &[u32], seen: Tally) -> Tally
+pub(crate) fn try_firsts(code: u32, second: u32, list: Head, words: &[u32], seen: Tally) -> Tally
     requires { HoldsList list.n list.m words.now }
 {
     let mut one = [0u8; 512];

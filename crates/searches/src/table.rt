@@ -4,7 +4,7 @@
 ghost use Rattle.std.specs.Prelude.{◌≤◌, length};
 
 use crate::entries::{more, put_word, word_at};
-use crate::lists::Row;
+use crate::rows::Row;
 use crate::tally::Tally;
 use crate::trials::go_on;
 

@@ -2,7 +2,6 @@
 // answers was given, what the searches for chains did, and the random state.
 use crate::entries::more;
 use flow::Searches;
-use numbers::greater;
 use std::num::wrapping_add_u32;
 
 #[derive(Clone, Copy)]
@@ -83,7 +82,7 @@ impl Tally {
     // What searches did that had arcs.
     pub(crate) fn searched(mut self, searches: Searches) -> Tally {
         self.chains = wrapping_add_u32(self.chains, searches.chains);
-        self.longest = greater(self.longest, searches.longest);
+        self.longest = self.longest.max(searches.longest);
         self.none = wrapping_add_u32(self.none, searches.none);
         self
     }

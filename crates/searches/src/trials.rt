@@ -3,18 +3,19 @@ ghost use Rattle.theory.specs.Words.{HoldsList};
 
 use crate::checks::{places, sheet_codes, try_place, try_sheet};
 use crate::files::put_file;
-use crate::lists::{Listed, Row, list_at};
+use crate::rows::{Listed, Row, list_at};
 use crate::plain::inside;
 use crate::search::search;
 use crate::surpluses::{try_firsts, try_sets};
 use crate::tally::Tally;
-use pairfile::{Reading, read_words};
+use pairfile::read_words;
+use records::Head;
 
 // How often a list is asked, once for each number below a count. By what is asked: 0 peel and solve, with the thing of number `with` altered; 1 check of
 // solve's sheet, with the change of number `with` in one place; 2 check of every sheet of up to 4 modules: member bytes of 0 to 2, and shares below
 // `with`, where those are no more than 110,000; 3 surplus of every two sets of 4 bytes of 0 to 2; 4 surplus of groups of 512 modules against the first
 // `with`.
-fn codes(row: Row, list: Reading) -> u32 {
+fn codes(row: Row, list: Head) -> u32 {
     let asked = row.asked;
     match asked {
         0 => 1,
@@ -26,7 +27,7 @@ fn codes(row: Row, list: Reading) -> u32 {
 }
 
 // What is asked, for one number.
-fn ask(row: Row, code: u32, list: Reading, words: &[u32], seen: Tally) -> Tally
+fn ask(row: Row, code: u32, list: Head, words: &[u32], seen: Tally) -> Tally
     requires { HoldsList list.n list.m words.now }
 {
     let asked = row.asked;
@@ -40,7 +41,7 @@ fn ask(row: Row, code: u32, list: Reading, words: &[u32], seen: Tally) -> Tally
 }
 
 // What is asked, for every number.
-fn ask_all(row: Row, list: Reading, words: &[u32], seen: Tally) -> Tally
+fn ask_all(row: Row, list: Head, words: &[u32], seen: Tally) -> Tally
     requires { HoldsList list.n list.m words.now }
 {
     let count = codes(row, list);
@@ -60,10 +61,9 @@ fn read_list(row: Row, text: &[u8], end: u32, stops: u32, seen: Tally) -> Tally 
     if text.len() < size {
         return seen.not_read();
     }
-    let list = read_words(&text[..size], 4096, &mut words);
-    if list.number != 0 {
+    let Ok(list) = read_words(&text[..size], 4096, &mut words) else {
         return seen.not_read();
-    }
+    };
     if inside(0, list.m, &words, &words) != stops {
         return seen.not_read();
     }

@@ -1,10 +1,10 @@
 // Check and surplus as document 01 states them and as plainly as can be: a pass over the bytes for the size, one over the pairs for the inside count,
 // and one over the pairs for each module's load.
-use crate::calls::refused;
 use crate::entries::{Pair, pair_at, read_set, times, word_at};
 use crate::plain::{inside, product};
-use pairfile::Reading;
+use records::Head;
 use std::num::{nearest_i64_to_f64, wrapping_add_u32, wrapping_sub_u32};
+use refusals::Refusal;
 use verify::{Difference, Verdict};
 
 // A group: its size and its inside count; both 0 where the set is no group.
@@ -15,7 +15,7 @@ pub struct Group {
 }
 
 // The group of member bytes.
-fn read_group(list: Reading, words: &[u32], members: &[u8]) -> Group {
+fn read_group(list: Head, words: &[u32], members: &[u8]) -> Group {
     let mut set = [0u32; 512];
     let size = read_set(list.n, members, &mut set);
     if size == 0 {
@@ -67,7 +67,7 @@ fn load(q: u32, v: u32, m: u32, words: &[u32], shares: &[u32]) -> u32 {
 }
 
 // Whether one of the loads is above the group's inside count.
-fn overloaded(group: Group, list: Reading, words: &[u32], shares: &[u32]) -> bool {
+fn overloaded(group: Group, list: Head, words: &[u32], shares: &[u32]) -> bool {
     let mut v = 0;
     while v < list.n {
         if group.inside < load(group.size, v, list.m, words, shares) {
@@ -80,20 +80,20 @@ fn overloaded(group: Group, list: Reading, words: &[u32], shares: &[u32]) -> boo
 
 // Check's answer: refused by 7, 8, 9, or accepted.
 pub(crate) fn check_plainly(
-    list: Reading,
+    list: Head,
     words: &[u32],
     members: &[u8],
     shares: &[u32],
 ) -> Verdict {
     let group = read_group(list, words, members);
     if group.size == 0 {
-        return refused(7);
+        return Verdict::from(Err(Refusal::NoGroup));
     }
     if past(list.m, group.size, words, shares) {
-        return refused(8);
+        return Verdict::from(Err(Refusal::ShareTooLarge));
     }
     if overloaded(group, list, words, shares) {
-        return refused(9);
+        return Verdict::from(Err(Refusal::LoadTooLarge));
     }
     Verdict {
         number: 0,
@@ -123,7 +123,7 @@ fn surplus_number(one: Group, other: Group) -> u32 {
 // Whether surplus's answer is right: modules of the second group times inside count of the first, minus inside count of the second times modules of the
 // first; a set that is no group counts as 0 in both.
 pub(crate) fn surplus_right(
-    list: Reading,
+    list: Head,
     words: &[u32],
     first: &[u8],
     second: &[u8],
