@@ -12,7 +12,6 @@ use Rattle.refusals.specs.declared.Refusal.{Refusal}
 use Rattle.records.specs.declared.Head.{Head}
 use Rattle.pairs.specs.declared.Stops.{Stops}
 use Rattle.pairs.specs.Counts.{counted}
-use Rattle.lines.specs.Lines.{Line}
 use Rattle.lines.specs.Outcomes.{taken, ◌>>=◌, ◌>>◌, judge, outcome_of}
 use Rattle.pairfile.specs.Answers.{again, SamePast, WordsRead}
 use Rattle.dimacs.specs.Comments.{first_line, after_line, is_comment, plain_lines}

@@ -1,5 +1,4 @@
 -- `dimacs::read_edges` meets its contract, line by line.
-use Rattle.std.proofs.Common.{arith}
 use Rattle.lines.proofs.Found.{handed_on}
 use Rattle.dimacs.proofs.Filing.{edged_start, edged_17, edged_whole, line_refused, pair_refused, edged_step}
 use Rattle.dimacs.proofs.read_edges.Goals as goal

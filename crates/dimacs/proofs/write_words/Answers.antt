@@ -1,5 +1,5 @@
 -- `dimacs::write_words` meets its contract: a DIMACS file is the file of a list in two such forms.
-use Rattle.std.proofs.Common.{◌≡◌, arith}
+use Rattle.std.proofs.Common.{arith}
 use Rattle.theory.specs.Words.{list_in}
 use Rattle.lines.specs.Text.{text}
 use Rattle.dimacs.specs.Edges.{problem_form, edge_form}
