@@ -5,16 +5,15 @@
 --   remove_disagrees, remove_refused, remove_done, remove_back    remove likewise
 -- Assumes nothing.
 use mathlib.Core.Path.{◌≡◌, refl, sym, ap, ◌∙◌}
-use mathlib.Core.Bool.{Bool, true, false, not, cond}
+use mathlib.Core.Bool.{true, not, cond}
 use mathlib.Core.List.{List, [], ◌∷◌, ◌++◌}
-use Prim.Native.Nat.{ℕ, ◌+◌, ◌-◌, ◌≤◌}
+use Prim.Native.Nat.{ℕ, ◌+◌, ◌≤◌}
 use native.Mathlib.Omega.{arith}
 use lib.ListN.{length, take, drop}
 use lib.Seq.{length-take-le}
 use Rattle.std.proofs.Common.{Ok, Err}
 use Rattle.theory.specs.Lists as Lists
 use Rattle.theory.specs.Lists.{Pairs, is_list}
-use Rattle.theory.specs.Refusals.{cause, refusal, if_taken}
 use Rattle.theory.specs.Words.{laid_pairs, laid_list}
 use Rattle.theory.proofs.Refusals.{if_taken_new, if_taken_old}
 use Rattle.refusals.specs.declared.Refusal.{Refusal}
@@ -31,13 +30,16 @@ use Rattle.records.specs.declared.Head.{Head}
 use Rattle.records.specs.Records.{held_list, agrees, blank, records_in, put_back, RoomBack}
 use Rattle.records.proofs.Copies.{pairs_read, put_back_part}
 use Rattle.records.proofs.Scans.{agrees_count}
+use Rattle.on_words.specs.Buffers.{any_short}
+use Rattle.on_words.specs.Gate.{gate_number}
 use Rattle.on_words.specs.Edits.{head_of, is_full, pair_located, add_on_number, AddOn, remove_on_number, RemoveOn}
 use Rattle.on_words.proofs.Orders.{add_13, remove_13}
 use Rattle.on_words.proofs.Changes.{raised_few, raised_there}
 use Rattle.on_words.proofs.Fits.{freed_pair, list_fits, freed_fits}
+use Rattle.kandurzo.specs.Laying.{Laid}
 use Rattle.kandurzo.specs.Listing.{as_record, as_records, changed_of, add_number, pairs_then, added, AddSays}
 use Rattle.kandurzo.specs.Listing.{remove_number, removed, RemoveSays}
-use Rattle.kandurzo.proofs.Gates.{disagrees, Laid}
+use Rattle.kandurzo.proofs.Gates.{disagrees, none_lent}
 use Rattle.kandurzo.proofs.Taken.{as_records_back, held_is_list, taken_removable, added_list}
 
 -- the records that lie in words are those of the pairs
@@ -69,10 +71,10 @@ module _ (h : Head) (ps : List Pair) (a b w : ℕ) where
       let some : add_number h ps a b w ≡ 0 → ⊥ = λ z. numbered e (f ∙ z) in
       record { number = f; head = sym (if_taken_old _ _ h some); list = sym (if_taken_old _ _ ps some) }
 
-  pub add_disagrees : (e : Refusal) → number_of e ≡ refusal (cause 13 (not (agrees h ps)) ∷ []) → AddSays h ps a b w (changed_of (Err e) h) ps
+  pub add_disagrees : (e : Refusal) → number_of e ≡ gate_number (agrees h ps) (any_short []) → AddSays h ps a b w (changed_of (Err e) h) ps
   unfolding add_number
   add_disagrees e f =
-      let d = disagrees (agrees h ps) f (numbered e) in
+      let d = disagrees (agrees h ps) (f ∙ none_lent (agrees h ps)) (numbered e) in
       add_left e (d.1 ∙ sym (add_13 (not (agrees h ps)) (held_list h ps) (is_full h (length ps)) a b w (rw d.0)))
 
   module _ {zs words : List ℕ} (laid : Laid h ps zs words) where
@@ -94,11 +96,11 @@ module _ (h : Head) (ps : List Pair) (a b w : ℕ) where
       pairs_are : laid_pairs new.m words' ≡ raise_pair (stops_of a b w) (held_list h ps).pairs
       pairs_are =
           let after : words' ≡ raised h.m (pair_located h words a b) (stops_of a b w) words = on.after ∙ if_taken_new 0 _ words refl in
-          rw (new_pairs, after) (raised_there h (length ps) words a b w laid.holds (agrees_count h ps laid.agreed).0 (sym on.number))
+          rw (new_pairs, after) (raised_there h (length ps) words a b w laid.holds laid.some (sym on.number))
           ∙ ap (raise_pair (stops_of a b w)) (held_laid laid)
 
       pub add_part : (new.m ≤ 4096) × (new.m ≤ length ps)
-      add_part = rw new_pairs (raised_few h (length ps) words a b w laid.holds (agrees_count h ps laid.agreed).0 (sym on.number))
+      add_part = rw new_pairs (raised_few h (length ps) words a b w laid.holds laid.some (sym on.number))
 
       pub add_back : 12288 ≤ length words' → RoomBack (take new.m ps) words'
       add_back long =
@@ -130,10 +132,10 @@ module _ (h : Head) (ps : List Pair) (a b : ℕ) where
       let some : remove_number h ps a b ≡ 0 → ⊥ = λ z. numbered e (f ∙ z) in
       record { number = f; head = sym (if_taken_old _ _ h some); list = sym (if_taken_old _ _ ps some) }
 
-  pub remove_disagrees : (e : Refusal) → number_of e ≡ refusal (cause 13 (not (agrees h ps)) ∷ []) → RemoveSays h ps a b (changed_of (Err e) h) ps
+  pub remove_disagrees : (e : Refusal) → number_of e ≡ gate_number (agrees h ps) (any_short []) → RemoveSays h ps a b (changed_of (Err e) h) ps
   unfolding remove_number
   remove_disagrees e f =
-      let d = disagrees (agrees h ps) f (numbered e) in
+      let d = disagrees (agrees h ps) (f ∙ none_lent (agrees h ps)) (numbered e) in
       remove_left e (d.1 ∙ sym (remove_13 (not (agrees h ps)) (held_list h ps) a b (rw d.0)))
 
   module _ {zs words : List ℕ} (laid : Laid h ps zs words) where
@@ -180,7 +182,7 @@ module _ (h : Head) (ps : List Pair) (a b : ℕ) where
             number = sym z;
             head = on.head ∙ sym (if_taken_new _ _ h z);
             list =
-                part_back ps words' h.m (agrees_count h ps laid.agreed).0
+                part_back ps words' h.m laid.some
                 ∙ ap (λ (qs : List Lists.Pair). as_records qs ++ drop h.m ps) pairs_left
                 ∙ freed (remove_pair p (held_list h ps).pairs) (drop h.m ps)
                 ∙ sym (if_taken_new _ _ ps z);

@@ -1,26 +1,16 @@
--- The refusals that come first, 13 and 12, and the words once the records are in them.
---   disagrees                  13 alone: where it is given head and list disagree
+-- The refusals that come first, 13 and 12.
+--   disagrees, none_lent       13 alone: where it is given head and list disagree; 12 never comes where no buffer is lent
 --   gate_open, gate_left       13 and 12: where neither is given head and list agree and no buffer is short; either leaves the work buffer
 --   gate_first, gate_then      either is the call's number; where neither is given the causes behind decide
---   zeros_long, room_out       what the copy asks
---   Laid, records_laid         the words then hold the list, and a call leaves of them what it leaves of the buffer as it was
 -- Assumes nothing.
-use mathlib.Core.Path.{◌≡◌, refl, sym, ◌∙◌}
+use mathlib.Core.Path.{◌≡◌, refl, sym}
 use mathlib.Core.Bool.{Bool, true, false, not, cond}
 use mathlib.Core.List.{List, [], ◌∷◌}
-use Prim.Native.Nat.{ℕ, ◌≤◌}
+use Prim.Native.Nat.{ℕ}
 use native.Mathlib.Omega.{arith}
-use lib.ListN.{length, take, replicate, length-replicate}
-use Rattle.theory.specs.Words.{laid_list, HoldsList}
 use Rattle.theory.specs.Refusals.{Cause, cause, refusal}
-use Rattle.records.specs.declared.Pair.{Pair}
-use Rattle.records.specs.declared.Head.{Head}
-use Rattle.records.specs.Records.{held_list, agrees, copied_out, RoomOut}
-use Rattle.records.proofs.Copies.{length_copied_out, copied_out_past, copied_out_list, agrees_room, copied_out_holds}
-use Rattle.records.proofs.Scans.{agrees_count}
-use Rattle.on_words.specs.Buffers.{cleared, work_left}
+use Rattle.on_words.specs.Buffers.{any_short, work_left}
 use Rattle.on_words.specs.Gate.{gate_number}
-use Rattle.on_words.proofs.Filling.{cleared_past}
 
 -- ---- 13
 
@@ -28,6 +18,10 @@ pub disagrees : (agreed : Bool) {k : ℕ} → k ≡ refusal (cause 13 (not agree
 unfolding refusal cause
 disagrees true e n = absurd (n e)
 disagrees false e n = (refl, e)
+
+pub none_lent : (agreed : Bool) → gate_number agreed (any_short []) ≡ refusal (cause 13 (not agreed) ∷ [])
+unfolding gate_number any_short refusal cause
+none_lent agreed = refl
 
 -- ---- 13, 12
 
@@ -56,34 +50,3 @@ module _ (agreed short : Bool) (rest : List Cause) where
   pub gate_then : gate_number agreed short ≡ 0 → refusal (cause 13 (not agreed) ∷ cause 12 short ∷ rest) ≡ refusal rest
   unfolding gate_number refusal cause
   gate_then z = let o = gate_open agreed short z in rw (o.0, o.1)
-
--- ---- the words
-
--- a call's own words are long enough
-pub zeros_long : 12288 ≤ length (replicate {A = ℕ} 12288 0)
-zeros_long = omega (arith, length-replicate {A = ℕ} 12288 0)
-
--- head and list agree, and the words, which were the work buffer, hold the list
-pub record Laid (h : Head) (ps : List Pair) (work words : List ℕ) : Type 0 where
-  pub agreed : agrees h ps ≡ true
-  pub holds : HoldsList h.n h.m words
-  pub list : laid_list h.n h.m words ≡ held_list h ps
-  pub long : length words ≡ length work
-  pub left : cleared words ≡ cleared work
-
-module _ (h : Head) (ps : List Pair) (work : List ℕ) (agreed : agrees h ps ≡ true) (long : 12288 ≤ length work)
-    {held : List Pair} (held_is : held ≡ take h.m ps) where
-  pub room_out : RoomOut held work
-  room_out = rw held_is (agrees_room h ps work agreed long)
-
-  pub records_laid : {words : List ℕ} → words ≡ copied_out held work → Laid h ps work words
-  records_laid e =
-      let room = agrees_room h ps work agreed long in
-      rw (e, held_is)
-      (record {
-        agreed = agreed;
-        holds = copied_out_holds h ps work agreed long;
-        list = copied_out_list h ps work (agrees_count h ps agreed).0 room;
-        long = length_copied_out (take h.m ps) work room;
-        left = cleared_past 12288 _ _ (omega arith) (copied_out_past (take h.m ps) work room);
-      })

@@ -29,9 +29,10 @@ use Rattle.on_words.specs.declared.buffers.Buffer.{Buffer}
 use Rattle.on_words.specs.Buffers.{any_short}
 use Rattle.on_words.specs.Gate.{gate_number}
 use Rattle.on_words.specs.Judging.{check_buffers, surplus_buffers, CheckOn, SurplusOn}
+use Rattle.kandurzo.specs.Laying.{Laid}
 use Rattle.kandurzo.specs.Judging.{check_call_causes, CheckCall, surplus_call_causes, SurplusCall}
 use Rattle.on_words.proofs.Filling.{work_zeros}
-use Rattle.kandurzo.proofs.Gates.{gate_left, gate_first, gate_then, Laid}
+use Rattle.kandurzo.proofs.Gates.{gate_left, gate_first, gate_then}
 
 -- 7, 8, 9 or none
 pub check_few : (g : Pairs) (s xs : List ℕ) → check_number g s xs < 10

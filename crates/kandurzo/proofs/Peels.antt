@@ -19,8 +19,9 @@ use Rattle.on_words.specs.Buffers.{any_short}
 use Rattle.on_words.specs.Gate.{gate_number}
 use Rattle.on_words.specs.Peeling.{peel_buffers, PeelOn}
 use Rattle.on_words.proofs.Filling.{left_open}
+use Rattle.kandurzo.specs.Laying.{Laid}
 use Rattle.kandurzo.specs.Peeling.{peel_call_causes, PeelCall}
-use Rattle.kandurzo.proofs.Gates.{gate_left, Laid}
+use Rattle.kandurzo.proofs.Gates.{gate_left}
 
 module _ (h : Head) (ps : List Pair) (order cores work : List ℕ)
     {lent : List Buffer} (is : lent ≡ peel_buffers h (length order) (length cores) (length work)) where

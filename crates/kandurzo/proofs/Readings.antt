@@ -12,7 +12,6 @@ use native.Mathlib.Omega.{arith}
 use lib.ListN.{length, take, drop}
 use lib.Seq.{length-take-le}
 use Rattle.std.proofs.Common.{Ok, Err}
-use Rattle.theory.specs.Lists as Lists
 use Rattle.theory.specs.Lists.{Pairs}
 use Rattle.theory.specs.Words.{laid_pairs, laid_list}
 use Rattle.theory.proofs.Words.{length_laid, holds_few}

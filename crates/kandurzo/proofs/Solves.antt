@@ -25,9 +25,10 @@ use Rattle.on_words.specs.Buffers.{any_short}
 use Rattle.on_words.specs.Gate.{gate_number}
 use Rattle.on_words.specs.Solving.{solve_buffers, declined, solved_of, SolveOn}
 use Rattle.on_words.proofs.Filling.{left_open}
+use Rattle.kandurzo.specs.Laying.{Laid}
 use Rattle.kandurzo.specs.Solving.{solve_call_causes, NoSplit, SolveCall}
 use Rattle.kandurzo.specs.Promise.{UnsplitNever, RecordsInOrder}
-use Rattle.kandurzo.proofs.Gates.{gate_open, gate_left, Laid}
+use Rattle.kandurzo.proofs.Gates.{gate_open, gate_left}
 use Rattle.kandurzo.proofs.Taken.{held_is_list}
 
 -- a densest group has a split at its size whose greatest load is its inside count

@@ -3,7 +3,7 @@
 -- Assumes nothing.
 use mathlib.Core.Path.{◌≡◌, refl}
 use Prim.Native.Nat.{ℕ}
-use Rattle.theory.specs.Refusals.{refusal, if_taken}
+use Rattle.theory.specs.Refusals.{refusal}
 use Rattle.theory.proofs.Refusals.{if_taken_new, if_taken_old}
 use Rattle.refusals.specs.declared.Refusal.{Refusal}
 use Rattle.refusals.specs.Numbers.{number_of}

@@ -19,8 +19,9 @@ use Rattle.on_words.specs.declared.buffers.Buffer.{Buffer}
 use Rattle.on_words.specs.Buffers.{any_short}
 use Rattle.on_words.specs.Gate.{gate_number}
 use Rattle.on_words.specs.Writing.{write_buffers, written_of, WriteOn}
+use Rattle.kandurzo.specs.Laying.{Laid}
 use Rattle.kandurzo.specs.Writing.{write_call_causes, WriteCall}
-use Rattle.kandurzo.proofs.Gates.{gate_first, Laid}
+use Rattle.kandurzo.proofs.Gates.{gate_first}
 
 module _ (h : Head) (ps : List Pair) (text : List ℕ)
     {lent : List Buffer} (is : lent ≡ write_buffers (length text)) where

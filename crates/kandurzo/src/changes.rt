@@ -4,14 +4,16 @@ ghost use Rattle.on_words.specs.Placing.{placed_of};
 ghost use Rattle.kandurzo.specs.Listing.{started, changed_of, AddSays, RemoveSays};
 ghost use Rattle.kandurzo.specs.Placing.{PlaceSays};
 
+use crate::laying::lay_held;
 use on_words::edits::{add_on_words, remove_on_words};
 use on_words::gate::held;
 use pairfile::check_modules;
 use pairs::check_pair;
-use records::{Head, Pair, copy_in, copy_out, lookup};
+use records::{Head, Pair, copy_in, lookup};
 use refusals::Refusal;
 
 // The head of a list of n modules without pairs; refuses by 2.
+#[tactic(auto, using(lines::proofs::Found::handed_on, crate::proofs::Starting::started_refused, crate::proofs::Starting::started_done))]
 pub fn begun(n: u32) -> Result<Head, Refusal>
     ensures { changed_of result record { n = 0; m = 0 } ≡ started n }
 {
@@ -24,7 +26,7 @@ pub fn added(head: Head, list: &mut [Pair], a: u32, b: u32, w: u32) -> Result<He
     ensures { AddSays head list.old a b w (changed_of result head) list.new }
 {
     let mut words = [0u32; 12288];
-    copy_out(held(head, list)?, &mut words);
+    lay_held(head, list, &[], &mut words)?;
     let changed = add_on_words(head, list.len(), &mut words, a, b, w)?;
     copy_in(&mut list[..changed.m as usize], &words);
     Ok(changed)
@@ -36,7 +38,7 @@ pub fn removed(head: Head, list: &mut [Pair], a: u32, b: u32) -> Result<Head, Re
     ensures { RemoveSays head list.old a b (changed_of result head) list.new }
 {
     let mut words = [0u32; 12288];
-    copy_out(held(head, list)?, &mut words);
+    lay_held(head, list, &[], &mut words)?;
     let changed = remove_on_words(head, &mut words, a, b)?;
     copy_in(&mut list[..head.m as usize], &words);
     Ok(changed)

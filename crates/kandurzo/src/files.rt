@@ -4,15 +4,20 @@ ghost use Rattle.kandurzo.specs.Listing.{changed_of};
 ghost use Rattle.kandurzo.specs.Reading.{ReadCall};
 ghost use Rattle.kandurzo.specs.Writing.{WriteCall};
 
-use on_words::gate::held_beside;
+use crate::laying::lay_held;
 use on_words::reading::{Format, read_buffers};
 use on_words::writing::{write_buffers, write_on_words};
 use on_words::{any_short, clear};
-use records::{Head, Pair, copy_in, copy_out};
+use records::{Head, Pair, copy_in};
 use refusals::Refusal;
 
 // The head of the list in a file, whose pairs come into the records; refuses by 12 and the file's own numbers. The work buffer is cleared but after 12.
-pub fn read_as<F: Format>(bytes: &[u8], list: &mut [Pair], work: &mut [u32]) -> Result<Head, Refusal>
+#[tactic(auto, using(on_words::proofs::Enough::read_enough))]
+pub fn read_as<F: Format>(
+    bytes: &[u8],
+    list: &mut [Pair],
+    work: &mut [u32],
+) -> Result<Head, Refusal>
     ensures { ReadCall F.says bytes.now list.old work.old (changed_of result record { n = 0; m = 0 }) list.new work.new }
 {
     if any_short(&read_buffers(work.len())) {
@@ -27,10 +32,11 @@ pub fn read_as<F: Format>(bytes: &[u8], list: &mut [Pair], work: &mut [u32]) -> 
 }
 
 // The length of the list's file, written into the front of the text; refuses by 13, 12.
+#[tactic(auto, using(on_words::proofs::Enough::write_enough))]
 pub fn written(head: Head, list: &[Pair], text: &mut [u8]) -> Result<u32, Refusal>
     ensures { WriteCall head list.now text.old (written_of result) text.new }
 {
     let mut words = [0u32; 12288];
-    copy_out(held_beside(head, list, &write_buffers(text.len()))?, &mut words);
+    lay_held(head, list, &write_buffers(text.len()), &mut words)?;
     Ok(write_on_words(head, text, &words))
 }

@@ -6,6 +6,7 @@
 
 mod changes;
 mod files;
+mod laying;
 mod sheets;
 
 ghost use Rattle.std.specs.Prelude.{◌≡◌};

@@ -6,16 +6,17 @@ ghost use Rattle.kandurzo.specs.Peeling.{PeelCall};
 ghost use Rattle.kandurzo.specs.Solving.{SolveCall};
 ghost use Rattle.kandurzo.specs.Judging.{CheckCall, SurplusCall};
 
+use crate::laying::lay_held;
 use numbers::Ratio;
 use on_words::Solved;
-use on_words::gate::held_beside;
 use on_words::judging::{check_buffers, check_on_words, surplus_buffers, surplus_on_words};
 use on_words::peeling::{peel_buffers, peel_on_words};
 use on_words::solving::{solve_buffers, solve_on_words};
-use records::{Head, Pair, copy_out};
+use records::{Head, Pair};
 use refusals::Refusal;
 
 // Leaving order and core numbers; refuses by 13, 12.
+#[tactic(auto, using(on_words::proofs::Enough::peel_enough))]
 pub fn peeled(
     head: Head,
     list: &[Pair],
@@ -26,12 +27,13 @@ pub fn peeled(
     ensures { PeelCall head list.now order.old cores.old work.old (number_in result) order.new cores.new work.new }
 {
     let lent = peel_buffers(head, order.len(), cores.len(), work.len());
-    copy_out(held_beside(head, list, &lent)?, work);
+    lay_held(head, list, &lent, work)?;
     peel_on_words(head, order, cores, work);
     Ok(())
 }
 
 // Group, core numbers and load sheet; refuses by 13, 12.
+#[tactic(auto, using(on_words::proofs::Enough::solve_enough))]
 pub fn solved(
     head: Head,
     list: &[Pair],
@@ -44,24 +46,33 @@ pub fn solved(
         members.new cores.new shares.new work.new }
 {
     let lent = solve_buffers(head, members.len(), cores.len(), shares.len(), work.len());
-    copy_out(held_beside(head, list, &lent)?, work);
+    lay_held(head, list, &lent, work)?;
     Ok(solve_on_words(head, members, cores, shares, work))
 }
 
 // The ratio of a group whose load sheet is right; refuses by 13, 12, 7, 8, 9.
-pub fn checked(head: Head, list: &[Pair], members: &[u8], shares: &[u32], work: &mut [u32]) -> Result<Ratio, Refusal>
+#[tactic(auto, using(on_words::proofs::Enough::check_enough))]
+pub fn checked(
+    head: Head,
+    list: &[Pair],
+    members: &[u8],
+    shares: &[u32],
+    work: &mut [u32],
+) -> Result<Ratio, Refusal>
     ensures { CheckCall head list.now members.now shares.now work.old (verdict_of result) work.new }
 {
     let lent = check_buffers(head, members.len(), shares.len(), work.len());
-    copy_out(held_beside(head, list, &lent)?, work);
+    lay_held(head, list, &lent, work)?;
     check_on_words(head, members, shares, work)
 }
 
 // The surplus of the first group against the second; refuses by 13, 12, 7.
+#[tactic(auto, using(on_words::proofs::Enough::surplus_enough))]
 pub fn compared(head: Head, list: &[Pair], first: &[u8], second: &[u8]) -> Result<i64, Refusal>
     ensures { SurplusCall head list.now first.now second.now (difference_of result) }
 {
     let mut words = [0u32; 12288];
-    copy_out(held_beside(head, list, &surplus_buffers(head, first.len(), second.len()))?, &mut words);
+    let lent = surplus_buffers(head, first.len(), second.len());
+    lay_held(head, list, &lent, &mut words)?;
     surplus_on_words(head, first, second, &words)
 }

@@ -18,13 +18,19 @@ lookup-requires c = rw c.in_ok-held.ensures.records (place_rises _ _ c.in_ok-hel
 
 pub overflow_cast-result : goal.overflow_cast-result
 overflow_cast-result c =
-    omega (arith, place_few _ _ _ _ c.in_ok-held.ensures.agreed c.in_ok-check_pair.ensures c.min.ensures c.max.ensures
-    c.in_ok-held.ensures.records c.in-Ok.ensures)
+    omega (
+      arith,
+      place_few _ _ _ _ c.in_ok-held.ensures.agreed c.in_ok-check_pair.ensures c.min.ensures c.max.ensures
+          c.in_ok-held.ensures.records c.in-Ok.ensures,
+    )
 
 pub overflow_cast-result-in-Err : goal.overflow_cast-result-in-Err
 overflow_cast-result-in-Err c =
-    omega (arith, place_few _ _ _ _ c.in_ok-held.ensures.agreed c.in_ok-check_pair.ensures c.min.ensures c.max.ensures
-    c.in_ok-held.ensures.records c.in-Err.ensures)
+    omega (
+      arith,
+      place_few _ _ _ _ c.in_ok-held.ensures.agreed c.in_ok-check_pair.ensures c.min.ensures c.max.ensures
+          c.in_ok-held.ensures.records c.in-Err.ensures,
+    )
 
 pub returns-in-Ok : goal.returns-in-Ok
 unfolding mark

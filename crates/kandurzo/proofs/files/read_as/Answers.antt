@@ -27,6 +27,6 @@ pub returns : goal.returns
 returns g c =
     let long : 16384 ≤ length c.args.work.now = read_enough _ c.read_buffers.ensures (sym c.any_short.ensures ∙ c.if-any_short.false) in
     elim c.match-read.branch [
-      in-Ok w ↦ rw (w.read-is, w.list-is, w.copy_in.ensures, c.clear.ensures) (read_done _ _ _ _ long w.in-Ok.ensures)
+      | in-Ok w ↦ rw (w.read-is, w.list-is, w.copy_in.ensures, c.clear.ensures) (read_done _ _ _ _ long w.in-Ok.ensures)
       | in_default w ↦ rw (w.read-is, w.in_default.is, w.list-is, c.clear.ensures) (read_refused _ _ _ _ long _ w.in_default.ensures)
     ]
