@@ -14,13 +14,13 @@ use mathlib.Core.Bool.{Bool, true, false, ◌&&◌, ◌||◌, not}
 use mathlib.Core.List.{List, [], ◌∷◌}
 use Prim.Native.Nat.{ℕ, ◌+◌, ◌-◌, ◌≤◌, ◌<◌, min, max}
 use native.Mathlib.Omega.{arith}
-use lib.Dec.{eqb, ltb}
+use lib.Dec.{eqb}
 use lib.ListN.{length, get_or}
 use borrow.Author.Tests.{eqb-false, lt-ltb, le-ltb}
 use Rattle.std.proofs.Common.{Ok, Err}
 use Rattle.theory.specs.Basics.{all}
-use Rattle.theory.specs.Lists.{Pair, Pairs, pair, weight_in_range}
-use Rattle.theory.specs.Refusals.{cause, refusal, if_taken}
+use Rattle.theory.specs.Lists.{Pair, pair, weight_in_range}
+use Rattle.theory.specs.Refusals.{cause, refusal}
 use Rattle.theory.specs.Words.{laid_pairs, laid_list, HoldsList}
 use Rattle.theory.proofs.Lists.{listed}
 use Rattle.theory.proofs.Refusals.{refusal_passed, if_taken_new, if_taken_old}

@@ -1,4 +1,5 @@
--- Where no lent buffer is short, each is as long as stated.
+-- Where head and list agree, M records are there; where no lent buffer is short, each is as long as stated.
+--   records_enough       M records are there
 --   LongEnough, none_short, all_long    no buffer is short exactly where each is as long as stated
 --   peel_enough, check_enough, solve_enough, surplus_enough, write_enough, read_enough    a call's buffers then
 --   peel_long, check_long, solve_long    and its words, which are the work buffer's
@@ -8,15 +9,24 @@ use mathlib.Core.Bool.{Bool, true, false, ◌||◌}
 use mathlib.Core.List.{List, [], ◌∷◌}
 use Prim.Native.Nat.{ℕ, ◌≤◌}
 use native.Mathlib.Omega.{arith}
+use lib.ListN.{length, take}
+use lib.Seq.{length-take-le}
 use borrow.Author.Tests.{ltb-false, le-ltb}
 use Rattle.theory.proofs.Tests.{no}
 use Rattle.records.specs.declared.Head.{Head}
+use Rattle.records.specs.declared.Pair.{Pair}
+use Rattle.records.specs.Records.{agrees}
+use Rattle.records.proofs.Scans.{agrees_count}
 use Rattle.on_words.specs.Buffers.{Buffer, any_short}
 use Rattle.on_words.specs.Peeling.{peel_buffers}
 use Rattle.on_words.specs.Judging.{check_buffers, surplus_buffers}
 use Rattle.on_words.specs.Solving.{solve_buffers}
 use Rattle.on_words.specs.Writing.{write_buffers}
 use Rattle.on_words.specs.Reading.{read_buffers}
+
+-- where head and list agree, the first M records are M records
+pub records_enough : (h : Head) (ps : List Pair) → agrees h ps ≡ true → h.m ≡ length (take h.m ps)
+records_enough h ps e = sym (length-take-le h.m ps (agrees_count h ps e).0)
 
 -- every buffer is as long as stated
 abbrev pub LongEnough : List Buffer → Type 0

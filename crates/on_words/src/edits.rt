@@ -23,7 +23,14 @@ fn is_full(head: Head, len: usize) -> bool
 
 // Refuses stops more of the pair that lookup has found at `place`: 19 where the count of a held pair would pass 1,000, 11 where no record is free for a
 // new one.
-fn check_room(head: Head, len: usize, words: &[u32], place: Result<usize, usize>, stops: Stops) -> Result<(), Refusal>
+#[tactic(auto, using(crate::proofs::Changes::count_few))]
+fn check_room(
+    head: Head,
+    len: usize,
+    words: &[u32],
+    place: Result<usize, usize>,
+    stops: Stops,
+) -> Result<(), Refusal>
     requires holds_list { HoldsList head.n head.m words.now }
     requires found { place_in place ≡ located (pair stops.a stops.b) (laid_pairs head.m words.now) }
     requires few { stops.w ≤ 1000 }
@@ -39,7 +46,15 @@ fn check_room(head: Head, len: usize, words: &[u32], place: Result<usize, usize>
 }
 
 // Adds w stops of a pair to the list of `len` records whose held ones lie in the words; refuses by 5, 4, 18, 19, 11. Answers the head after it.
-pub fn add_on_words(head: Head, len: usize, words: &mut [u32], a: u32, b: u32, w: u32) -> Result<Head, Refusal>
+#[tactic(auto, using(pairs::proofs::Words::holds_rising, crate::proofs::Changes::raise_few))]
+pub fn add_on_words(
+    head: Head,
+    len: usize,
+    words: &mut [u32],
+    a: u32,
+    b: u32,
+    w: u32,
+) -> Result<Head, Refusal>
     requires holds_list { HoldsList head.n head.m words.old }
     requires fits { head.m ≤ len }
     ensures { AddOn head len words.old a b w result words.new }
@@ -58,6 +73,7 @@ pub fn add_on_words(head: Head, len: usize, words: &mut [u32], a: u32, b: u32, w
 }
 
 // Removes a pair with its whole count, and the words of the record freed become 0; refuses by 5, 4, 14. Answers the head after it.
+#[tactic(auto, using(pairs::proofs::Words::holds_rising))]
 pub fn remove_on_words(head: Head, words: &mut [u32], a: u32, b: u32) -> Result<Head, Refusal>
     requires { HoldsList head.n head.m words.old }
     ensures { RemoveOn head words.old a b result words.new }

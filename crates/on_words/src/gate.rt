@@ -11,7 +11,7 @@ use records::{Head, Pair, agree};
 use refusals::Refusal;
 
 // The records that are held; refuses by 13.
-#[tactic(auto, unfolding(theory::specs::Refusals::cause, theory::specs::Refusals::refusal))]
+#[tactic(auto, using(crate::proofs::Enough::records_enough), unfolding(theory::specs::Refusals::cause, theory::specs::Refusals::refusal))]
 pub fn held<'a>(head: Head, list: &'a [Pair]) -> Result<&'a [Pair], Refusal>
     ensures number { number_in result ≡ refusal (cause 13 (not (agrees head list.now)) ∷ []) }
     ensures agreed { OnOk result (IsTrue (agrees head list.now)) }

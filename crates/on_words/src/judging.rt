@@ -16,14 +16,19 @@ pub fn check_buffers(head: Head, members: usize, shares: usize, work: usize) -> 
     ensures { result ≡ check_buffers head members shares work }
 {
     [
-        Buffer { has: members, needs: head.n as usize },
-        Buffer { has: shares, needs: head.m as usize },
-        Buffer { has: work, needs: 16384 },
+        Buffer::new(members, head.n as usize),
+        Buffer::new(shares, head.m as usize),
+        Buffer::new(work, 16384),
     ]
 }
 
 // Check of the list in the words; refuses by 7, 8, 9.
-pub fn check_on_words(head: Head, members: &[u8], shares: &[u32], work: &mut [u32]) -> Result<Ratio, Refusal>
+pub fn check_on_words(
+    head: Head,
+    members: &[u8],
+    shares: &[u32],
+    work: &mut [u32],
+) -> Result<Ratio, Refusal>
     requires holds_list { HoldsList head.n head.m work.old }
     requires members_long { head.n ≤ length members.now }
     requires shares_long { head.m ≤ length shares.now }
@@ -41,15 +46,24 @@ pub fn surplus_buffers(head: Head, first: usize, second: usize) -> [Buffer; 2]
     ensures { result ≡ surplus_buffers head first second }
 {
     let n = head.n as usize;
-    [Buffer { has: first, needs: n }, Buffer { has: second, needs: n }]
+    [Buffer::new(first, n), Buffer::new(second, n)]
 }
 
 // Surplus of the list in the words; refuses by 7.
-pub fn surplus_on_words(head: Head, first: &[u8], second: &[u8], words: &[u32]) -> Result<i64, Refusal>
+pub fn surplus_on_words(
+    head: Head,
+    first: &[u8],
+    second: &[u8],
+    words: &[u32],
+) -> Result<i64, Refusal>
     requires holds_list { HoldsList head.n head.m words.now }
     requires first_long { head.n ≤ length first.now }
     requires second_long { head.n ≤ length second.now }
     ensures { SurplusOn head first.now second.now words.now (difference_of result) }
 {
-    surplus_words(List::in_words(head.n as usize, head.m as usize, words), first, second)
+    surplus_words(
+        List::in_words(head.n as usize, head.m as usize, words),
+        first,
+        second,
+    )
 }

@@ -60,8 +60,16 @@ impl From<Result<Result<u32, u32>, Refusal>> for Placed {
 
     fn from(answer: Result<Result<u32, u32>, Refusal>) -> Placed {
         match answer {
-            Ok(Ok(at)) => Placed { number: 0, held: 1, at },
-            Ok(Err(at)) => Placed { number: 0, held: 0, at },
+            Ok(Ok(at)) => Placed {
+                number: 0,
+                held: 1,
+                at,
+            },
+            Ok(Err(at)) => Placed {
+                number: 0,
+                held: 0,
+                at,
+            },
             Err(refusal) => Placed {
                 number: u32::from(refusal),
                 held: 0,

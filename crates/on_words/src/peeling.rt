@@ -14,9 +14,9 @@ pub fn peel_buffers(head: Head, order: usize, cores: usize, work: usize) -> [Buf
 {
     let n = head.n as usize;
     [
-        Buffer { has: order, needs: n },
-        Buffer { has: cores, needs: n },
-        Buffer { has: work, needs: 16384 },
+        Buffer::new(order, n),
+        Buffer::new(cores, n),
+        Buffer::new(work, 16384),
     ]
 }
 

@@ -12,7 +12,7 @@ use refusals::Refusal;
 pub fn read_buffers(work: usize) -> [Buffer; 1]
     ensures { result ≡ read_buffers work }
 {
-    [Buffer { has: work, needs: 16384 }]
+    [Buffer::new(work, 16384)]
 }
 
 // A form of files that name the pairs of a list.

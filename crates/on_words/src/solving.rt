@@ -9,20 +9,27 @@ use densest::{Effort, PHASES, solve};
 use records::Head;
 
 // What is lent: N entries of members and of cores, M of shares, 16,384 of work.
-pub fn solve_buffers(head: Head, members: usize, cores: usize, shares: usize, work: usize) -> [Buffer; 4]
+pub fn solve_buffers(
+    head: Head,
+    members: usize,
+    cores: usize,
+    shares: usize,
+    work: usize,
+) -> [Buffer; 4]
     ensures { result ≡ solve_buffers head members cores shares work }
 {
     let n = head.n as usize;
     let m = head.m as usize;
     [
-        Buffer { has: members, needs: n },
-        Buffer { has: cores, needs: n },
-        Buffer { has: shares, needs: m },
-        Buffer { has: work, needs: 16384 },
+        Buffer::new(members, n),
+        Buffer::new(cores, n),
+        Buffer::new(shares, m),
+        Buffer::new(work, 16384),
     ]
 }
 
 // Group, core numbers and load sheet of the list in the words. Any effort gives such an answer.
+#[tactic(auto, using(crate::proofs::Sheets::front_holds))]
 pub fn solve_on_words(
     head: Head,
     members: &mut [u8],
@@ -42,7 +49,15 @@ pub fn solve_on_words(
         arcs: head.m as usize,
     };
     let words = &mut work[..12288];
-    let found = solve(head.n as usize, head.m as usize, effort, words, members, cores, shares);
+    let found = solve(
+        head.n as usize,
+        head.m as usize,
+        effort,
+        words,
+        members,
+        cores,
+        shares,
+    );
     clear(work);
     Solved {
         number: 0,

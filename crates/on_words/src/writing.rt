@@ -12,7 +12,7 @@ use records::Head;
 pub fn write_buffers(text: usize) -> [Buffer; 1]
     ensures { result ≡ write_buffers text }
 {
-    [Buffer { has: text, needs: 65536 }]
+    [Buffer::new(text, 65536)]
 }
 
 // The file of the list in the words, in front of the text; answers its length.
@@ -21,5 +21,8 @@ pub fn write_on_words(head: Head, text: &mut [u8], words: &[u32]) -> u32
     requires text_long { 65536 ≤ length text.old }
     ensures { WriteOn head text.old words.now result text.new }
 {
-    write_words(List::in_words(head.n as usize, head.m as usize, words), text) as u32
+    write_words(
+        List::in_words(head.n as usize, head.m as usize, words),
+        text,
+    ) as u32
 }

@@ -1,9 +1,7 @@
 -- `on_words::edits::add_on_words` meets its contract: each cause in its order, then the change. Assumes nothing.
 use Rattle.std.proofs.Common.{sym}
-use native.Mathlib.Omega.{arith}
-use Rattle.pairs.proofs.Words.{holds_rising}
 use Rattle.lines.proofs.Found.{handed_on}
-use Rattle.on_words.proofs.Changes.{add_unfit, add_miscounted, add_full, add_done, stops_few, raise_fits, raise_few}
+use Rattle.on_words.proofs.Changes.{add_unfit, add_miscounted, add_full, add_done, stops_few, raise_fits}
 use Rattle.on_words.proofs.edits.add_on_words.Goals as goal
 
 pub returns-in_err-check_pair : goal.returns-in_err-check_pair
@@ -13,9 +11,6 @@ pub returns-in_err-check_count : goal.returns-in_err-check_count
 returns-in_err-check_count c =
     rw (handed_on c.from_residual-in_err-check_count.ensures.1)
     (add_miscounted _ _ _ _ _ _ (sym c.in_ok-check_pair.ensures) _ c.in_err-check_count.ensures)
-
-pub lookup-place-requires : goal.lookup-place-requires
-lookup-place-requires c = holds_rising _ _ _ c.requires.holds_list
 
 pub check_room-requires-clause-few : goal.check_room-requires-clause-few
 check_room-requires-clause-few c = stops_few _ _ _ c.new-stops.ensures (sym c.in_ok-check_count.ensures)
@@ -29,12 +24,6 @@ pub raise-count-requires : goal.raise-count-requires
 raise-count-requires c =
     raise_fits _ _ _ _ _ _ (sym c.in_ok-check_pair.ensures) (sym c.in_ok-check_count.ensures) c.new-stops.ensures c.in_ok-check_room.ensures
     c.lookup-place.ensures c.requires.holds_list c.requires.fits
-
-pub overflow_cast-result : goal.overflow_cast-result
-overflow_cast-result c =
-    let few = raise_few _ _ _ _ _ _ (sym c.in_ok-check_pair.ensures) (sym c.in_ok-check_count.ensures) c.new-stops.ensures c.in_ok-check_room.ensures
-    c.lookup-place.ensures c.requires.holds_list c.requires.fits in
-    omega (arith, c.raise-count.ensures.held, few)
 
 pub returns : goal.returns
 returns c =

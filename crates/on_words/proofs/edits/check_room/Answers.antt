@@ -2,7 +2,7 @@
 use Rattle.std.proofs.Common.{◌+◌, ◌≤◌, sym, ◌∙◌}
 use native.Mathlib.Omega.{arith}
 use Rattle.theory.specs.Refusals.{cause, refusal}
-use Rattle.on_words.proofs.Changes.{place_below, count_there, count_few, is_there, not_there, count_none, passes, stays}
+use Rattle.on_words.proofs.Changes.{place_below, count_there, is_there, not_there, count_none, passes, stays}
 use Rattle.on_words.proofs.edits.check_room.Goals as goal
 
 pub overflow_add-at : goal.overflow_add-at
@@ -13,9 +13,6 @@ offset_bounds-words-at c = omega (arith, place_below _ _ _ c.requires.holds_list
 
 pub bounds-words-at : goal.bounds-words-at
 bounds-words-at c = omega (arith, place_below _ _ _ c.requires.holds_list _ (rw c.in-Ok.is at c.requires.found))
-
-pub overflow_add-words : goal.overflow_add-words
-overflow_add-words c = omega (arith, count_few _ _ _ c.requires.holds_list _ (rw c.in-Ok.is at c.requires.found), c.requires.few)
 
 pub returns-in-Ok : goal.returns-in-Ok
 unfolding refusal cause
