@@ -32,8 +32,7 @@ use Rattle.records.specs.Records.{as_pair, held_list, agrees, blank}
 use Rattle.kandurzo.specs.declared.Changed.{Changed}
 use Rattle.on_words.specs.declared.Placed.{Placed}
 use Rattle.on_words.specs.Edits.{head_of, is_full}
-use Rattle.kandurzo.specs.Listing.{as_record, as_records, add_number, pairs_then, added, AddSays, remove_number, removed}
-use Rattle.kandurzo.specs.Listing.{RemoveSays}
+use Rattle.kandurzo.specs.Listing.{as_record, as_records, add_number, pairs_then, added, AddSays, remove_number, removed, RemoveSays}
 use Rattle.kandurzo.specs.Placing.{place_number, PlaceSays, PutThere, AddPutsThere, RaisedThere, AddRaisesThere, TakenThere}
 use Rattle.kandurzo.specs.Placing.{RemoveTakesThere, RefusedAsRemove, EveryPlaceAnswered}
 use Rattle.kandurzo.proofs.Stopping.{new_count}

@@ -37,8 +37,7 @@ use Rattle.on_words.proofs.Orders.{add_13, remove_13}
 use Rattle.on_words.proofs.Changes.{raised_few, raised_there}
 use Rattle.on_words.proofs.Fits.{freed_pair, list_fits, freed_fits}
 use Rattle.kandurzo.specs.Laying.{Laid}
-use Rattle.kandurzo.specs.Listing.{as_record, as_records, changed_of, add_number, pairs_then, added, AddSays}
-use Rattle.kandurzo.specs.Listing.{remove_number, removed, RemoveSays}
+use Rattle.kandurzo.specs.Listing.{as_record, as_records, changed_of, add_number, pairs_then, added, AddSays, remove_number, removed, RemoveSays}
 use Rattle.kandurzo.proofs.Gates.{disagrees, none_lent}
 use Rattle.kandurzo.proofs.Taken.{as_records_back, held_is_list, taken_removable, added_list}
 

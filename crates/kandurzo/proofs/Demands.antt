@@ -19,8 +19,7 @@ use Rattle.theory.specs.Check.{check_number}
 use Rattle.theory.specs.Surplus.{surplus_number}
 use Rattle.theory.proofs.Tests.{tests}
 use Rattle.theory.proofs.Refusals.{if_taken_old}
-use Rattle.lines.specs.Outcomes.{Outcome, refused, taken}
-use Rattle.pairfile.specs.Tried.{number_given}
+use Rattle.lines.specs.Outcomes.{Outcome, refused, taken, number_given}
 use Rattle.pairfile.specs.Answers.{pairs_of}
 use Rattle.verify.specs.declared.Verdict.{Verdict}
 use Rattle.records.specs.declared.Pair.{Pair}
@@ -38,8 +37,7 @@ use Rattle.on_words.specs.Judging.{check_buffers, surplus_buffers}
 use Rattle.kandurzo.specs.Judging.{check_call_causes, CheckCall, surplus_call_causes}
 use Rattle.on_words.specs.Solving.{solve_buffers}
 use Rattle.kandurzo.specs.Solving.{solve_call_causes}
-use Rattle.kandurzo.specs.Promise.{Lent, LentHeld, EveryListPeeled, EveryListSolved, EveryListJudged, EveryListCompared}
-use Rattle.kandurzo.specs.Promise.{RefusalsKeep, FifteenNever}
+use Rattle.kandurzo.specs.Promise.{Lent, LentHeld, EveryListPeeled, EveryListSolved, EveryListJudged, EveryListCompared, RefusalsKeep, FifteenNever}
 use Rattle.on_words.proofs.Filling.{work_zeros, left_open}
 use Rattle.on_words.proofs.Enough.{LongEnough, all_long}
 use Rattle.kandurzo.proofs.Gates.{gate_then}

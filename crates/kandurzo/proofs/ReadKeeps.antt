@@ -14,9 +14,8 @@ use lib.Seq.{drop_at}
 use Rattle.theory.specs.Lists as Lists
 use Rattle.theory.specs.Lists.{Pairs}
 use Rattle.pairs.proofs.Keeps.{counts_once}
-use Rattle.lines.specs.Outcomes.{Outcome, taken}
+use Rattle.lines.specs.Outcomes.{Outcome, taken, number_given}
 use Rattle.pairfile.specs.Promise.{Names, NamesStops, all_once}
-use Rattle.pairfile.specs.Tried.{number_given}
 use Rattle.pairfile.specs.Answers.{pairs_of}
 use Rattle.pairfile.proofs.Accepts as File
 use Rattle.pairfile.proofs.ReadsEvery.{gathered, gathered_read, gathered_ones}

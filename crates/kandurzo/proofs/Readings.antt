@@ -18,9 +18,8 @@ use Rattle.theory.proofs.Words.{length_laid, holds_few}
 use Rattle.refusals.specs.declared.Refusal.{Refusal}
 use Rattle.refusals.specs.declared.Refusal.TheVariants.{BufferTooShort}
 use Rattle.refusals.specs.Numbers.{number_of}
-use Rattle.lines.specs.Outcomes.{Outcome, refused, taken, outcome_of}
+use Rattle.lines.specs.Outcomes.{Outcome, refused, taken, outcome_of, number_given}
 use Rattle.lines.proofs.Taken.{refused_not_taken}
-use Rattle.pairfile.specs.Tried.{number_given}
 use Rattle.pairfile.specs.Answers.{pairs_of}
 use Rattle.records.specs.declared.Pair.{Pair}
 use Rattle.records.specs.declared.Head.{Head}

@@ -20,11 +20,9 @@ use Rattle.pairs.specs.Causes.{pair_causes, add_causes, remove_causes}
 use Rattle.pairs.specs.Twice.{FiveElseFour, four_first, unknown_twice, From4To5, OnlyTwiceChanges}
 use Rattle.pairs.proofs.Twice.{Gives, five_else_four, only_twice_changes}
 use Rattle.lines.specs.Lines.{first, second}
-use Rattle.lines.specs.Outcomes.{refused, taken, ◌>>=◌, ◌>>◌, passed, judge, line_or, line_due}
+use Rattle.lines.specs.Outcomes.{refused, taken, ◌>>=◌, ◌>>◌, passed, judge, line_or, line_due, number_given}
 use Rattle.pairfile.specs.File.{pair_line_causes, pair_line}
 use Rattle.pairfile.specs.Promise.{names_two, names_stops}
-use Rattle.pairfile.specs.Tried.{number_given}
-use Rattle.pairfile.specs.Tried.{number_given}
 use Rattle.pairfile.proofs.Twice as File
 use Rattle.dimacs.specs.Edges.{edge_causes, edge_line}
 use Rattle.dimacs.proofs.Twice as Dimacs

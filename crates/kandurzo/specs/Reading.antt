@@ -4,7 +4,7 @@
 -- Assumes nothing: these are definitions.
 use Rattle.std.specs.Prelude.{◌≡◌, List, ◌++◌, ℕ, length, drop}
 use Rattle.theory.specs.Lists as Lists
-use Rattle.pairfile.specs.Tried.{number_given}
+use Rattle.lines.specs.Outcomes.{number_given}
 use Rattle.pairfile.specs.Answers.{pairs_of}
 use Rattle.records.specs.declared.Pair.{Pair}
 use Rattle.kandurzo.specs.declared.Changed.{Changed}

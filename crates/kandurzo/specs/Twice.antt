@@ -15,7 +15,7 @@ use Rattle.pairs.specs.Twice.{FiveElseFour, four_first, unknown_twice, From4To5}
 use Rattle.lines.specs.Lines.{Line, first, second, third, line_of, filled}
 use Rattle.pairfile.specs.File.{modules_form, pairs_form, pair_form, pair_line, read_file, pair_lines}
 use Rattle.pairfile.specs.Promise.{names_two, Different}
-use Rattle.pairfile.specs.Tried.{number_given}
+use Rattle.lines.specs.Outcomes.{number_given}
 use Rattle.dimacs.specs.Edges.{problem_form, edge_form, named_pair, edge_line, read_dimacs, edge_lines}
 use Rattle.records.specs.declared.Pair.{Pair}
 use Rattle.records.specs.declared.Head.{Head}

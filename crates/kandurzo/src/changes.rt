@@ -45,6 +45,7 @@ pub fn removed(head: Head, list: &mut [Pair], a: u32, b: u32) -> Result<Head, Re
 }
 
 // Where the pair of a and b is held, or else where it would go; refuses by 13, 5, 4.
+#[tactic(auto, using(crate::proofs::Placings::place_rises, crate::proofs::Placings::place_few))]
 pub fn found(head: Head, list: &[Pair], a: u32, b: u32) -> Result<Result<u32, u32>, Refusal>
     ensures { PlaceSays head list.now a b (placed_of result) }
 {

@@ -1,8 +1,7 @@
 -- `kandurzo::changes::found` meets its contract: what the lookup finds among the held records. Assumes nothing.
-use native.Mathlib.Omega.{arith}
 use Rattle.theory.specs.Basics.{mark}
 use Rattle.lines.proofs.Found.{handed_on}
-use Rattle.kandurzo.proofs.Placings.{place_rises, place_disagrees, place_unfit, place_few, place_done}
+use Rattle.kandurzo.proofs.Placings.{place_disagrees, place_unfit, place_done}
 use Rattle.kandurzo.proofs.changes.found.Goals as goal
 
 pub returns-in_err-held : goal.returns-in_err-held
@@ -12,25 +11,6 @@ pub returns-in_err-check_pair : goal.returns-in_err-check_pair
 returns-in_err-check_pair c =
     rw (handed_on c.from_residual-in_err-check_pair.ensures.1)
     (place_unfit _ _ _ _ c.in_ok-held.ensures.agreed _ c.in_err-check_pair.ensures)
-
-pub lookup-requires : goal.lookup-requires
-lookup-requires c = rw c.in_ok-held.ensures.records (place_rises _ _ c.in_ok-held.ensures.agreed)
-
-pub overflow_cast-result : goal.overflow_cast-result
-overflow_cast-result c =
-    omega (
-      arith,
-      place_few _ _ _ _ c.in_ok-held.ensures.agreed c.in_ok-check_pair.ensures c.min.ensures c.max.ensures
-          c.in_ok-held.ensures.records c.in-Ok.ensures,
-    )
-
-pub overflow_cast-result-in-Err : goal.overflow_cast-result-in-Err
-overflow_cast-result-in-Err c =
-    omega (
-      arith,
-      place_few _ _ _ _ c.in_ok-held.ensures.agreed c.in_ok-check_pair.ensures c.min.ensures c.max.ensures
-          c.in_ok-held.ensures.records c.in-Err.ensures,
-    )
 
 pub returns-in-Ok : goal.returns-in-Ok
 unfolding mark
