@@ -2,13 +2,11 @@
 --   records_enough       M records are there
 --   LongEnough, none_short, all_long    no buffer is short exactly where each is as long as stated
 --   peel_enough, check_enough, solve_enough, surplus_enough, write_enough, read_enough    a call's buffers then
---   peel_long, check_long, solve_long    and its words, which are the work buffer's
 -- Assumes nothing.
 use mathlib.Core.Path.{◌≡◌, refl, sym}
 use mathlib.Core.Bool.{Bool, true, false, ◌||◌}
 use mathlib.Core.List.{List, [], ◌∷◌}
 use Prim.Native.Nat.{ℕ, ◌≤◌}
-use native.Mathlib.Omega.{arith}
 use lib.ListN.{length, take}
 use lib.Seq.{length-take-le}
 use borrow.Author.Tests.{ltb-false, le-ltb}
@@ -57,23 +55,14 @@ module _ (h : Head) (order cores work : ℕ) {lent : List Buffer} (is : lent ≡
   pub peel_enough : (h.n ≤ order) × (h.n ≤ cores) × (16384 ≤ work)
   peel_enough = let x = none_short _ (rw is at none) in (x.0, x.1.0, x.1.1)
 
-  pub peel_long : 12288 ≤ work
-  peel_long = omega (arith, peel_enough.2)
-
 module _ (h : Head) (members shares work : ℕ) {lent : List Buffer} (is : lent ≡ check_buffers h members shares work) (none : any_short lent ≡ false) where
   pub check_enough : (h.n ≤ members) × (h.m ≤ shares) × (16384 ≤ work)
   check_enough = let x = none_short _ (rw is at none) in (x.0, x.1.0, x.1.1)
-
-  pub check_long : 12288 ≤ work
-  check_long = omega (arith, check_enough.2)
 
 module _ (h : Head) (members cores shares work : ℕ) {lent : List Buffer} (is : lent ≡ solve_buffers h members cores shares work)
     (none : any_short lent ≡ false) where
   pub solve_enough : (h.n ≤ members) × (h.n ≤ cores) × (h.m ≤ shares) × (16384 ≤ work)
   solve_enough = let x = none_short _ (rw is at none) in (x.0, x.1.0, x.1.1.0, x.1.1.1)
-
-  pub solve_long : 12288 ≤ work
-  solve_long = omega (arith, solve_enough.3)
 
 pub surplus_enough : (h : Head) (first second : ℕ) {lent : List Buffer} → lent ≡ surplus_buffers h first second → any_short lent ≡ false →
     (h.n ≤ first) × (h.n ≤ second)
