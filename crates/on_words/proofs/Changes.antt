@@ -1,5 +1,6 @@
 -- What add and remove do on words.
---   place_below, place_bound, count_there, count_few    what lies at the place of a held pair that lookup has found
+--   is_there, place_below, count_there, count_few       what lies at the place of a held pair that lookup has found
+--   not_there, count_none                               what is known of a pair that it has not found
 --   found_at                        as lookup is asked of the pair of a and b
 --   passes, stays                   19 by its count
 --   found_pair                      the pair of some stops
@@ -116,6 +117,10 @@ full_less h len few fits e = go (eqb h.m 4096) (eqb h.m len) refl refl e
         let b : h.m ≡ len → ⊥ = eqb-false h.m len g in
         (omega arith, omega arith)
 
+-- 5 and 4 stand first, since head and list agree
+first : (n a b : ℕ) → First false n a b ≡ refusal (pair_causes 0 n a b)
+first n a b = refusal_passed 13 false (pair_causes 0 n a b) refl
+
 -- ---- add
 
 -- the pair of some stops
@@ -189,13 +194,10 @@ module _ (h : Head) (len : ℕ) (words : List ℕ) (a b w : ℕ) where
   add_left e is = record { number = is; head = tt; after = sym (if_taken_old (number_of e) _ words (numbered e)) }
 
   -- 5, 4
-  first : First false h.n a b ≡ refusal (pair_causes 0 h.n a b)
-  first = refusal_passed 13 false (pair_causes 0 h.n a b) refl
-
   pub add_unfit : (e : Refusal) → number_of e ≡ refusal (pair_causes 0 h.n a b) → AddOn h len words a b w (Err e) words
   unfolding add_on_number laid_list
   add_unfit e f =
-      let k : number_of e ≡ First false h.n a b = f ∙ sym first in
+      let k : number_of e ≡ First false h.n a b = f ∙ sym (first h.n a b) in
       add_left e (k ∙ sym (add_first false (laid_list h.n h.m words) (is_full h len) a b w (λ z. numbered e (k ∙ z))))
 
   module _ (fit : refusal (pair_causes 0 h.n a b) ≡ 0) where
@@ -203,7 +205,7 @@ module _ (h : Head) (len : ℕ) (words : List ℕ) (a b w : ℕ) where
     pub add_miscounted : (e : Refusal) → number_of e ≡ refusal (count_causes w) → AddOn h len words a b w (Err e) words
     unfolding add_on_number laid_list
     add_miscounted e f =
-        add_left e (f ∙ sym (add_18 false (laid_list h.n h.m words) (is_full h len) a b w (first ∙ fit) (λ z. numbered e (f ∙ z))))
+        add_left e (f ∙ sym (add_18 false (laid_list h.n h.m words) (is_full h len) a b w (first h.n a b ∙ fit) (λ z. numbered e (f ∙ z))))
 
     module _ (count : refusal (count_causes w) ≡ 0) {s : Stops} (same : counted s ≡ stops_of a b w) where
       -- 19, 11
@@ -213,7 +215,7 @@ module _ (h : Head) (len : ℕ) (words : List ℕ) (a b w : ℕ) where
       unfolding add_on_number laid_list
       room_number f =
           rw (found_pair a b w same, count_is a b w same) at f
-          ∙ sym (add_room false (laid_list h.n h.m words) (is_full h len) a b w (first ∙ fit) count)
+          ∙ sym (add_room false (laid_list h.n h.m words) (is_full h len) a b w (first h.n a b ∙ fit) count)
 
       pub add_full : (e : Refusal) → (let q = pair s.a s.b in
           number_of e ≡ refusal (cause 19 (count_passes q s.w held_now) ∷ cause 11 (not (is_held q held_now) && is_full h len) ∷ [])) →
@@ -250,10 +252,11 @@ module _ (h : Head) (words : List ℕ) (a b : ℕ) where
   remove_left : (e : Refusal) → number_of e ≡ remove_on_number h words a b → RemoveOn h words a b (Err e) words
   remove_left e is = record { number = is; head = tt; after = sym (if_taken_old (number_of e) _ words (numbered e)) }
 
+  -- 5, 4
   pub remove_unfit : (e : Refusal) → number_of e ≡ refusal (pair_causes 0 h.n a b) → RemoveOn h words a b (Err e) words
   unfolding remove_on_number laid_list
   remove_unfit e f =
-      let k : number_of e ≡ First false h.n a b = f ∙ sym (first h 0 words a b 0) in
+      let k : number_of e ≡ First false h.n a b = f ∙ sym (first h.n a b) in
       remove_left e (k ∙ sym (remove_first false (laid_list h.n h.m words) a b (λ z. numbered e (k ∙ z))))
 
   module _ (fit : refusal (pair_causes 0 h.n a b) ≡ 0) (holds : HoldsList h.n h.m words) where
@@ -262,7 +265,7 @@ module _ (h : Head) (words : List ℕ) (a b : ℕ) where
         RemoveOn h words a b (Err e) words
     unfolding remove_on_number laid_list
     remove_missing e f found =
-        remove_left e (f ∙ sym (remove_14 false (laid_list h.n h.m words) a b (first h 0 words a b 0 ∙ fit)
+        remove_left e (f ∙ sym (remove_14 false (laid_list h.n h.m words) a b (first h.n a b ∙ fit)
         (not_there h.n h.m words holds (smaller_first_pair a b) found)))
 
     pub remove_done : {i : ℕ} {words' : List ℕ} → place_in (Ok i) ≡ located (smaller_first_pair a b) (laid_pairs h.m words) →
@@ -271,7 +274,7 @@ module _ (h : Head) (words : List ℕ) (a b : ℕ) where
     remove_done found f =
         record {
           number =
-              sym (remove_taken false (laid_list h.n h.m words) a b (first h 0 words a b 0 ∙ fit)
+              sym (remove_taken false (laid_list h.n h.m words) a b (first h.n a b ∙ fit)
               (is_there h.n h.m words holds (smaller_first_pair a b) found));
           head = refl;
           after = f ∙ ap (λ (x : Place). delete_at h.m x.at words) found ∙ sym (if_taken_new 0 _ words refl);
