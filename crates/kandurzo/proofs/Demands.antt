@@ -9,9 +9,9 @@
 use mathlib.Core.Path.{◌≡◌, refl, sym, ap, ◌∙◌}
 use mathlib.Core.Bool.{Bool, true, false, not, cond}
 use mathlib.Core.List.{List, [], ◌∷◌}
-use Prim.Native.Nat.{ℕ, zero, suc, ◌≤◌}
+use Prim.Native.Nat.{ℕ, ◌≤◌}
 use native.Mathlib.Omega.{arith}
-use lib.ListN.{length, take}
+use lib.ListN.{length, take, length-take}
 use Rattle.theory.specs.Lists as Lists
 use Rattle.theory.specs.Lists.{Pairs}
 use Rattle.theory.specs.Refusals.{Cause, cause, refusal, if_taken}
@@ -48,9 +48,7 @@ use Rattle.kandurzo.proofs.Taken.{as_pairs_back, length_as_records, held_is_list
 
 -- entries that can be taken are there
 pub front_long : {A : Type 0} (k : ℕ) (xs : List A) → length (take k xs) ≡ k → k ≤ length xs
-front_long zero xs e = omega arith
-front_long (suc k) [] e = absurd (omega arith)
-front_long (suc k) (x ∷ xs) e = omega (arith, front_long k xs (omega arith))
+front_long k xs e = omega (arith, length-take k xs)
 
 module _ {g : Pairs} {h : Head} {ps : List Pair} (lent : Lent g h ps) where
   abbrev m : ℕ
