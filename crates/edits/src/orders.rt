@@ -2,13 +2,13 @@
 // to the first. Head and held records must be those of the list itself. The calls are add_to, on the second list, which holds no pairs at first.
 use crate::draws::{Ask, asked, listed};
 use crate::steps::{Altered, Run};
-use crate::{answers, runs, steps};
-use model::{below, front};
+use crate::{answers, steps};
+use model::{below, front, litter};
 use records::Head;
 use std::alloc::{AllocError, Global};
 
 // Takes the pairs of the list's held records out of the model.
-fn clear(run: &mut Run) {
+fn take_out(run: &mut Run) {
     for j in 0..run.head.m {
         if let Some((a, b, _)) = listed(run, j) {
             run.model.take(a, b);
@@ -75,9 +75,8 @@ fn alter(run: &mut Run) {
 fn compare(run: &mut Run) {
     alter(run);
     run.tally.note(run.own_head == run.head);
-    let list = front(run.list.as_slice(), run.head.m as usize);
-    let own = front(run.own.as_slice(), run.head.m as usize);
-    let same = list == own;
+    let m = run.head.m as usize;
+    let same = front(run.list.as_slice(), m) == front(run.own.as_slice(), m);
     run.tally.list(same);
 }
 
@@ -86,8 +85,8 @@ pub(crate) fn again(run: &mut Run, alloc: Global) -> Result<(), AllocError> {
     if run.plan.again == 0 {
         return Ok(());
     }
-    clear(run);
-    run.own = runs::litter(alloc, run.plan.len)?;
+    take_out(run);
+    run.own = litter(alloc, run.plan.len, 1001)?;
     run.own_head = Head {
         n: run.plan.n,
         m: 0,

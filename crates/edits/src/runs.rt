@@ -5,24 +5,9 @@
 use crate::steps::{Altered, Plan, Run};
 use crate::tally::Tally;
 use crate::{orders, spoils, steps};
-use model::{Random, Stops};
-use records::Pair;
+use model::{Random, Stops, litter};
 use std::alloc::{AllocError, Global};
 use std::io;
-
-// A list of records with numbers from 60,000 on, which are no module's, and counts from 1,001 on, which no pair has.
-pub(crate) fn litter(alloc: Global, len: u16) -> Result<Vec<Pair>, AllocError> {
-    (0..len)
-        .map(|j| {
-            let x = j.wrapping_add(60000);
-            Pair {
-                a: x,
-                b: x,
-                w: j.wrapping_add(1001),
-            }
-        })
-        .collect(alloc)
-}
 
 // What a line counts, and the random numbers of its runs.
 #[derive(Clone, Copy)]
@@ -35,7 +20,7 @@ struct Line {
 fn begin() -> Line {
     Line {
         random: Random { last: 2463534242 },
-        tally: Tally::new(),
+        tally: Tally::default(),
     }
 }
 
@@ -45,10 +30,10 @@ fn course(alloc: Global, plan: Plan, line: Line) -> Result<Line, AllocError> {
     let mut run = Run {
         plan,
         head,
-        list: litter(alloc, plan.len)?,
+        list: litter(alloc, plan.len, 1001)?,
         own_head: head,
-        own: litter(alloc, plan.len)?,
-        due: litter(alloc, plan.len)?,
+        own: litter(alloc, plan.len, 1001)?,
+        due: litter(alloc, plan.len, 1001)?,
         model: Stops::new(alloc),
         random: line.random,
         tally: line.tally,
@@ -123,42 +108,34 @@ fn filled(n: u32, adds: u32) -> Plan {
     }
 }
 
-// A run with one thing altered before it is compared.
-fn altered_run(
-    rt: &impl Print,
-    alloc: Global,
-    name: &str,
-    altered: Altered,
-    again: u32,
-) -> io::Result<()> {
-    let plan = Plan {
-        n: 20,
-        adds: 100,
-        again,
-        altered,
-        ..SMALL
-    };
-    one(rt, alloc, name, plan)
-}
-
-// Runs with each thing altered.
+// Runs with each thing altered before it is compared.
 fn altered_runs(rt: &impl Print, alloc: Global) -> io::Result<()> {
-    altered_run(rt, alloc, "number altered", Altered::Number, 0)?;
-    altered_run(rt, alloc, "number of pairs altered", Altered::PairCount, 0)?;
-    altered_run(rt, alloc, "records altered", Altered::Records, 0)?;
-    altered_run(rt, alloc, "number of add_to altered", Altered::OwnNumber, 0)?;
-    altered_run(
-        rt,
-        alloc,
-        "number of place altered",
-        Altered::PlaceNumber,
-        0,
-    )?;
-    altered_run(rt, alloc, "held altered", Altered::Held, 0)?;
-    altered_run(rt, alloc, "place altered", Altered::Place, 0)?;
-    altered_run(rt, alloc, "stop count altered", Altered::StopCount, 0)?;
-    let name = "stop count altered, of those added again";
-    altered_run(rt, alloc, name, Altered::AddedAgain, 200)
+    let runs = [
+        ("number altered", Altered::Number, 0),
+        ("number of pairs altered", Altered::PairCount, 0),
+        ("records altered", Altered::Records, 0),
+        ("number of add_to altered", Altered::OwnNumber, 0),
+        ("number of place altered", Altered::PlaceNumber, 0),
+        ("held altered", Altered::Held, 0),
+        ("place altered", Altered::Place, 0),
+        ("stop count altered", Altered::StopCount, 0),
+        (
+            "stop count altered, of those added again",
+            Altered::AddedAgain,
+            200,
+        ),
+    ];
+    for (name, altered, again) in runs {
+        let plan = Plan {
+            n: 20,
+            adds: 100,
+            again,
+            altered,
+            ..SMALL
+        };
+        one(rt, alloc, name, plan)?;
+    }
+    Ok(())
 }
 
 // All runs.

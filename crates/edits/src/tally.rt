@@ -15,13 +15,13 @@ pub(crate) enum Shown {
 }
 
 // Steps, those made by add_to or remove_from, lists compared, calls of place and those that say held, answers of each number, what adds show, what differs.
-#[derive(Clone, Copy)]
+#[derive(Clone, Copy, Default)]
 pub(crate) struct Tally {
     steps: u32,
     own: u32,
     lists: u32,
     places: u32,
-    held: u32,
+    said_held: u32,
     answers: [u32; 20],
     raised: u32,
     raised_when_full: u32,
@@ -38,25 +38,6 @@ fn bump(count: &mut u32) {
 }
 
 impl Tally {
-    // Nothing counted.
-    pub(crate) fn new() -> Tally {
-        Tally {
-            steps: 0,
-            own: 0,
-            lists: 0,
-            places: 0,
-            held: 0,
-            answers: [0; 20],
-            raised: 0,
-            raised_when_full: 0,
-            to_thousand: 0,
-            pair_before_count: 0,
-            count_before_sum: 0,
-            count_before_full: 0,
-            differ: 0,
-        }
-    }
-
     // Something compared, which is the same or not.
     pub(crate) fn note(&mut self, same: bool) {
         if !same {
@@ -89,7 +70,7 @@ impl Tally {
         self.note(same);
         bump(&mut self.places);
         if held {
-            bump(&mut self.held);
+            bump(&mut self.said_held);
         }
     }
 
@@ -118,7 +99,7 @@ impl fmt::Display for Tally {
             "steps={} own={} lists={}",
             self.steps, self.own, self.lists
         )?;
-        write!(f, " places={} held={}", self.places, self.held)?;
+        write!(f, " places={} held={}", self.places, self.said_held)?;
         write!(f, " done={}", self.answered(0))?;
         for number in [4usize, 5, 11, 13, 14, 18, 19] {
             write!(f, " {number}={}", self.answered(number))?;

@@ -1,12 +1,13 @@
 -- A list as a plain model: a map from pairs of modules to stop counts.
 --   record_of   the record of a pair and its count
+--   litter_at   a record that no list holds
 --   key         two modules, the smaller first
 --   count_of    the count that the model holds
 --   Changed     the model after a pair's count is set, or taken out
 --   record_at   the record of a pair that the model holds
 --   written     a list after records were written to it
 -- Assumes nothing: these are definitions.
-use Rattle.std.specs.Prelude.{ℕ, ◌+◌, Option, List, [], ◌∷◌, set, cond, ltb, min, max}
+use Rattle.std.specs.Prelude.{ℕ, ◌+◌, ◌%◌, Option, List, [], ◌∷◌, set, cond, ltb, min, max}
 use Rattle.std.specs.BTreeMap.{get, Updates}
 use Rattle.std.specs.Option.{unwrap_or}
 use Rattle.std.specs.declared.cmp.Ordering.{Ordering}
@@ -21,6 +22,10 @@ half x = cond (ltb x 65536) x 65535
 -- the record of two modules and a count
 abbrev pub record_of : ℕ → ℕ → ℕ → Pair
 record_of a b w = record { a = half a; b = half b; w = half w }
+
+-- record j of a list of records that no list holds: its modules are from 60,000 on, its counts from this one on
+abbrev pub litter_at : ℕ → ℕ → Pair
+litter_at count j = record { a = (j + 60000) % 65536; b = (j + 60000) % 65536; w = (j + count) % 65536 }
 
 -- two modules, the smaller first
 abbrev pub key : ℕ → ℕ → ℕ × ℕ

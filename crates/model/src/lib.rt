@@ -1,10 +1,11 @@
 // What the programs that test the public calls share: random numbers, records, and a list as a plain map from each pair to its stop count.
 #![tactic(auto)]
 
-ghost use Rattle.std.specs.Prelude.{◌≡◌, ◌-◌, ◌^◌, OnOk, OnErr, Some, None, length, take, count_by, nat_eq, min, map};
+ghost use Rattle.std.specs.Prelude.{◌≡◌, ◌-◌, ◌^◌, OnOk, OnErr, IfOk, Some, None, length, take, count_by, nat_eq, min, map};
+ghost use Rattle.std.specs.List.{range_with_len};
 ghost use Rattle.std.specs.BTreeMap.{btree_map_len, get, IsUnchanged};
 ghost use Rattle.model.specs.Draws.{drawn_after, drawn_below};
-ghost use Rattle.model.specs.Counts.{half, key, record_of, pair_cmp, count_of, Changed, record_at, written};
+ghost use Rattle.model.specs.Counts.{half, key, record_of, litter_at, pair_cmp, count_of, Changed, record_at, written};
 
 use records::Pair;
 use std::alloc::{AllocError, Global};
@@ -59,6 +60,19 @@ pub fn record(a: u32, b: u32, w: u32) -> Pair
         b: half(b),
         w: half(w),
     }
+}
+
+// So many records whose modules are none of a list's, from 60,000 on, and whose counts are from `count` on.
+pub fn litter(alloc: Global, len: u16, count: u16) -> Result<Vec<Pair>, AllocError>
+    ensures { IfOk result (λ records. records.items ≡ map (litter_at count) (range_with_len 0 len)) }
+{
+    (0..len)
+        .map(|j| Pair {
+            a: j.wrapping_add(60000),
+            b: j.wrapping_add(60000),
+            w: j.wrapping_add(count),
+        })
+        .collect(alloc)
 }
 
 // The first k items, or all where there are fewer.
