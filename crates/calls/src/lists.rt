@@ -70,10 +70,11 @@ fn of_pairs(head: Head, pairs: &[(u16, u16)], last: Pair, past: Pair) -> Lent {
 }
 
 // A list of these pairs and the last one, which is altered.
-fn altered(damage: Damage, m: u32, pairs: &[(u16, u16)]) -> Lent {
+fn altered(damage: Damage, pairs: &[(u16, u16)]) -> Lent {
+    let first = u32::try_from(pairs.len()).unwrap_or(u32::MAX);
     let head = Head {
         n: damage.n,
-        m: damage.more.saturating_add(m),
+        m: damage.more.saturating_add(first).saturating_add(1),
     };
     let past = Pair {
         a: 0,
@@ -85,12 +86,12 @@ fn altered(damage: Damage, m: u32, pairs: &[(u16, u16)]) -> Lent {
 
 // The cycle: 5 pairs.
 pub(crate) fn cycle(damage: Damage) -> Lent {
-    altered(damage, 5, &CYCLE)
+    altered(damage, &CYCLE)
 }
 
 // The list *tail*: 7 pairs.
 pub(crate) fn tail(damage: Damage) -> Lent {
-    altered(damage, 7, &TAIL)
+    altered(damage, &TAIL)
 }
 
 // The first m pairs of the two triangles, with n modules.
@@ -110,7 +111,7 @@ pub(crate) enum Kind {
     Wider,
 }
 
-// Their counts: all of them this one, or each drawn, from 1 to this one.
+// Their counts: all of them this one, or each drawn, from 1 to this one. Two kinds with a number each, so that Option and Result would say less.
 #[derive(Clone, Copy)]
 pub(crate) enum Counts {
     All(u32),

@@ -1,5 +1,5 @@
 // How the lines are printed.
-use model::occurrences;
+use model::{front, occurrences};
 use std::{fmt, io};
 
 // The call, what is altered, the number due and the number given.
@@ -20,11 +20,15 @@ pub(crate) fn eight<T: fmt::Display>(
     entries: &[T],
     at: usize,
 ) -> io::Result<()> {
-    let mut before = "";
     print!(rt; " {label}=")?;
-    for entry in entries.iter().skip(at).take(8) {
-        print!(rt; "{before}{entry}")?;
-        before = ",";
+    for (i, entry) in front(entries.get(at..).unwrap_or(&[]), 8)
+        .iter()
+        .enumerate()
+    {
+        if i != 0 {
+            print!(rt; ",")?;
+        }
+        print!(rt; "{entry}")?;
     }
     Ok(())
 }

@@ -1,7 +1,7 @@
 // P/Q as a float by long division, rounded once.
 
 // The next 32 binary digits of rest / q, which is below 1.
-fn digits(rest: u64, q: u64) -> u32 {
+fn binary_digits(rest: u64, q: u64) -> u32 {
     if q == 0 {
         return 0;
     }
@@ -26,7 +26,7 @@ pub(crate) fn quotient(p: u32, q: u32) -> f64 {
     let by = u64::from(q);
     let rest = u64::from(p % q);
     let more = behind(rest, by);
-    let last = sticky(behind(more, by), digits(more, by));
-    let whole = (p / q) as f64 + digits(rest, by) as f64 / 4294967296.0;
-    whole + last as f64 / 18446744073709551616.0
+    let last = sticky(behind(more, by), binary_digits(more, by));
+    let whole = f64::from(p / q) + f64::from(binary_digits(rest, by)) / 4294967296.0;
+    whole + f64::from(last) / 18446744073709551616.0
 }

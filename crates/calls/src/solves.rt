@@ -131,12 +131,11 @@ fn raise_first(lent: &mut Lent, by: u16) {
 }
 
 // One line: what solve says and writes.
-fn tried(rt: &impl Print, name: &str, due: u32, lent: Lent, a: Altered) -> io::Result<()> {
+fn tried(rt: &impl Print, name: &str, due: u32, mut lent: Lent, a: Altered) -> io::Result<()> {
     let mut members = [9u8; 514];
     let mut cores = [9u32; 514];
     let mut shares = [9u32; 4100];
     let mut work = [7u32; 16400];
-    let mut after = lent;
     let found = solve(
         lent.head,
         &lent.list,
@@ -146,8 +145,8 @@ fn tried(rt: &impl Print, name: &str, due: u32, lent: Lent, a: Altered) -> io::R
         front_mut(&mut work, a.work),
     );
     print_solved(rt, name, due, found)?;
-    raise_first(&mut after, a.raised);
-    confirm(rt, &after, found, &members, &cores, &shares)?;
+    raise_first(&mut lent, a.raised);
+    confirm(rt, &lent, found, &members, &cores, &shares)?;
     print::eight(rt, "members", &members, a.from)?;
     print::eight(rt, "cores", &cores, a.from)?;
     print::eight(rt, "shares", &shares, a.from_share)?;

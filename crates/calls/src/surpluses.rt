@@ -4,23 +4,34 @@ use crate::{lists, print};
 use kandurzo::surplus;
 use model::front;
 use std::io;
+use verify::Difference;
 
 // The found group, and bytes past it that are no member's.
 const FOUND: [u8; 8] = [1, 1, 1, 1, 0, 2, 2, 2];
 
-// One line: what surplus says of two sets, beside the number and the value due.
+// What surplus says that is not refused.
+fn value(value: i64) -> Difference {
+    Difference { number: 0, value }
+}
+
+// What it says that is refused.
+fn refused(number: u32) -> Difference {
+    Difference { number, value: 0 }
+}
+
+// One line: what surplus says of two sets, beside what is due.
 fn tried(
     rt: &impl Print,
     name: &str,
-    due: u32,
-    value: i64,
-    sets: (&[u8], &[u8]),
+    due: Difference,
+    first: &[u8],
+    second: &[u8],
     damage: Damage,
 ) -> io::Result<()> {
     let lent = lists::tail(damage);
-    let difference = surplus(lent.head, &lent.list, sets.0, sets.1);
-    print::begin(rt, "surplus", name, due, difference.number)?;
-    let same = if difference.value == value {
+    let difference = surplus(lent.head, &lent.list, first, second);
+    print::begin(rt, "surplus", name, due.number, difference.number)?;
+    let same = if difference.value == due.value {
         "as due"
     } else {
         "not as due"
@@ -28,63 +39,67 @@ fn tried(
     println!(rt; " value {same}")
 }
 
-// The found group against itself, so much of both sets.
-fn found(
-    rt: &impl Print,
-    name: &str,
-    due: u32,
-    damage: Damage,
-    firsts: usize,
-    seconds: usize,
-) -> io::Result<()> {
-    let sets = (front(&FOUND, firsts), front(&FOUND, seconds));
-    tried(rt, name, due, 0, sets, damage)
-}
-
 // The found group against itself, on a list that is altered.
 pub(crate) fn damaged(rt: &impl Print, name: &str, due: u32, damage: Damage) -> io::Result<()> {
-    found(rt, name, due, damage, 5, 5)
+    let found = front(&FOUND, 5);
+    let due = Difference {
+        number: due,
+        value: 0,
+    };
+    tried(rt, name, due, found, found, damage)
 }
 
 // Two sets of which one is the found group.
 fn groups(rt: &impl Print) -> io::Result<()> {
     let group = [1, 1, 1, 1, 0];
     let two = [1, 1, 0, 0, 0];
-    found(rt, "found group against itself, 0", 0, NONE, 5, 5)?;
-    tried(rt, "0 and 1 against it, -8", 0, -8, (&two, &group), NONE)?;
-    tried(
-        rt,
-        "all five against it, -2",
-        0,
-        -2,
-        (&[1, 1, 1, 1, 1], &group),
-        NONE,
-    )?;
-    tried(rt, "it against 0 and 1, 8", 0, 8, (&group, &two), NONE)?;
-    tried(rt, "no member", 7, 0, (&[0, 0, 0, 0, 0], &group), NONE)?;
-    tried(rt, "byte of 2", 7, 0, (&group, &[2, 1, 1, 1, 0]), NONE)
+    let all = [
+        ("found group against itself, 0", value(0), group, group),
+        ("0 and 1 against it, -8", value(-8), two, group),
+        ("all five against it, -2", value(-2), [1; 5], group),
+        ("it against 0 and 1, 8", value(8), group, two),
+        ("no member", refused(7), [0; 5], group),
+        ("byte of 2", refused(7), group, [2, 1, 1, 1, 0]),
+    ];
+    for (name, due, first, second) in all {
+        tried(rt, name, due, &first, &second, NONE)?;
+    }
+    Ok(())
 }
 
 // Groups against 3 and 4, whose pair has another count, the last time with the value of a list of ones.
 fn counts(rt: &impl Print) -> io::Result<()> {
     let group = [1, 1, 1, 1, 0];
-    let all = [1, 1, 1, 1, 1];
-    let end = [0, 0, 0, 1, 1];
-    let name = "3,4 ten times, 0 to 3 against them, -28";
-    tried(rt, name, 0, -28, (&group, &end), lists::counted(10))?;
-    let name = "3,4 1,000 times, all against them, -2,988";
-    tried(rt, name, 0, -2988, (&all, &end), lists::counted(1000))?;
-    let name = "3,4 twice, 0 to 3 against them, 8";
-    tried(rt, name, 0, 8, (&group, &end), lists::counted(2))
+    let all = [
+        ("3,4 ten times, 0 to 3 against them, -28", -28, group, 10),
+        (
+            "3,4 1,000 times, all against them, -2,988",
+            -2988,
+            [1; 5],
+            1000,
+        ),
+        ("3,4 twice, 0 to 3 against them, 8", 8, group, 2),
+    ];
+    for (name, due, first, count) in all {
+        let damage = lists::counted(count);
+        tried(rt, name, value(due), &first, &[0, 0, 0, 1, 1], damage)?;
+    }
+    Ok(())
 }
 
-// So much of the sets.
+// The found group against itself, so much of both sets, and the head's N.
 fn lengths(rt: &impl Print) -> io::Result<()> {
-    found(rt, "short first set", 12, NONE, 4, 5)?;
-    found(rt, "short second set", 12, NONE, 5, 4)?;
-    found(rt, "longer sets, 0", 0, NONE, 6, 8)?;
-    let none = Damage { n: 0, ..NONE };
-    found(rt, "no modules, and short first set", 13, none, 4, 5)
+    let all = [
+        ("short first set", refused(12), 5, 4, 5),
+        ("short second set", refused(12), 5, 5, 4),
+        ("longer sets, 0", value(0), 5, 6, 8),
+        ("no modules, and short first set", refused(13), 0, 4, 5),
+    ];
+    for (name, due, n, first, second) in all {
+        let sets = (front(&FOUND, first), front(&FOUND, second));
+        tried(rt, name, due, sets.0, sets.1, Damage { n, ..NONE })?;
+    }
+    Ok(())
 }
 
 pub(crate) fn run(rt: &impl Print) -> io::Result<()> {
