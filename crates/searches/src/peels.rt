@@ -1,54 +1,115 @@
-// Peel's answer beside that of the plain computation.
-use crate::altered;
-use crate::altered::raised;
-use crate::calls::Peeled;
-use crate::entries::same_words;
-use crate::plain::{leave, number_cores};
-use records::Head;
+// Peel's answer, and the plain computation of it: leaving order, core numbers and the densest remainder. Modules have levels, and those of level k or more are
+// present. Module v has left at turn i when its level, its place, is i; it has dropped from the core of order k when its level, its core number, is below k.
+use crate::altered::Altered;
+use crate::entries::{at, change, raise};
+use crate::plain::{Plain, is_below};
+use numbers::Ratio;
+use peel::Remainder;
+use std::alloc::{AllocError, Global};
 
-// The plain answer.
-pub(crate) fn peel_plainly(list: Head, words: &[u32]) -> Peeled {
-    let mut order = [0u32; 512];
-    let mut cores = [4096000u32; 512];
-    let mut place = [512u32; 512];
-    let best = leave(list, words, &mut order, &mut place);
-    number_cores(list, words, &mut cores);
-    Peeled {
-        order,
-        cores,
-        place,
-        best,
+// Leaving order, core numbers, places, and the densest remainder.
+#[derive(PartialEq, Eq, Drop)]
+pub(crate) struct Peeled {
+    pub(crate) order: Vec<u32>,
+    pub(crate) cores: Vec<u32>,
+    pub(crate) place: Vec<u32>,
+    pub(crate) best: Remainder,
+}
+
+impl Peeled {
+    // One thing altered.
+    pub(crate) fn alter(&mut self, thing: Altered) {
+        match thing {
+            Altered::Order => raise(&mut self.order, 0),
+            Altered::Cores => raise(&mut self.cores, 0),
+            Altered::Place => raise(&mut self.place, 0),
+            Altered::Remainder => self.best.at = self.best.at.saturating_add(1),
+            _ => {}
+        }
     }
 }
 
-// Peel's answer with one thing altered.
-pub(crate) fn alter_peel(thing: u32, peeled: Peeled) -> Peeled {
-    let mut order = peeled.order;
-    let mut cores = peeled.cores;
-    let mut place = peeled.place;
-    let mut best = peeled.best;
-    order[0] = raised(thing, altered::ORDER, order[0]);
-    cores[0] = raised(thing, altered::CORES, cores[0]);
-    place[0] = raised(thing, altered::PLACE, place[0]);
-    best.at = raised(thing, altered::REMAINDER, best.at);
-    Peeled {
-        order,
-        cores,
-        place,
-        best,
+// The first remainder, unless the second has a higher ratio.
+fn denser(first: Remainder, second: Remainder) -> Remainder {
+    if is_below(first.ratio, second.ratio) {
+        second
+    } else {
+        first
     }
 }
 
-// Whether two answers for n modules are the same.
-pub(crate) fn same_peel(n: u32, x: Peeled, y: Peeled) -> bool {
-    if !same_words(n, &x.order, &y.order) {
-        return false;
+// Every module present at level k with fewer than k stops drops; whether there is one.
+fn drop_modules(k: u32, degrees: &[u32], cores: &mut [u32]) -> bool {
+    let mut dropped = false;
+    for (core, &degree) in cores.iter_mut().zip(degrees.iter()) {
+        if k <= *core && degree < k {
+            *core = k - 1;
+            dropped = true;
+        }
     }
-    if !same_words(n, &x.cores, &y.cores) {
-        return false;
+    dropped
+}
+
+impl Plain {
+    // The fewest stops of a module present at level k, and that module, of equals the lowest.
+    fn fewest(&self, k: u32, levels: &[u32]) -> Option<(u32, u32)> {
+        let degrees = self.degrees(|v| k <= at(levels, v));
+        (0..self.n)
+            .filter(|&v| k <= at(levels, v))
+            .map(|v| (at(&degrees, v), v))
+            .min()
     }
-    if !same_words(n, &x.place, &y.place) {
-        return false;
+
+    // What is left at turn i.
+    fn remainder(&self, i: u32, place: &[u32]) -> Remainder {
+        Remainder {
+            ratio: Ratio {
+                p: self.inside(|v| i <= at(place, v)),
+                q: self.n.saturating_sub(i),
+            },
+            at: i,
+        }
     }
-    x.best == y.best
+
+    // One round at order k: the order of the next one, which is higher where nobody drops: the lowest at which somebody does.
+    fn round(&self, k: u32, cores: &mut [u32]) -> u32 {
+        let degrees = self.degrees(|v| k <= at(cores, v));
+        if drop_modules(k, &degrees, cores) {
+            k
+        } else {
+            self.fewest(k, cores)
+                .map_or(k, |(degree, _)| k.max(degree))
+                .saturating_add(1)
+        }
+    }
+
+    // The core numbers: at most n rounds drop modules, and n find none.
+    fn cores(&self, alloc: Global) -> Result<Vec<u32>, AllocError> {
+        let mut cores = vec![in alloc; 4096000; self.n as usize]?;
+        let mut k = 1;
+        for _ in 0..self.n.saturating_mul(2) {
+            k = self.round(k, &mut cores);
+        }
+        Ok(cores)
+    }
+
+    // The answer due. Of equally dense remainders the largest is the densest.
+    pub(crate) fn peel(&self, alloc: Global) -> Result<Peeled, AllocError> {
+        let mut order = Vec::new(alloc);
+        let mut place = vec![in alloc; 512; self.n as usize]?;
+        let mut best = self.remainder(0, &place);
+        for i in 0..self.n {
+            best = denser(best, self.remainder(i, &place));
+            if let Some((_, leaver)) = self.fewest(i, &place) {
+                order.push(leaver)?;
+                change(&mut place, leaver, |_| i);
+            }
+        }
+        Ok(Peeled {
+            order,
+            cores: self.cores(alloc)?,
+            place,
+            best,
+        })
+    }
 }
