@@ -58,7 +58,7 @@ pub(crate) fn asked(adds: bool, a: u32, b: u32, w: u32, drawn: u32) -> Ask {
     }
 }
 
-// Record j of the list: its modules and its count.
+// Record j of the list: its modules and its count. There is no From of u32 for usize.
 pub(crate) fn listed(run: &Run, j: u32) -> Option<(u32, u32, u32)> {
     let pair = run.list.get(j as usize)?;
     Some((u32::from(pair.a), u32::from(pair.b), u32::from(pair.w)))

@@ -71,7 +71,7 @@ fn alter(run: &mut Run) {
     }
 }
 
-// Compares heads and held records.
+// Compares heads and held records. There is no From of u32 for usize.
 fn compare(run: &mut Run) {
     alter(run);
     run.tally.note(run.own_head == run.head);

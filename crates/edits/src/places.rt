@@ -7,7 +7,7 @@ use kandurzo::Placed;
 use model::front;
 use refusals::Refusal;
 
-// How many of the list's records are smaller than the pair.
+// How many of the list's records are smaller than the pair. There is no From of u32 for usize.
 fn smaller_ones(run: &Run, a: u32, b: u32) -> u32 {
     let pair = (a.min(b), a.max(b));
     let smaller = front(run.list.as_slice(), run.head.m as usize)

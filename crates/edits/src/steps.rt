@@ -65,7 +65,7 @@ pub(crate) struct Run {
     pub(crate) tally: Tally,
 }
 
-// The model's step, which it takes. Stops are added to the count of a held pair; a record that remove frees is 0,0,0.
+// The model's step, which it takes. Stops are added to the count of a held pair; a record that remove frees is 0,0,0. There is no From of u32 for usize.
 pub(crate) fn modelled(run: &mut Run, ask: Ask) -> Result<(), AllocError> {
     if ask.adds {
         let x = run.model.count(ask.a, ask.b);

@@ -45,7 +45,7 @@ impl Tally {
         }
     }
 
-    // A step with this answer.
+    // A step with this answer. There is no From of u32 for usize.
     pub(crate) fn step(&mut self, answer: Result<(), Refusal>) {
         bump(&mut self.steps);
         if let Some(count) = self.answers.get_mut(refusals::number(answer) as usize) {

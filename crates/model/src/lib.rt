@@ -75,7 +75,7 @@ pub fn litter(alloc: Global, len: u16, count: u16) -> Result<Vec<Pair>, AllocErr
         .collect(alloc)
 }
 
-// The first k items, or all where there are fewer.
+// The first k items, or all where there are fewer: k is what the caller wants to lend, no length kept beside.
 pub fn front<T>(items: &[T], k: usize) -> &[T]
     ensures { result.now ≡ take k items.now }
 {

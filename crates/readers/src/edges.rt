@@ -7,21 +7,11 @@ use crate::plans::{Altered, Form, Plan, counted, full, lists};
 use crate::tally::Tally;
 use crate::ways::{WAYS, Way};
 use kandurzo::Changed;
-use model::{Random, Stops, front_mut, occurrences};
+use model::{Random, Stops, front_mut, litter, occurrences};
 use records::{Head, Pair};
 use refusals::Refusal;
 use std::alloc::{AllocError, Global};
 use std::io;
-
-// A list of records with numbers from 60,000 on, which are no module's and no count.
-fn litter(alloc: Global, len: u16) -> Result<Vec<Pair>, AllocError> {
-    (0..len)
-        .map(|j| {
-            let x = j.wrapping_add(60000);
-            Pair { a: x, b: x, w: x }
-        })
-        .collect(alloc)
-}
 
 // The records due: the model's in the place of the first, or all as before.
 fn records_due(
@@ -30,7 +20,7 @@ fn records_due(
     stops: &Stops,
     alloc: Global,
 ) -> Result<Vec<Pair>, AllocError> {
-    let mut due = litter(alloc, plan.len)?;
+    let mut due = litter(alloc, plan.len, 60000)?;
     if way == Way::Sound {
         stops.write(due.as_mut_slice());
     }
@@ -95,7 +85,7 @@ fn one_way(
     let head = way.head_due(plan, stops.pairs());
     let due = records_due(plan, way, &stops, alloc)?;
     let file = draws::make(plan, way, seed, &mut stops, alloc)?;
-    let mut list = litter(alloc, plan.len)?;
+    let mut list = litter(alloc, plan.len, 60000)?;
     let mut work = [7u32; 16400];
     let lent = front_mut(&mut work, way.work());
     let given = plan
@@ -127,7 +117,7 @@ fn every_size(
     plan: Plan,
     apart: u32,
 ) -> io::Result<()> {
-    let mut tally = Tally::new();
+    let mut tally = Tally::default();
     for n in 2..=plan.n {
         if n.checked_rem(apart) == Some(0) {
             every_way(Plan { n, ..plan }, alloc, &mut tally)?;
@@ -189,7 +179,7 @@ fn altered_runs(rt: &impl Print, alloc: Global) -> io::Result<()> {
             altered,
             ..lists(20, 100, 60)
         };
-        let mut tally = Tally::new();
+        let mut tally = Tally::default();
         every_way(plan, alloc, &mut tally)?;
         println!(rt; "read_dimacs, {name} altered: {tally}")?;
     }

@@ -4,7 +4,7 @@ use refusals::Refusal;
 use std::fmt;
 
 // Files, comments in them, pairs of those taken, answers of each number, and what differs.
-#[derive(Clone, Copy)]
+#[derive(Clone, Copy, Default)]
 pub(crate) struct Tally {
     files: u32,
     comments: u32,
@@ -14,17 +14,6 @@ pub(crate) struct Tally {
 }
 
 impl Tally {
-    // Nothing counted.
-    pub(crate) fn new() -> Tally {
-        Tally {
-            files: 0,
-            comments: 0,
-            pairs: 0,
-            answers: [0; 20],
-            differ: 0,
-        }
-    }
-
     // Something compared, which is the same or not.
     pub(crate) fn note(&mut self, same: bool) {
         if !same {
@@ -32,7 +21,7 @@ impl Tally {
         }
     }
 
-    // A file with so many comments, for which this answer and head are due.
+    // A file with so many comments, for which this answer and head are due. There is no From of u32 for usize.
     pub(crate) fn file(&mut self, comments: u32, answer: Result<(), Refusal>, head: Head) {
         self.files = self.files.saturating_add(1);
         self.comments = self.comments.saturating_add(comments);

@@ -80,7 +80,7 @@ impl Way {
         self == Way::TurnedAgain || self == Way::TurnedTooManyStops
     }
 
-    // How many words of the work buffer are lent: too few, or all in every second way.
+    // How many words of the work buffer are lent: too few, or all in every second way. The cast is the way's place among the cases, which no From gives.
     pub(crate) fn work(self) -> usize {
         if self == Way::ShortWork {
             16383
