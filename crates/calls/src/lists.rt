@@ -10,7 +10,12 @@ pub(crate) struct Lent {
 }
 
 impl Lent {
-    // The records that are held.
+    // N as an index. There is no From of u32 for usize.
+    pub(crate) fn n(&self) -> usize {
+        self.head.n as usize
+    }
+
+    // The records that are held. There is no From of u32 for usize.
     pub(crate) fn pairs(&self) -> &[Pair] {
         front(&self.list, self.head.m as usize)
     }

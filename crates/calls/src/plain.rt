@@ -34,12 +34,21 @@ fn size(members: &[u8]) -> u32 {
     u32::try_from(size).unwrap_or(u32::MAX)
 }
 
+// How many entries of two lists differ.
+pub(crate) fn differing<T: PartialEq>(first: &[T], second: &[T]) -> usize {
+    first
+        .iter()
+        .zip(second.iter())
+        .filter(|&(x, y)| x != y)
+        .count()
+}
+
 // p / q rounded up; 0 where q is 0.
 fn rounded_up(p: u32, q: u32) -> u32 {
     if q == 0 { 0 } else { p.div_ceil(q) }
 }
 
-// How many entries are k or more.
+// How many entries are k or more: k is a bound, no length.
 fn reaching(entries: &[u32], k: u32) -> usize {
     entries.iter().filter(|&&x| k <= x).count()
 }
@@ -75,18 +84,17 @@ fn add_loads(pairs: &[Pair], shares: &[u32], q: u32, loads: &mut [u32]) {
 
 // The second computation.
 pub(crate) fn computed(lent: &Lent, members: &[u8], cores: &[u32], shares: &[u32]) -> Second {
-    let n = lent.head.n as usize;
     let mut loads = [0u32; 512];
     let p = inside(lent.pairs(), members);
-    let q = size(front(members, n));
+    let q = size(front(members, lent.n()));
     let k = rounded_up(p, q);
     add_loads(lent.pairs(), shares, q, &mut loads);
     Second {
         p,
         q,
         k,
-        core: reaching(front(cores, n), k),
+        core: reaching(front(cores, lent.n()), k),
         shares: shares_above(lent.pairs(), shares, q),
-        loads: reaching(front(&loads, n), p.saturating_add(1)),
+        loads: reaching(front(&loads, lent.n()), p.saturating_add(1)),
     }
 }

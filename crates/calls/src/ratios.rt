@@ -1,6 +1,6 @@
 // P/Q as a float by long division, rounded once.
 
-// The next 32 binary digits of rest / q, which is below 1.
+// The next 32 binary digits of rest / q, which is below 1. The cast is proved to lose nothing: there is no From of u64 for u32.
 fn binary_digits(rest: u64, q: u64) -> u32 {
     if q == 0 {
         return 0;

@@ -2,7 +2,7 @@
 // of 512 modules; lists with counts. Where solve finds a group, `differ` says how much of its answer is not as due: P, Q, K, the core's size, shares above W
 // times Q and loads above P by a second computation, the answer of check, and the core numbers of peel. The float must be P/Q rounded once.
 use crate::lists::{Counts, Damage, Kind, Lent, NONE};
-use crate::plain::Second;
+use crate::plain::{Second, differing};
 use crate::{lists, plain, print, ratios};
 use kandurzo::{Solved, check, kandurzo_peel, solve};
 use model::{front, front_mut};
@@ -64,7 +64,7 @@ fn unlike(same: &[bool]) -> usize {
     same.iter().filter(|&&same| !same).count()
 }
 
-// How much of what solve found is not as the second computation says.
+// How much of what solve found is not as the second computation says. There is no From of u32 for usize.
 fn miscounted(found: Solved, second: Second) -> usize {
     unlike(&[
         found.p == second.p,
@@ -91,11 +91,7 @@ fn cores_differ(lent: &Lent, cores: &[u32]) -> usize {
     let mut others = [0u32; 512];
     let mut work = [0u32; 16384];
     kandurzo_peel(lent.head, &lent.list, &mut order, &mut others, &mut work);
-    front(cores, lent.head.n as usize)
-        .iter()
-        .zip(others.iter())
-        .filter(|&(x, y)| x != y)
-        .count()
+    differing(front(cores, lent.n()), &others)
 }
 
 // Where a group was found, how much of the answer is not as due.

@@ -2,6 +2,7 @@
 // and how many of the text's 65,600 bytes are not as due: the file of the list, made here a second time from its records, and past it, or after a refusal
 // from the first on, the bytes that were there before.
 use crate::lists::{Counts, Damage, Kind, Lent, NONE};
+use crate::plain::differing;
 use crate::{lists, print};
 use kandurzo::write_dimacs;
 use model::front_mut;
@@ -48,16 +49,7 @@ fn put_due(text: &mut [u8], file: &[u8], altered: Option<usize>) {
     }
 }
 
-// How many of the bytes differ.
-fn differing(first: &[u8], second: &[u8]) -> usize {
-    first
-        .iter()
-        .zip(second.iter())
-        .filter(|&(x, y)| x != y)
-        .count()
-}
-
-// One line: what write_dimacs says and writes of a list, and how much of it is not as due.
+// One line: what write_dimacs says and writes of a list, and how much of it is not as due. There is no From of u32 for usize.
 fn tried(
     rt: &impl Print,
     alloc: Global,
