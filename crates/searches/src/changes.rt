@@ -1,5 +1,5 @@
 // A sheet, and changes of it in one place.
-use crate::entries::{at, change, raise};
+use crate::entries::{add, at, put};
 
 // A group's member bytes, and a share for each pair.
 #[derive(Clone, Copy)]
@@ -41,12 +41,17 @@ const CHANGES: [Change; 10] = [
     Change::AllUnits,
 ];
 
-// A unit goes to the next share, where there is one.
+// Lowers a share by one unit, where it has one; the units that it had.
+fn lower(i: u32, shares: &mut [u32]) -> u32 {
+    let x = at(shares, i);
+    put(shares, i, x.saturating_sub(1));
+    x.min(1)
+}
+
+// A unit that there is goes to the next share.
 fn move_unit(i: u32, shares: &mut [u32]) {
-    if at(shares, i) != 0 {
-        change(shares, i, |x| x.saturating_sub(1));
-        raise(shares, i.saturating_add(1));
-    }
+    let moved = lower(i, shares);
+    add(shares, i.saturating_add(1), moved);
 }
 
 impl Change {
@@ -68,15 +73,15 @@ impl Change {
     pub(crate) fn make(self, i: u32, units: u32, members: &mut [u8], shares: &mut [u32]) {
         match self {
             Change::Nothing => {}
-            Change::ShareRaised => raise(shares, i),
-            Change::ShareLowered => change(shares, i, |x| x.saturating_sub(1)),
+            Change::ShareRaised => add(shares, i, 1),
+            Change::ShareLowered => _ = lower(i, shares),
             Change::UnitMoved => move_unit(i, shares),
-            Change::ShareTooLarge => change(shares, i, |_| units.saturating_add(1)),
-            Change::MemberAdded => change(members, i, |_| 1),
-            Change::MemberDropped => change(members, i, |_| 0),
-            Change::ByteOfTwo => change(members, i, |_| 2),
+            Change::ShareTooLarge => put(shares, i, units.saturating_add(1)),
+            Change::MemberAdded => put(members, i, 1),
+            Change::MemberDropped => put(members, i, 0),
+            Change::ByteOfTwo => put(members, i, 2),
             Change::NoMember => members.fill(0),
-            Change::AllUnits => change(shares, i, |_| units),
+            Change::AllUnits => put(shares, i, units),
         }
     }
 }

@@ -1,6 +1,7 @@
-// Lists that are drawn, and the pair file of each, which the product's own reader takes.
+// Lists that are drawn.
 use crate::entries::digit;
 use crate::kinds::{Candidate, Counts, Kind};
+use crate::plain::Plain;
 use model::Random;
 use pairs::Stops;
 use std::alloc::{AllocError, Global};
@@ -21,7 +22,7 @@ pub(crate) struct Plan {
     kind: Kind,
     counts: Counts,
     i: u32,
-    pub(crate) n: u32,
+    n: u32,
 }
 
 impl Lists {
@@ -47,8 +48,8 @@ impl Plan {
         }
     }
 
-    // Its pairs: all of its modules pass in rising order, with a draw for each, and no more than 4,096 are taken.
-    pub(crate) fn draw(self, random: &mut Random, alloc: Global) -> Result<Vec<Stops>, AllocError> {
+    // The list: all pairs of its modules pass in rising order, with a draw for each, and no more than 4,096 are taken.
+    pub(crate) fn draw(self, random: &mut Random, alloc: Global) -> Result<Plain, AllocError> {
         let n = self.n;
         let mut pairs = Vec::new(alloc);
         let all = (0..n).flat_map(|a| (a.saturating_add(1)..n).map(move |b| (a, b)));
@@ -60,16 +61,6 @@ impl Plan {
                 pairs.push(Stops { a, b, w })?;
             }
         }
-        Ok(pairs)
+        Ok(Plain { n, pairs })
     }
-}
-
-// The pair file of a list of n modules.
-pub(crate) fn file(n: u32, pairs: &[Stops], alloc: Global) -> Result<String, AllocError> {
-    let mut file = String::new(alloc);
-    writeln!(file, "modules={n}\npairs={}", pairs.len())?;
-    for &Stops { a, b, w } in pairs {
-        writeln!(file, "{a},{b},{w}")?;
-    }
-    Ok(file)
 }

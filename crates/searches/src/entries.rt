@@ -5,18 +5,18 @@ pub(crate) fn at(words: &[u32], i: u32) -> u32 {
     words.get(i as usize).copied().unwrap_or(0)
 }
 
-// Entry i becomes what `f` makes of it.
-pub(crate) fn change<T: Copy, F: FnOnce(T) -> T>(items: &mut [T], i: u32, f: F)
-    requires { F.IsAlwaysCallable f }
-{
+// Entry i becomes x.
+pub(crate) fn put<T: Copy>(items: &mut [T], i: u32, x: T) {
     if let Some(item) = items.get_mut(i as usize) {
-        *item = f(*item);
+        *item = x;
     }
 }
 
-// One more.
-pub(crate) fn raise(words: &mut [u32], i: u32) {
-    change(words, i, |x| x.saturating_add(1));
+// Entry i becomes x more.
+pub(crate) fn add(words: &mut [u32], i: u32, x: u32) {
+    if let Some(word) = words.get_mut(i as usize) {
+        *word = word.saturating_add(x);
+    }
 }
 
 // Digit i of a number in a base, the last one first.

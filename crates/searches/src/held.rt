@@ -10,16 +10,16 @@ use densest::Effort;
 use lists::List;
 use numbers::Ratio;
 use pairs::Stops;
+use records::Head;
 use refusals::Refusal;
 use std::alloc::{AllocError, Global};
 
-// n modules and m pairs, which lie in the words.
+// How many modules and pairs there are, and the words in which they lie.
 #[derive(Drop)]
 pub(crate) struct Held {
-    n: usize,
-    m: usize,
+    head: Head,
     words: [u32; 12288],
-    ghost holds: { HoldsList n m words },
+    ghost holds: { HoldsList head.n head.m words },
 }
 
 impl Held {
@@ -27,11 +27,7 @@ impl Held {
     pub(crate) fn read(file: &[u8]) -> Result<Held, Refusal> {
         let mut words = [0; 12288];
         let head = pairfile::read_words(file, 4096, &mut words)?;
-        Ok(Held {
-            n: head.n as usize,
-            m: head.m as usize,
-            words,
-        })
+        Ok(Held { head, words })
     }
 
     // The list as the plain computations see it.
@@ -40,30 +36,31 @@ impl Held {
         let pairs = ends
             .iter()
             .zip(self.words[8192..].iter())
-            .take(self.m)
+            .take(self.list().m)
             .map(|(&[a, b], &w)| Stops { a, b, w })
             .collect(alloc)?;
         Ok(Plain {
-            n: u32::try_from(self.n).unwrap_or(u32::MAX),
+            n: self.head.n,
             pairs,
         })
     }
 
     // The list as the product's calls see it.
     fn list(&self) -> List<'_>
-        ensures modules { result.n ≡ self.now.n }
-        ensures pairs { result.m ≡ self.now.m }
+        ensures modules { result.n ≡ self.now.head.n }
+        ensures pairs { result.m ≡ self.now.head.m }
     {
-        List::in_words(self.n, self.m, &self.words)
+        List::in_words(self.head.n as usize, self.head.m as usize, &self.words)
     }
 
     // Peel.
     #[tactic(auto, using(crate::proofs::Sizes::sizes))]
     pub(crate) fn peel(&self, alloc: Global) -> Result<Peeled, AllocError> {
-        let mut order = vec![in alloc; 0; self.n]?;
-        let mut cores = vec![in alloc; 0; self.n]?;
-        let mut place = vec![in alloc; 0; self.n]?;
-        let best = peel::peel(self.list(), 1, &mut order, &mut cores, &mut place);
+        let list = self.list();
+        let mut order = vec![in alloc; 0; list.n]?;
+        let mut cores = vec![in alloc; 0; list.n]?;
+        let mut place = vec![in alloc; 0; list.n]?;
+        let best = peel::peel(list, 1, &mut order, &mut cores, &mut place);
         Ok(Peeled {
             order,
             cores,
@@ -74,13 +71,14 @@ impl Held {
 
     // Solve, on a copy of the words, which it uses up.
     pub(crate) fn solve(&self, effort: Effort, alloc: Global) -> Result<Solved, AllocError> {
+        let List { n, m, .. } = self.list();
         let mut words = self.words;
-        let mut members = vec![in alloc; 0; self.n]?;
-        let mut cores = vec![in alloc; 0; self.n]?;
-        let mut shares = vec![in alloc; 0; self.m]?;
+        let mut members = vec![in alloc; 0; n]?;
+        let mut cores = vec![in alloc; 0; n]?;
+        let mut shares = vec![in alloc; 0; m]?;
         let record = densest::solve(
-            self.n,
-            self.m,
+            n,
+            m,
             effort,
             &mut words,
             &mut members,
@@ -97,18 +95,19 @@ impl Held {
 
     // Check; refused by 12 where the sheet is too short.
     pub(crate) fn check(&self, sheet: Sheet) -> Result<Ratio, Refusal> {
-        let Sheet { members, shares } = sheet;
-        if members.len() < self.n || shares.len() < self.m {
+        let list = self.list();
+        if sheet.members.len() < list.n || sheet.shares.len() < list.m {
             return Err(Refusal::BufferTooShort);
         }
-        verify::check_words(self.list(), members, shares)
+        verify::check_words(list, sheet.members, sheet.shares)
     }
 
     // Surplus; refused by 12 where a set is too short.
     pub(crate) fn surplus(&self, first: &[u8], second: &[u8]) -> Result<i64, Refusal> {
-        if first.len() < self.n || second.len() < self.n {
+        let list = self.list();
+        if first.len().min(second.len()) < list.n {
             return Err(Refusal::BufferTooShort);
         }
-        verify::surplus_words(self.list(), first, second)
+        verify::surplus_words(list, first, second)
     }
 }

@@ -13,6 +13,8 @@
 //
 // Then check and surplus (module `verdicts`): sheets of solve changed in one place each; every sheet of small lists, good and bad; the surplus of every
 // two sets of bytes of small lists, and of large groups around equal ratios. A line has how often check or surplus gave each answer.
+//
+// `as` stands where std has no `From`: from u32 to usize.
 #![tactic(auto)]
 
 mod altered;

@@ -1,7 +1,7 @@
 // Peel's answer, and the plain computation of it: leaving order, core numbers and the densest remainder. Modules have levels, and those of level k or more are
 // present. Module v has left at turn i when its level, its place, is i; it has dropped from the core of order k when its level, its core number, is below k.
 use crate::altered::Altered;
-use crate::entries::{at, change, raise};
+use crate::entries::{add, at, put};
 use crate::plain::{Plain, is_below};
 use numbers::Ratio;
 use peel::Remainder;
@@ -20,9 +20,9 @@ impl Peeled {
     // One thing altered.
     pub(crate) fn alter(&mut self, thing: Altered) {
         match thing {
-            Altered::Order => raise(&mut self.order, 0),
-            Altered::Cores => raise(&mut self.cores, 0),
-            Altered::Place => raise(&mut self.place, 0),
+            Altered::Order => add(&mut self.order, 0, 1),
+            Altered::Cores => add(&mut self.cores, 0, 1),
+            Altered::Place => add(&mut self.place, 0, 1),
             Altered::Remainder => self.best.at = self.best.at.saturating_add(1),
             _ => {}
         }
@@ -38,12 +38,12 @@ fn denser(first: Remainder, second: Remainder) -> Remainder {
     }
 }
 
-// Every module present at level k with fewer than k stops drops; whether there is one.
-fn drop_modules(k: u32, degrees: &[u32], cores: &mut [u32]) -> bool {
+// Every module present at a level with fewer stops than that drops below it; whether there is one.
+fn drop_modules(level: u32, degrees: &[u32], cores: &mut [u32]) -> bool {
     let mut dropped = false;
     for (core, &degree) in cores.iter_mut().zip(degrees.iter()) {
-        if k <= *core && degree < k {
-            *core = k - 1;
+        if level <= *core && degree < level {
+            *core = level - 1;
             dropped = true;
         }
     }
@@ -51,11 +51,11 @@ fn drop_modules(k: u32, degrees: &[u32], cores: &mut [u32]) -> bool {
 }
 
 impl Plain {
-    // The fewest stops of a module present at level k, and that module, of equals the lowest.
-    fn fewest(&self, k: u32, levels: &[u32]) -> Option<(u32, u32)> {
-        let degrees = self.degrees(|v| k <= at(levels, v));
+    // The fewest stops of a module present at a level, and that module, of equals the lowest.
+    fn fewest(&self, level: u32, levels: &[u32]) -> Option<(u32, u32)> {
+        let degrees = self.degrees(|v| level <= at(levels, v));
         (0..self.n)
-            .filter(|&v| k <= at(levels, v))
+            .filter(|&v| level <= at(levels, v))
             .map(|v| (at(&degrees, v), v))
             .min()
     }
@@ -71,14 +71,14 @@ impl Plain {
         }
     }
 
-    // One round at order k: the order of the next one, which is higher where nobody drops: the lowest at which somebody does.
-    fn round(&self, k: u32, cores: &mut [u32]) -> u32 {
-        let degrees = self.degrees(|v| k <= at(cores, v));
-        if drop_modules(k, &degrees, cores) {
-            k
+    // One round at a level: the level of the next one, which is higher where nobody drops: the lowest at which somebody does.
+    fn round(&self, level: u32, cores: &mut [u32]) -> u32 {
+        let degrees = self.degrees(|v| level <= at(cores, v));
+        if drop_modules(level, &degrees, cores) {
+            level
         } else {
-            self.fewest(k, cores)
-                .map_or(k, |(degree, _)| k.max(degree))
+            self.fewest(level, cores)
+                .map_or(level, |(degree, _)| level.max(degree))
                 .saturating_add(1)
         }
     }
@@ -86,9 +86,9 @@ impl Plain {
     // The core numbers: at most n rounds drop modules, and n find none.
     fn cores(&self, alloc: Global) -> Result<Vec<u32>, AllocError> {
         let mut cores = vec![in alloc; 4096000; self.n as usize]?;
-        let mut k = 1;
+        let mut level = 1;
         for _ in 0..self.n.saturating_mul(2) {
-            k = self.round(k, &mut cores);
+            level = self.round(level, &mut cores);
         }
         Ok(cores)
     }
@@ -102,7 +102,7 @@ impl Plain {
             best = denser(best, self.remainder(i, &place));
             if let Some((_, leaver)) = self.fewest(i, &place) {
                 order.push(leaver)?;
-                change(&mut place, leaver, |_| i);
+                put(&mut place, leaver, i);
             }
         }
         Ok(Peeled {

@@ -1,7 +1,8 @@
 // A list as the plain computations see it. They are as document 01 defines things and as plain as can be: stops are counted anew whenever they are looked at.
-use crate::entries::change;
+use crate::entries::add;
 use numbers::Ratio;
 use pairs::Stops;
+use std::alloc::{AllocError, Global};
 
 // Its number of modules, and its pairs.
 #[derive(Drop)]
@@ -21,6 +22,16 @@ impl Plain {
         self.pairs.get(j as usize).map_or(0, |pair| pair.w)
     }
 
+    // The pair file.
+    pub(crate) fn file(&self, alloc: Global) -> Result<String, AllocError> {
+        let mut file = String::new(alloc);
+        writeln!(file, "modules={}\npairs={}", self.n, self.pairs.len())?;
+        for &Stops { a, b, w } in self.pairs.iter() {
+            writeln!(file, "{a},{b},{w}")?;
+        }
+        Ok(file)
+    }
+
     // The inside count of the modules present.
     pub(crate) fn inside<F: Fn(u32) -> bool>(&self, present: F) -> u32
         requires { (state : F) (x : _) → F.pre state x }
@@ -38,8 +49,8 @@ impl Plain {
         let mut degrees = [0u32; 512];
         for &Stops { a, b, w } in self.pairs.iter() {
             if present(a) && present(b) {
-                change(&mut degrees, a, |x| x.saturating_add(w));
-                change(&mut degrees, b, |x| x.saturating_add(w));
+                add(&mut degrees, a, w);
+                add(&mut degrees, b, w);
             }
         }
         degrees

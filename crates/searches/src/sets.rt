@@ -9,17 +9,17 @@ pub(crate) struct Set {
     pub(crate) ratio: Ratio,
 }
 
-impl Set {
-    // Whether a module is in it.
-    fn has(self, v: u32) -> bool {
-        v < 32 && (self.mask >> v) & 1 == 1
-    }
+// Whether module v is in the set of a mask.
+fn has(mask: u32, v: u32) -> bool {
+    v < 32 && (mask >> v) & 1 == 1
+}
 
+impl Set {
     // Whether member bytes are those of the set.
     pub(crate) fn is_of(self, members: &[u8]) -> bool {
         (0u32..)
             .zip(members.iter())
-            .all(|(v, &byte)| self.has(v) == (byte == 1))
+            .all(|(v, &byte)| has(self.mask, v) == (byte == 1))
     }
 
     // This one, unless the other has a higher ratio, or the same one in more modules.
@@ -33,16 +33,11 @@ impl Set {
 impl Plain {
     // The set of a mask.
     fn set(&self, mask: u32) -> Set {
-        let q = mask.count_ones();
-        let empty = Set {
-            mask,
-            ratio: Ratio { p: 0, q },
+        let ratio = Ratio {
+            p: self.inside(|v| has(mask, v)),
+            q: mask.count_ones(),
         };
-        let p = self.inside(|v| empty.has(v));
-        Set {
-            mask,
-            ratio: Ratio { p, q },
-        }
+        Set { mask, ratio }
     }
 
     // The densest set of a list of at most 12 modules, of equals the largest.

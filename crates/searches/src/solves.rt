@@ -1,7 +1,7 @@
 // Solve's answer beside the plain computations, its sheet put to check, and one answer beside another.
 use crate::altered::Altered;
 use crate::changes::Sheet;
-use crate::entries::{change, raise};
+use crate::entries::{add, put};
 use crate::sets::Set;
 use crate::trials::Tried;
 use crate::verdicts::units;
@@ -28,9 +28,16 @@ fn rounded_up(p: u32, q: u32) -> u32 {
     if q == 0 { 0 } else { p.div_ceil(q) }
 }
 
-// How many core numbers are k or more: the size of the core of order k.
-fn core_size(k: u32, cores: &[u32]) -> usize {
-    cores.iter().filter(|&&core| k <= core).count()
+// How many core numbers are as large as an order or larger: the size of the core of that order.
+fn core_size(order: u32, cores: &[u32]) -> usize {
+    cores.iter().filter(|&&core| order <= core).count()
+}
+
+// The first byte becomes 1 where it is 0, else 0.
+fn other_byte(members: &mut [u8]) {
+    if let Some(byte) = members.first_mut() {
+        *byte = u8::from(*byte == 0);
+    }
 }
 
 impl Solved {
@@ -46,13 +53,13 @@ impl Solved {
     pub(crate) fn alter(&mut self, thing: Altered, w: u32) {
         let q = self.record.ratio.q;
         match thing {
-            Altered::Member => change(&mut self.members, 0, |byte| u8::from(byte == 0)),
+            Altered::Member => other_byte(&mut self.members),
             Altered::Inside => self.record.ratio.p = self.record.ratio.p.saturating_add(1),
             Altered::Size => self.record.ratio.q = q.saturating_add(1),
             Altered::K => self.record.k = self.record.k.saturating_add(1),
             Altered::CoreSize => self.record.core = self.record.core.saturating_add(1),
-            Altered::CoreNumber => raise(&mut self.cores, 0),
-            Altered::Share => change(&mut self.shares, 0, |_| units(w, q).saturating_add(1)),
+            Altered::CoreNumber => add(&mut self.cores, 0, 1),
+            Altered::Share => put(&mut self.shares, 0, units(w, q).saturating_add(1)),
             _ => {}
         }
     }

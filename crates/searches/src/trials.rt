@@ -2,7 +2,7 @@
 use crate::altered::Altered;
 use crate::changes::Change;
 use crate::checks::{try_changes, try_sheets};
-use crate::draws::{Lists, Plan, file};
+use crate::draws::{Lists, Plan};
 use crate::held::Held;
 use crate::plain::Plain;
 use crate::search::search;
@@ -73,14 +73,10 @@ fn read(file: &[u8], stops: u32, alloc: Global) -> Result<Option<Tried>, AllocEr
 
 // Draws a list, reads its file, and asks.
 fn try_list(asked: Asked, plan: Plan, alloc: Global, tally: &mut Tally) -> Result<(), AllocError> {
-    let drawn = Plain {
-        n: plan.n,
-        pairs: plan.draw(&mut tally.random, alloc)?,
-    };
+    let drawn = plan.draw(&mut tally.random, alloc)?;
     let stops = drawn.inside(|_| true);
     tally.list(drawn.pair_count(), stops);
-    let file = file(drawn.n, &drawn.pairs, alloc)?;
-    match read(file.as_bytes(), stops, alloc)? {
+    match read(drawn.file(alloc)?.as_bytes(), stops, alloc)? {
         Some(tried) => asked.ask(&tried, alloc, tally)?,
         None => tally.unread(),
     }
