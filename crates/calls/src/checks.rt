@@ -1,7 +1,7 @@
 // check: a cycle of 5 modules, the group all of them, and each pair lies wholly with one end: P = 5, Q = 5, every load is 5. Then two shares of a few
 // for a list of three modules with the pairs 0,1 and 1,2 and all three in the group: Q = 3, 0,1 has W times 3 units and 1,2 has 3.
-use crate::lists::{Damage, NONE};
-use crate::{lists, print};
+use crate::samples::{Damage, NONE};
+use crate::{print, samples};
 use kandurzo::check;
 use model::{front, front_mut};
 use records::{Head, Pair};
@@ -31,7 +31,7 @@ fn tried(rt: &impl Print, name: &str, due: u32, damage: Damage, a: Altered) -> i
     let mut work = [7u32; 16400];
     let bytes = [a.byte, 1, 1, 1, 1, 2, 2, 2];
     let sheet = [a.share, 0, 5, 5, 5, 9, 9, 9];
-    let lent = lists::cycle(damage);
+    let lent = samples::cycle(damage);
     let verdict = check(
         lent.head,
         &lent.list,
@@ -53,7 +53,7 @@ pub(crate) fn damaged(rt: &impl Print, name: &str, due: u32, damage: Damage) -> 
 fn print_shares(rt: &impl Print, w: u16, first: u32, second: u32) -> io::Result<()> {
     let mut work = [0u32; 16384];
     let pairs = [Pair { a: 0, b: 1, w }, Pair { a: 1, b: 2, w: 1 }];
-    let lent = lists::of_records(Head { n: 3, m: 2 }, &pairs);
+    let lent = samples::of_records(Head { n: 3, m: 2 }, &pairs);
     let verdict = check(
         lent.head,
         &lent.list,

@@ -6,17 +6,17 @@
 #![tactic(auto)]
 
 mod checks;
-mod lists;
 mod peels;
 mod plain;
 mod print;
 mod ratios;
+mod samples;
 mod solves;
 mod surpluses;
 mod writes;
 
-use lists::{Damage, NONE};
 use records::Pair;
+use samples::{Damage, NONE};
 use std::alloc::Global;
 use std::io;
 
@@ -92,7 +92,7 @@ fn counts(rt: &impl Print, alloc: Global) -> io::Result<()> {
     for (name, judged, count, past) in counts {
         let damage = Damage {
             past,
-            ..lists::counted(count)
+            ..samples::counted(count)
         };
         each_call(rt, alloc, name, judged, 0, damage)?;
     }

@@ -1,7 +1,7 @@
 // peel: the list *tail* of document 01, whose leaving order is 4,0,1,2,3 and whose core numbers are 3,3,3,3,1. Where 3,4 counts three times or more, the
 // leaving order is 0,1,2,3,4; where it counts more often than that, the core numbers of 3 and 4 are its count.
-use crate::lists::{Damage, NONE};
-use crate::{lists, print};
+use crate::samples::{Damage, NONE};
+use crate::{print, samples};
 use kandurzo::kandurzo_peel;
 use model::front_mut;
 use std::io;
@@ -32,7 +32,7 @@ fn tried(
     let mut order = [9u16; 8];
     let mut cores = [9u32; 8];
     let mut work = [7u32; 16400];
-    let lent = lists::tail(damage);
+    let lent = samples::tail(damage);
     let number = kandurzo_peel(
         lent.head,
         &lent.list,

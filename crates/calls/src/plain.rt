@@ -1,5 +1,5 @@
 // What solve has to answer for its members, core numbers and shares, computed a second time from the records as plainly as can be.
-use crate::lists::Lent;
+use crate::samples::Lent;
 use model::front;
 use records::Pair;
 

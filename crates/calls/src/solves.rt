@@ -1,9 +1,9 @@
 // solve: the list *tail* of document 01, whose found group is 0 to 3 with P/Q = 6/4; two triangles, all six modules with 6/6; a list without pairs; lists
 // of 512 modules; lists with counts. Where solve finds a group, `differ` says how much of its answer is not as due: P, Q, K, the core's size, shares above W
 // times Q and loads above P by a second computation, the answer of check, and the core numbers of peel. The float must be P/Q rounded once.
-use crate::lists::{Counts, Damage, Kind, Lent, NONE};
 use crate::plain::{Second, differing};
-use crate::{lists, plain, print, ratios};
+use crate::samples::{Counts, Damage, Kind, Lent, NONE};
+use crate::{plain, print, ratios, samples};
 use kandurzo::{Solved, check, kandurzo_peel, solve};
 use model::{front, front_mut};
 use std::io;
@@ -151,7 +151,7 @@ fn tried(rt: &impl Print, name: &str, due: u32, mut lent: Lent, a: Altered) -> i
 
 // A list that is altered.
 pub(crate) fn damaged(rt: &impl Print, name: &str, due: u32, damage: Damage) -> io::Result<()> {
-    tried(rt, name, due, lists::tail(damage), NAMED)
+    tried(rt, name, due, samples::tail(damage), NAMED)
 }
 
 // The list *tail*, its head with N, and so much of the buffers.
@@ -197,7 +197,7 @@ fn buffers(rt: &impl Print) -> io::Result<()> {
         ),
     ];
     for (name, due, n, altered) in all {
-        tried(rt, name, due, lists::tail(Damage { n, ..NONE }), altered)?;
+        tried(rt, name, due, samples::tail(Damage { n, ..NONE }), altered)?;
     }
     Ok(())
 }
@@ -218,7 +218,7 @@ fn others(rt: &impl Print) -> io::Result<()> {
         ("two of its pairs", 3, 2),
     ];
     for (name, n, m) in all {
-        tried(rt, name, 0, lists::triangles(n, m), eight)?;
+        tried(rt, name, 0, samples::triangles(n, m), eight)?;
     }
     Ok(())
 }
@@ -230,7 +230,7 @@ fn unlike_counts(rt: &impl Print) -> io::Result<()> {
         rt,
         "a count altered behind it",
         0,
-        lists::tail(NONE),
+        samples::tail(NONE),
         raised,
     )
 }
@@ -263,7 +263,7 @@ fn large(rt: &impl Print) -> io::Result<()> {
         ),
     ];
     for (name, kind, added, counts) in all {
-        tried(rt, name, 0, lists::large(kind, added, counts), LONGER)?;
+        tried(rt, name, 0, samples::large(kind, added, counts), LONGER)?;
     }
     Ok(())
 }

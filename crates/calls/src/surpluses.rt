@@ -1,6 +1,6 @@
 // surplus: groups of the list *tail* of document 01, whose found group is 0 to 3, of ratio 6/4; and with other counts of its pair 3,4.
-use crate::lists::{Damage, NONE};
-use crate::{lists, print};
+use crate::samples::{Damage, NONE};
+use crate::{print, samples};
 use kandurzo::surplus;
 use model::front;
 use std::io;
@@ -28,7 +28,7 @@ fn tried(
     second: &[u8],
     damage: Damage,
 ) -> io::Result<()> {
-    let lent = lists::tail(damage);
+    let lent = samples::tail(damage);
     let difference = surplus(lent.head, &lent.list, first, second);
     print::begin(rt, "surplus", name, due.number, difference.number)?;
     let same = if difference.value == due.value {
@@ -81,7 +81,7 @@ fn counts(rt: &impl Print) -> io::Result<()> {
         ("3,4 twice, 0 to 3 against them, 8", 8, group, 2),
     ];
     for (name, due, first, count) in all {
-        let damage = lists::counted(count);
+        let damage = samples::counted(count);
         tried(rt, name, value(due), &first, &[0, 0, 0, 1, 1], damage)?;
     }
     Ok(())

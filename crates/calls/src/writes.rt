@@ -1,9 +1,9 @@
 // write_dimacs: the list *tail* of document 01, other small lists, and lists of 512 modules; counts are not in the file. Each line has the length written,
 // and how many of the text's 65,600 bytes are not as due: the file of the list, made here a second time from its records, and past it, or after a refusal
 // from the first on, the bytes that were there before.
-use crate::lists::{Counts, Damage, Kind, Lent, NONE};
 use crate::plain::differing;
-use crate::{lists, print};
+use crate::samples::{Counts, Damage, Kind, Lent, NONE};
+use crate::{print, samples};
 use kandurzo::write_dimacs;
 use model::front_mut;
 use std::alloc::{AllocError, Global};
@@ -77,7 +77,7 @@ pub(crate) fn damaged(
     due: u32,
     damage: Damage,
 ) -> io::Result<()> {
-    tried(rt, alloc, name, due, &lists::tail(damage), SOUND)
+    tried(rt, alloc, name, due, &samples::tail(damage), SOUND)
 }
 
 // The list *tail*, its head with N, so much of the text, and the byte due that is altered.
@@ -147,7 +147,7 @@ fn buffers(rt: &impl Print, alloc: Global) -> io::Result<()> {
         ),
     ];
     for (name, due, n, altered) in all {
-        let lent = lists::tail(Damage { n, ..NONE });
+        let lent = samples::tail(Damage { n, ..NONE });
         tried(rt, alloc, name, due, &lent, altered)?;
     }
     Ok(())
@@ -163,7 +163,7 @@ fn others(rt: &impl Print, alloc: Global) -> io::Result<()> {
         ("two of its pairs", 3, 2),
     ];
     for (name, n, m) in all {
-        tried(rt, alloc, name, 0, &lists::triangles(n, m), SOUND)?;
+        tried(rt, alloc, name, 0, &samples::triangles(n, m), SOUND)?;
     }
     Ok(())
 }
@@ -182,7 +182,14 @@ fn large(rt: &impl Print, alloc: Global) -> io::Result<()> {
         ("512 modules, a clique of 64", Kind::Clique, ones),
     ];
     for (name, kind, counts) in all {
-        tried(rt, alloc, name, 0, &lists::large(kind, 4096, counts), SOUND)?;
+        tried(
+            rt,
+            alloc,
+            name,
+            0,
+            &samples::large(kind, 4096, counts),
+            SOUND,
+        )?;
     }
     Ok(())
 }
