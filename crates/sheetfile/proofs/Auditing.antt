@@ -1,10 +1,11 @@
 -- A sheet that has been read, judged.
 --   check_then                                   where check accepts, the causes behind decide
+--   fronts                                       the length of a buffer's front
 --   of_whole                                     check of whole buffers
 --   sheet_refused, check_refused, checked_some, head_judged    what each way through audit_list gives
 --   says_verdict                                 the answer in C's form
 -- Assumes nothing.
-use Rattle.std.proofs.Common.{◌≡◌, refl, sym, ap, ◌∙◌, Bool, true, false, not, ◌&&◌, cond, eqb, List, [], ◌∷◌, ◌++◌, ℕ, ◌≤◌, length, take, take_all, Result, Ok, Err, arith}
+use Rattle.std.proofs.Common.{◌≡◌, refl, sym, ap, ◌∙◌, Bool, true, false, not, ◌&&◌, cond, eqb, List, [], ◌∷◌, ◌++◌, ℕ, ◌≤◌, length, take, take_all, length-take-le, Result, Ok, Err, arith}
 use Rattle.theory.specs.Lists.{Pairs, is_list}
 use Rattle.theory.specs.Groups.{is_group, inside, size}
 use Rattle.theory.specs.Splits.{rounded_up}
@@ -37,6 +38,9 @@ check_then g s xs ds e =
     let b = refusal_none 7 _ _ a.1 in
     let c = refusal_none 8 _ _ b.1 in
     refusal_passed 7 _ _ a.0 ∙ refusal_passed 8 _ _ b.0 ∙ refusal_passed 9 _ _ c.0
+
+-- the first entries of a buffer are as many as are asked for
+pub ruleset fronts = (length-take-le)
 
 -- what check says of the whole of two buffers
 pub of_whole : {g : Pairs} {n m : ℕ} {s xs : List ℕ} {v : Verdict} → length s ≡ n → length xs ≡ m → CheckSays g (take n s) (take m xs) v → CheckSays g s xs v

@@ -2,9 +2,8 @@
 --   members_refused, numbers_refused, shares_refused, bytes_follow, body_whole       the lines after the head
 --   head_missing, head_unfit, body_refused, sheet_whole                              the whole sheet
 -- Assumes nothing.
-use Rattle.std.proofs.Common.{◌≡◌, ◌∙◌, false, ◌&&◌, leb, List, [], ℕ, ◌≤◌, ◌<◌, ◌⊎◌, inl, inr, length, get_or, replicate, Ok, Err}
-use mathlib.Core.Bool.{and-false}
-use borrow.Author.Tests.{lt-leb, le-leb, lt-ltb, le-ltb}
+use Rattle.std.proofs.Common.{◌≡◌, ◌∙◌, true, false, List, [], ℕ, ◌≤◌, ◌<◌, length, get_or, replicate, Ok, Err}
+use borrow.Author.Tests.{lt-ltb, le-ltb}
 use Rattle.theory.specs.Lists.{Pairs}
 use Rattle.theory.specs.Cores.{core_numbers}
 use Rattle.theory.specs.Refusals.{cause, refusal}
@@ -98,20 +97,16 @@ module _ (g : Pairs) {bs : List ℕ} where
     after_head = rw f.found
 
     -- 102
-    pub head_unfit : {s xs : List ℕ} → (q < 1) ⊎ (g.n < q) → SheetRead (read_sheet g bs) s xs (Err BadGroupSize)
-    unfolding ◌>>◌ outcome_of ratio_causes cause refusal between
-    head_unfit h = record { found = after_head ∙ rw (judged_by BadGroupSize (ratio_causes g.n q) (rw (bad h))) }
-      where
-        bad : (q < 1) ⊎ (g.n < q) → (leb 1 q && leb q g.n) ≡ false
-        bad (inl l) = rw (lt-leb 1 q l)
-        bad (inr l) = rw (lt-leb q g.n l, and-false (leb 1 q))
+    pub head_unfit : {s xs : List ℕ} → between 1 g.n q ≡ false → SheetRead (read_sheet g bs) s xs (Err BadGroupSize)
+    unfolding ◌>>◌ outcome_of ratio_causes cause refusal
+    head_unfit h = record { found = after_head ∙ rw (judged_by BadGroupSize (ratio_causes g.n q) (rw h)) }
 
-    module _ (some : 1 ≤ q) (most : q ≤ g.n) where
+    module _ (fit : between 1 g.n q ≡ true) where
       body_next : read_sheet g bs ≡ (do
         body ← read_body g q left
         taken (sheet (record { numbers = ns; rest = left }) body))
-      unfolding ◌>>◌ ratio_causes cause refusal between
-      body_next = after_head ∙ rw (judge_passed (ratio_causes g.n q) (rw (le-leb 1 q some, le-leb q g.n most)))
+      unfolding ◌>>◌ ratio_causes cause refusal
+      body_next = after_head ∙ rw (judge_passed (ratio_causes g.n q) (rw fit))
 
       -- 101, 103 to 106
       pub body_refused : {s xs : List ℕ} {e : Refusal} → read_body g q left ≡ refused (number_of e) → SheetRead (read_sheet g bs) s xs (Err e)

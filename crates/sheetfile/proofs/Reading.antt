@@ -1,11 +1,10 @@
 -- Lines of a sheet read one after another: the three loops.
---   Marked, marked_start, marked_missing, marked_unfit, marked_step, marked_done       member lines
---   Counted, counted_start, counted_missing, counted_unfit, counted_step, counted_done     number lines
---   Shared, shared_start, shared_missing, shared_unfit, shared_step, shared_done       share lines
+--   Marked, marked_missing, marked_unfit, marked_step, marked_done       member lines
+--   Counted, counted_missing, counted_unfit, counted_step, counted_done     number lines
+--   Shared, shared_missing, shared_unfit, shared_step, shared_done       share lines
 -- Assumes nothing.
-use Rattle.std.proofs.Common.{◌≡◌, refl, ap, ◌∙◌, false, not, ◌&&◌, leb, ltb, eqb, List, [], ◌∷◌, ◌++◌, ℕ, suc, ◌+◌, ◌*◌, ◌-◌, ◌≤◌, ◌<◌, ◌⊎◌, inl, inr, length, get_or, set, take, drop, Ok, Err, arith}
-use mathlib.Core.Bool.{and-false}
-use borrow.Author.Tests.{lt-leb, le-leb, lt-ltb, le-ltb, eq-eqb, ne_eqb}
+use Rattle.std.proofs.Common.{◌≡◌, ◌∙◌, true, false, not, ◌&&◌, leb, ltb, eqb, List, [], ◌∷◌, ◌++◌, ℕ, suc, ◌+◌, ◌*◌, ◌-◌, ◌≤◌, ◌<◌, length, get_or, set, take, drop, Ok, Err, arith}
+use borrow.Author.Tests.{eq-eqb, ne_eqb}
 use lib.ListN.{length-set, drop_of_length-le}
 use lib.Seq.{take_all, drop-cons, take-suc, take-set-le, get_or-set_same}
 use Rattle.theory.specs.Lists.{Pair, pair}
@@ -42,12 +41,6 @@ pub record Marked (bs : List ℕ) (q : ℕ) (old s left : List ℕ) (low k : ℕ
   pub upto : k ≤ q
   pub so_far : read_members q 0 old bs ≡ read_members (q - k) low s left
 
--- no line has been read
-pub marked_start : (bs : List ℕ) (q : ℕ) (s : List ℕ) → Marked bs q s s bs 0 0
-marked_start bs q s =
-    let e : q - 0 ≡ q = omega arith in
-    record { upto = omega arith; so_far = rw e }
-
 module _ {bs : List ℕ} {q : ℕ} {old s left : List ℕ} {low k : ℕ} (m : Marked bs q old s left low k) where
   -- all lines have been read
   pub marked_done : q ≤ k → PartRead (read_members q 0 old bs) s (Ok tt) left
@@ -83,22 +76,18 @@ module _ {bs : List ℕ} {q : ℕ} {old s left : List ℕ} {low k : ℕ} (m : Ma
       v = get_or ns 0 0
 
       -- 103
-      pub marked_unfit : (v < low) ⊎ (length s ≤ v) → {left'' : List ℕ} → PartRead (read_members q 0 old bs) s (Err BadMember) left''
+      pub marked_unfit : (leb low v && ltb v (length s)) ≡ false → {left'' : List ℕ} → PartRead (read_members q 0 old bs) s (Err BadMember) left''
       unfolding member_line first
-      marked_unfit h = member_refused BadMember (line_unfit (member_own (length s) low) first f BadMember (ap (λ t. cause 103 (not t)) (bad h)))
-        where
-          bad : (v < low) ⊎ (length s ≤ v) → (leb low v && ltb v (length s)) ≡ false
-          bad (inl l) = rw (lt-leb low v l)
-          bad (inr l) = rw (le-ltb v (length s) l, and-false (leb low v))
+      marked_unfit h = member_refused BadMember (line_unfit (member_own (length s) low) first f BadMember (rw h))
 
       -- one line more
-      pub marked_step : low ≤ v → v < length s → Marked bs q old (set s v 1) left' (v + 1) (k + 1)
+      pub marked_step : (leb low v && ltb v (length s)) ≡ true → Marked bs q old (set s v 1) left' (v + 1) (k + 1)
       unfolding member_line first ◌>>=◌
-      marked_step h l =
+      marked_step h =
           let e : v + 1 ≡ suc v = omega arith in
           record {
             upto = omega arith;
-            so_far = next_member ∙ rw (line_fit (member_own (length s) low) first f 103 (rw (le-leb low v h, lt-ltb v (length s) l)), e);
+            so_far = next_member ∙ rw (line_fit (member_own (length s) low) first f 103 (rw h), e);
           }
 
 -- ---- number lines
@@ -110,10 +99,6 @@ number_own c l = cause 104 (not (eqb (first l) c))
 -- the first v number lines in front of the bytes have been read
 pub record Counted (bs cores left : List ℕ) (v : ℕ) : Type 0 where
   pub so_far : read_numbers cores bs ≡ read_numbers (drop v cores) left
-
--- no line has been read
-pub counted_start : (bs cores : List ℕ) → Counted bs cores bs 0
-counted_start bs cores = record { so_far = refl }
 
 module _ {bs cores left : List ℕ} {v : ℕ} (m : Counted bs cores left v) where
   -- all lines have been read
@@ -167,10 +152,6 @@ pub record Shared (bs : List ℕ) (m : ℕ) (es ws xs left : List ℕ) (j : ℕ)
   pub size : length xs ≡ m
   pub so_far : read_shares (pairs_in m es ws) [] bs ≡ read_shares (drop j (pairs_in m es ws)) (take j xs) left
 
--- no line has been read
-pub shared_start : (bs : List ℕ) (m : ℕ) (es ws xs : List ℕ) → length xs ≡ m → Shared bs m es ws xs bs 0
-shared_start bs m es ws xs h = record { upto = omega arith; size = h; so_far = refl }
-
 module _ {bs : List ℕ} {m : ℕ} {es ws xs left : List ℕ} {j : ℕ} (s : Shared bs m es ws xs left j) where
   abbrev pairs : List Pair
   pairs = pairs_in m es ws
@@ -212,19 +193,15 @@ module _ {bs : List ℕ} {m : ℕ} {es ws xs left : List ℕ} {j : ℕ} (s : Sha
       u = get_or ns 2 0
 
       -- 105
-      pub shared_unfit : (get_or ns 0 0 ≡ a → ⊥) ⊎ (get_or ns 1 0 ≡ b → ⊥) → {left'' xs' : List ℕ} →
+      pub shared_unfit : (eqb (get_or ns 0 0) a && eqb (get_or ns 1 0) b) ≡ false → {left'' xs' : List ℕ} →
           PartRead (read_shares pairs [] bs) xs' (Err AnotherPair) left''
       unfolding share_line first second
-      shared_unfit h = share_refused AnotherPair (line_unfit (share_own a b) third f AnotherPair (ap (λ t. cause 105 (not t)) (bad h)))
-        where
-          bad : (get_or ns 0 0 ≡ a → ⊥) ⊎ (get_or ns 1 0 ≡ b → ⊥) → (eqb (get_or ns 0 0) a && eqb (get_or ns 1 0) b) ≡ false
-          bad (inl n) = rw (ne_eqb (get_or ns 0 0) a n)
-          bad (inr n) = rw (ne_eqb (get_or ns 1 0) b n, and-false (eqb (get_or ns 0 0) a))
+      shared_unfit h = share_refused AnotherPair (line_unfit (share_own a b) third f AnotherPair (rw h))
 
       -- one line more
-      pub shared_step : get_or ns 0 0 ≡ a → get_or ns 1 0 ≡ b → Shared bs m es ws (set xs j u) left' (j + 1)
+      pub shared_step : (eqb (get_or ns 0 0) a && eqb (get_or ns 1 0) b) ≡ true → Shared bs m es ws (set xs j u) left' (j + 1)
       unfolding share_line first second third ◌>>=◌
-      shared_step e d =
+      shared_step h =
           let n : j + 1 ≡ suc j = omega arith in
           let long : length (set xs j u) ≡ length xs = length-set xs j u in
           let front : take (suc j) (set xs j u) ≡ take j xs ++ (u ∷ []) =
@@ -233,5 +210,5 @@ module _ {bs : List ℕ} {m : ℕ} {es ws xs left : List ℕ} {j : ℕ} (s : Sha
           record {
             upto = omega arith;
             size = long ∙ s.size;
-            so_far = next_share ∙ rw (line_fit (share_own a b) third f 105 (rw (eq-eqb (get_or ns 0 0) a e, eq-eqb (get_or ns 1 0) b d)), n, front);
+            so_far = next_share ∙ rw (line_fit (share_own a b) third f 105 (rw h), n, front);
           }

@@ -7,7 +7,7 @@
 
 mod sheet;
 
-ghost use Rattle.std.specs.Prelude.{◌≡◌, ◌≤◌, length, take};
+ghost use Rattle.std.specs.Prelude.{◌≡◌, ◌≤◌, take};
 ghost use Rattle.theory.specs.Cores.{core_numbers};
 ghost use Rattle.lists.specs.Listed.{listed};
 ghost use Rattle.verify.specs.Answers.{verdict_of};
@@ -55,7 +55,7 @@ fn core_numbers(list: List) -> [u32; 512]
 }
 
 // The sheet audited beside a list: what is read of it goes to check.
-#[tactic(auto, using(slots::proofs::Words::held_few))]
+#[tactic(auto, using(slots::proofs::Words::held_few, crate::proofs::Auditing::fronts))]
 fn audit_list(list: List, sheet: &[u8]) -> Result<Ratio, Refusal>
     ensures { RatioSays (audit_sheet (listed list.entry) sheet.now) result }
 {

@@ -21,6 +21,7 @@ pub(crate) struct SheetHead {
 }
 
 // The numbers of the line of a form in front: 101 where there is none.
+#[tactic(auto, using(crate::proofs::Judging::due))]
 fn line_due<const N: usize>(
     reader: &mut Reader,
     form: &[u8],
@@ -41,7 +42,7 @@ fn read_members(reader: &mut Reader, q: usize, members: &mut [u8]) -> Result<(),
     for k in 0..q {
         let [member] = line_due::<1>(reader, b"member=A\n", 4)?;
         let v = member as usize;
-        if v < low || members.len() <= v {
+        if !(low..members.len()).contains(&v) {
             return Err(Refusal::BadMember);
         }
         members[v] = 1;
@@ -70,7 +71,7 @@ fn read_shares(reader: &mut Reader, list: List, shares: &mut [u32]) -> Result<()
 {
     for j in 0..list.m {
         let [a, b, share] = line_due::<3>(reader, b"share=A,B,U\n", 7)?;
-        if a != list.ends[2 * j] || b != list.ends[2 * j + 1] {
+        if (a, b) != (list.ends[2 * j], list.ends[2 * j + 1]) {
             return Err(Refusal::AnotherPair);
         }
         shares[j] = share;
@@ -94,10 +95,11 @@ pub(crate) fn read_sheet(
     let mut reader = Reader { left: bytes };
     let form = b"status=0\nratio=P/Q\ncore=K,C\n";
     let [p, q, k, core_size] = line_due::<4>(&mut reader, form, 7)?;
-    if q < 1 || list.n < q as usize {
+    let size = q as usize;
+    if !(1..=list.n).contains(&size) {
         return Err(Refusal::BadGroupSize);
     }
-    read_members(&mut reader, q as usize, members)?;
+    read_members(&mut reader, size, members)?;
     read_numbers(&mut reader, cores)?;
     read_shares(&mut reader, list, shares)?;
     if !reader.is_done() {

@@ -1,5 +1,5 @@
 -- `sheetfile::audit_list` meets its contract: the sheet is read, the group and the shares go to check, and then the head is judged.
-use Rattle.std.proofs.Common.{◌≡◌, ◌∙◌, sym, length, length-take-le, arith}
+use Rattle.std.proofs.Common.{◌≡◌, ◌∙◌, length, length-take-le}
 use Rattle.std.proofs.lemmas.List.{take-replicate}
 use Rattle.slots.proofs.Words.{held_few}
 use Rattle.lines.proofs.Found.{handed_on}
@@ -7,20 +7,8 @@ use Rattle.sheetfile.proofs.Auditing.{of_whole, sheet_refused, check_refused, ch
 use Rattle.sheetfile.proofs.audit_list.Goals as goal
 use Rattle.sheetfile.proofs.audit_list.Goals.{After-read_sheet, After-check_words}
 
-pub slice_bounds-cores-end-2 : goal.slice_bounds-cores-end-2
-slice_bounds-cores-end-2 c = sym (length-take-le _ _ (omega (arith, (held_few c.args.list.held).0, c.core_numbers-cores.type_inv)))
-
-pub slice_bounds-members-end-2 : goal.slice_bounds-members-end-2
-slice_bounds-members-end-2 c = sym (length-take-le _ _ (held_few c.args.list.held).0)
-
-pub slice_bounds-shares-end-2 : goal.slice_bounds-shares-end-2
-slice_bounds-shares-end-2 c = sym (length-take-le _ _ (held_few c.args.list.held).1)
-
 pub read_sheet-requires-clause-unmarked : goal.read_sheet-requires-clause-unmarked
 read_sheet-requires-clause-unmarked c = take-replicate c.args.list.n 512 0 (held_few c.args.list.held).0
-
-pub read_sheet-requires-clause-room : goal.read_sheet-requires-clause-room
-read_sheet-requires-clause-room c = length-take-le _ _ (held_few c.args.list.held).1
 
 pub returns-in_err-head : goal.returns-in_err-head
 returns-in_err-head c = rw (handed_on c.from_residual.ensures.1) (sheet_refused _ _ c.in_err-head.ensures)
@@ -31,12 +19,6 @@ members_size c = c.read_sheet.auto.members ∙ length-take-le _ _ (held_few c.ar
 
 shares_size : (c : After-read_sheet) → length c.read_sheet.new.shares ≡ c.args.list.m
 shares_size c = c.read_sheet.auto.shares ∙ length-take-le _ _ (held_few c.args.list.held).1
-
-pub check_words-requires-clause-members_len : goal.check_words-requires-clause-members_len
-check_words-requires-clause-members_len c = omega (arith, members_size (goal.at.check_words-requires-clause-members_len c).After-read_sheet)
-
-pub check_words-requires-clause-shares_len : goal.check_words-requires-clause-shares_len
-check_words-requires-clause-shares_len c = omega (arith, shares_size (goal.at.check_words-requires-clause-shares_len c).After-read_sheet)
 
 pub returns-in_err-ratio : goal.returns-in_err-ratio
 returns-in_err-ratio c =
@@ -52,4 +34,6 @@ judge_head-requires c =
 pub returns : goal.returns
 returns c =
     let at = (goal.at.returns c).After-read_sheet in
-    rw c.judge_head.ensures (head_judged _ _ c.in_ok-head.ensures (of_whole (members_size at) (shares_size at) c.in_ok-ratio.ensures) c.args.list.held.listed c.core_numbers-cores.ensures)
+    rw c.judge_head.ensures
+    (head_judged _ _ c.in_ok-head.ensures (of_whole (members_size at) (shares_size at) c.in_ok-ratio.ensures) c.args.list.held.listed
+    c.core_numbers-cores.ensures)

@@ -5,11 +5,8 @@ use Rattle.lines.specs.Text.{text, between}
 use Rattle.lines.specs.Lines.{is_place, places}
 use Rattle.lines.proofs.Found.{handed_on}
 use Rattle.sheetfile.specs.Sheet.{number_form}
-use Rattle.sheetfile.proofs.Reading.{counted_start, counted_missing, counted_unfit, counted_step, counted_done}
+use Rattle.sheetfile.proofs.Reading.{counted_missing, counted_unfit, counted_step, counted_done}
 use Rattle.sheetfile.proofs.sheet.read_numbers.Goals as goal
-
-pub loop-core-init : goal.loop-core-init
-loop-core-init c = counted_start _ _
 
 pub line_due-requires : goal.line_due-requires
 unfolding places is_place between mark
