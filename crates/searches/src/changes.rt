@@ -41,7 +41,7 @@ const CHANGES: [Change; 10] = [
     Change::AllUnits,
 ];
 
-// Lowers a share by one unit, where it has one; the units that it had.
+// Lowers a share by one unit, where it has one; the units that it loses.
 fn lower(i: u32, shares: &mut [u32]) -> u32 {
     let x = at(shares, i);
     put(shares, i, x.saturating_sub(1));
