@@ -1,7 +1,7 @@
 -- Lines of a sheet read one after another: the three loops.
---   Marked, marked_missing, marked_unfit, marked_step, marked_done       member lines
+--   Marked, marked_missing, marked_unfit, marked_step, marked_done          member lines
 --   Counted, counted_missing, counted_unfit, counted_step, counted_done     number lines
---   Shared, shared_missing, shared_unfit, shared_step, shared_done       share lines
+--   Shared, shared_missing, shared_unfit, shared_step, shared_done          share lines
 -- Assumes nothing.
 use Rattle.std.proofs.Common.{◌≡◌, ◌∙◌, true, false, not, ◌&&◌, leb, ltb, eqb, List, [], ◌∷◌, ◌++◌, ℕ, suc, ◌+◌, ◌*◌, ◌-◌, ◌≤◌, ◌<◌, length, get_or, set, take, drop, Ok, Err, arith}
 use borrow.Author.Tests.{eq-eqb, ne_eqb}

@@ -39,7 +39,7 @@ fn read_members(reader: &mut Reader, q: usize, members: &mut [u8]) -> Result<(),
     ensures { PartRead (read_members q 0 members.old reader.old.left.now) members.new result reader.new.left.now }
 {
     let mut low = 0;
-    for k in 0..q {
+    for _ in 0..q {
         let [member] = line_due::<1>(reader, b"member=A\n", 4)?;
         let v = member as usize;
         if !(low..members.len()).contains(&v) {

@@ -14,16 +14,16 @@ line_due-requires c = search rules
 
 pub returns-in_err-member : goal.returns-in_err-member
 unfolding member_form text
-returns-in_err-member c = rw (handed_on c.from_residual.ensures.1) (marked_missing c.loop-k.invariant c.loop-k-test.true c.in_err-member.ensures)
+returns-in_err-member c = rw (handed_on c.from_residual.ensures.1) (marked_missing c.loop.invariant c.loop-test.true c.in_err-member.ensures)
 
 pub returns-then-not-contains : goal.returns-then-not-contains
 unfolding member_form text
 returns-then-not-contains c =
-    marked_unfit c.loop-k.invariant c.loop-k-test.true c.in_ok-member.ensures (search (rules, tests))
+    marked_unfit c.loop.invariant c.loop-test.true c.in_ok-member.ensures (search (rules, tests))
 
-pub loop-k-preserved : goal.loop-k-preserved
+pub loop-preserved : goal.loop-preserved
 unfolding member_form text
-loop-k-preserved c = marked_step c.loop-k.invariant c.loop-k-test.true c.in_ok-member.ensures (search (rules, tests))
+loop-preserved c = marked_step c.loop.invariant c.loop-test.true c.in_ok-member.ensures (search (rules, tests))
 
 pub returns : goal.returns
-returns c = marked_done c.loop-k.invariant c.loop-k-test.false
+returns c = marked_done c.loop.invariant c.loop-test.false
