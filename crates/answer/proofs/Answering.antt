@@ -9,8 +9,8 @@ use Rattle.theory.specs.Splits.{core_order}
 use Rattle.theory.specs.Words.{laid_list, HoldsList}
 use Rattle.theory.proofs.Words.{length_laid}
 use Rattle.refusals.specs.declared.Refusal.{Refusal}
-use Rattle.lines.specs.Outcomes.{Outcome, refused, taken, outcome_of}
-use Rattle.lines.proofs.Taken.{refused_not_taken}
+use Rattle.lines.specs.Outcomes.{outcome_of}
+use Rattle.lines.proofs.Taken.{refused_not_taken, taken_same}
 use Rattle.pairfile.specs.Answers.{FileRead, SamePast}
 use Rattle.records.specs.declared.Head.{Head}
 use Rattle.on_words.specs.declared.Solved.{Solved}
@@ -18,11 +18,6 @@ use Rattle.on_words.specs.Solving.{SolveOn, Handed}
 use Rattle.on_words.proofs.Sheets.{found_front}
 use Rattle.answer.specs.declared.Answer.{Answer}
 use Rattle.answer.specs.Answers.{group_answer, answer_to, members_after, solved_of, HandedOver, Sheeted}
-
--- the list that an outcome names, or another
-list_or : Pairs → Outcome Pairs → Pairs
-list_or d (refused k) = d
-list_or d (taken g) = g
 
 module _ (bytes members cores shares words : List ℕ) where
   pub refused_as : {old work : List ℕ} {e : Refusal} → FileRead 4096 bytes old work (Err e) →
@@ -83,11 +78,11 @@ module _ (bytes members cores shares words : List ℕ) where
       }
 
       pub taken_as : Sheeted bytes members cores shares words (Ok given) members' cores' shares' words'
-      unfolding outcome_of answer_to members_after laid_list list_or
+      unfolding outcome_of answer_to members_after
       taken_as = record {
         answers = record { answer_is = rw (f.found, answer_as) refl; members_are = rw f.found s.handed.members_are };
         taken = λ u t.
-            let same : g ≡ u = ap (list_or g) (sym f.found ∙ t) in
+            let same : g ≡ u = taken_same (sym f.found ∙ t) in
             rw (← same, ← answer_as) over;
         refused = λ k r. absurd (refused_not_taken (sym r ∙ f.found));
       }
