@@ -47,9 +47,8 @@ pub fn flow(units: &mut Units, arcs: Arcs, p: u32, scope: &[u8], group: &mut [u8
     let mut rank = [0u32; 512];
     let split = settle(units, arcs, p, &mut rank);
     if split.settled {
-        mark(&drain(units, arcs, p, scope).rank, group);
-    } else {
-        mark(&rank, group);
+        drain(units, arcs, p, scope, &mut rank);
     }
+    mark(&rank, group);
     split
 }
