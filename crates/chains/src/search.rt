@@ -10,7 +10,8 @@ use crate::{Ended, Searches};
 use arcs::Arcs;
 use slots::Units;
 
-// Breadth first from the root along slots that hold units: the first module found that is loaded below p, if there is one.
+// Breadth first from the root along slots that hold units: the first module found that is loaded below p, if there is one. (The labelled scan is a form that
+// document 01 names. It counts no index.)
 fn search(units: &Units, arcs: Arcs, p: u32, root: usize, reached: &mut Reached) -> Option<usize>
     requires n_bound { units.now.graph.n ≤ 512 }
     requires root { (root < units.now.graph.n) × (p ≤ slice_index units.now.load.now root) }
@@ -42,7 +43,7 @@ fn search(units: &Units, arcs: Arcs, p: u32, root: usize, reached: &mut Reached)
 }
 
 // Units move towards `found` along the chain by which it was reached, from its end backward, until a module on it keeps p or more. How many slots
-// they moved along.
+// they moved along. (A loop along a chain, not over an index.)
 fn pull(units: &mut Units, p: u32, root: usize, found: usize, reached: &Reached) -> u32
     requires root { (root < units.old.graph.n) × (p < slice_index units.old.load.now root) }
     requires found { ChainFound units.old.graph.n units.old.graph.m p root units.old.graph.ends.now units.old.hold.now units.old.load.now
@@ -68,7 +69,7 @@ fn pull(units: &mut Units, p: u32, root: usize, found: usize, reached: &Reached)
 }
 
 // Searches and pulls until no load is above p. Not settled: the last search reached a set that no unit can leave, those with a rank. Free are where the units
-// of a pair lie, the ranks where it is settled, and what is said of searches.
+// of a pair lie, the ranks where it is settled, and what is said of searches. (How often a root is searched from is not known: no index is counted.)
 pub fn settle(units: &mut Units, arcs: Arcs, p: u32, rank: &mut [u32]) -> Ended
     requires { (units.old.graph.n ≤ 512) × (512 ≤ length rank.old) }
     ensures same { UnitsSame units.old units.new }

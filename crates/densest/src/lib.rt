@@ -33,7 +33,8 @@ pub struct Solution {
     pub searches: Searches,
 }
 
-// Solve, where there are exactly a byte for each module and a share for each pair; `core` and `scope` are for its use.
+// Solve, where there are exactly a byte for each module and a share for each pair; `core` and `scope` are for its use. (The
+// buffers are those that the call lends, each by itself.)
 #[tactic(auto, using(theory::proofs::Words::holds_few))]
 fn solve_in(
     effort: Effort,

@@ -8,6 +8,7 @@ use arcs::Arcs;
 use slots::Units;
 
 // Who stays when modules of the scope loaded below p have drained, and whoever holds units of a pair with one that has: those with a rank above 0.
+// (The loop goes by the queue: it counts no index.)
 pub(crate) fn drain(units: &Units, arcs: Arcs, p: u32, scope: &[u8], rank: &mut [u32])
     requires n_bound { units.now.graph.n ≤ 512 }
     requires n_in_bounds { units.now.graph.n ≤ length scope.now }

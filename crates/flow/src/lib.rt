@@ -7,6 +7,8 @@
 // what stays is the largest set loaded p throughout. Push phases (crate `push`) leave little to search: they go before, in the caller, and the promise does
 // not depend on them.
 // Cost: the searches for chains, a step for each arc of the modules that drain, and scans over all pairs for who else does. Nothing is refused.
+// That a graph has at most 512 modules, and how long a lent buffer is, are clauses where an array of 512 is indexed: a graph may have more, and an array in the
+// place of a slice would ask for more.
 #![tactic(auto)]
 
 mod drain;

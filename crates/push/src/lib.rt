@@ -8,6 +8,8 @@
 // Whatever the labels say, units move within pairs only (`Units::shift`): the promise is that a split stays a split. How well it is balanced is free.
 // Cost: a phase takes a step for each slot of the modules that it labels and of those that come up in the queue. Nothing is refused.
 // `as` stands where std has no `From`: from u32 to usize, and where a bound lets a number fit fewer bits.
+// That a graph has at most 512 modules, and how long a lent buffer is, are clauses where an array of 512 is indexed: a graph may have more, and an array in the
+// place of a slice would ask for more.
 #![tactic(auto)]
 
 mod distances;

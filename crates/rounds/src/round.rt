@@ -147,7 +147,7 @@ fn decide(
     }
 }
 
-// One round, with so much effort before the search.
+// One round, with so much effort before the search. (What goes together is a struct; the buffers are lent each for itself.)
 #[tactic(auto, unfolding(crate::specs::Search::no_load))]
 pub(crate) fn round(
     known: Known,

@@ -9,7 +9,8 @@ use arcs::Arc;
 use flow::Searches;
 
 // Rounds from the ratio that is known on, and a split at the found group's size: `group` has the found group, whose ratio is answered, `scope` the core of
-// that ratio rounded up, and `hold` the split's units. Free are where the units of a pair inside the core lie, and what is said of searches.
+// that ratio rounded up, and `hold` the split's units. Free are where the units of a pair inside the core lie, and what is said of searches. (The loop goes by
+// the ratio: it counts no index.)
 pub fn find(
     mut known: Known,
     effort: Effort,

@@ -37,7 +37,7 @@ fn first_part(u: u32, scale: Option<u64>, x: u32) -> u32
 }
 
 // A split at share size q inside the scope: near the one that hold has at share size `old`, or in halves where `old` is 0. And the loads: `load` has the
-// modules' own before, and all of them after.
+// modules' own before, and all of them after. (Units would be no plainer here: its invariant holds only afterwards.)
 pub fn spread(
     graph: Graph,
     weights: &[u32],
