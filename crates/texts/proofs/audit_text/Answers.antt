@@ -15,7 +15,8 @@ pub line-requires : goal.line-requires
 unfolding accepted_form text
 line-requires c =
     let few = accepted_length _ (ratio_small c.in-Ok.ensures) in
-    (left_lent {whole = filled accepted_form (c.in-Ok.ratio.p ∷ c.in-Ok.ratio.q ∷ [])} {start = c.new-writer.result} c.new-writer.ensures.unwritten c.new-writer.ensures.start
+    let r = c.in-Ok.ratio in
+    (left_lent {whole = filled accepted_form (r.p ∷ r.q ∷ [])} {start = c.new-writer.result} c.new-writer.ensures.unwritten c.new-writer.ensures.start
     (omega (arith, few, c.requires))).room
 
 pub returns-in-Ok : goal.returns-in-Ok
