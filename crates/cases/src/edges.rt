@@ -38,7 +38,7 @@ pub(crate) fn try_edges(rt: &HostRuntime, words: &mut Words) -> io::Result<Strin
     Ok(read(rt.alloc(), file.as_slice(), 4096)?)
 }
 
-// A DIMACS file behind the number of records that there is room for.
+// A DIMACS file behind the number of records that there is room for. (`as` as above.)
 pub(crate) fn try_room(rt: &HostRuntime, words: &mut Words) -> io::Result<String> {
     let room = words.number()?;
     let file = words.file(rt)?;
