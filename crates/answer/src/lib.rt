@@ -1,4 +1,5 @@
 // The answer to the bytes of a pair file, which crate `texts` writes out.
+// `as` stands where std has no `From`: from u32 to usize, and where a bound lets a number fit fewer bits.
 #![tactic(auto)]
 
 ghost use Rattle.std.specs.Prelude.{◌≡◌, ◌≤◌, length};

@@ -2,6 +2,7 @@
 // stop counts). An entry is one line: it turns the `Result` of the call's own function, which refuses by `?`, into what C is answered. That function takes
 // the records that are held, copies them to words (crate records), and leaves the rest to crate `on_words`. Head and list are two parameters, as C passes
 // them.
+// `as` stands where std has no `From`: from u32 to usize, and where a bound lets a number fit fewer bits.
 #![tactic(auto)]
 
 mod changes;

@@ -25,7 +25,7 @@ pub fn any_short(lent: &[Buffer]) -> bool
     lent.iter().any(|buffer| buffer.has < buffer.needs)
 }
 
-// The work buffer's 16,384 words become 0.
+// The work buffer's 16,384 words become 0. (A name for std's `fill`: its contract is what every call says of the work buffer.)
 pub fn clear(work: &mut [u32])
     requires { 16384 ≤ length work.old }
     ensures { work.new ≡ cleared work.old }

@@ -6,6 +6,7 @@
 // leaves the file's pairs in them. Each costs what the crate below it does (pairs, peel, densest, verify, pairfile, dimacs), and the 16,384 words that are
 // cleared. On words add refuses by 5, 4, 18, 19, 11, remove by 5, 4, 14, check by 7, 8, 9, surplus by 7, and both readers by the file's numbers.
 // Head and words are two parameters, not a struct that keeps what the words hold: a call lays them out once and hands them to one function.
+// `as` stands where std has no `From`: from u32 to usize, and where a bound lets a number fit fewer bits.
 #![tactic(auto)]
 
 ghost use Rattle.std.specs.Prelude.{◌≡◌};
