@@ -5,6 +5,7 @@
 // A text is written once, from front to back, line by line, at the cost of its bytes. 8,192 bytes hold the text of any group, 140,000 that of any
 // sheet, 64 that of any audit or pair; a file is refused by its number on the status line. Of its input a program has every byte that decides (the first
 // 65,536 of a pair file, 140,000 of a sheet), or all there are: the text is that of the whole file.
+// `as` stands where std has no `From`: from u32 to usize, and where a bound lets a number fit fewer bits.
 #![tactic(auto)]
 
 mod converted;

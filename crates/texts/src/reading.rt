@@ -7,7 +7,8 @@ use std::fs::File;
 use std::io::Read;
 use std::{io, str};
 
-// Reads until the buffer, which has room for the first DECIDE bytes, is full or the input ends; answers how many bytes were read.
+// Reads until the buffer, which has room for the first DECIDE bytes, is full or the input ends; answers how many bytes were read. (Each read says
+// by how many `done` grows: it is no index that is counted.)
 pub fn read_full<const DECIDE: usize, R: Read>(
     input: &mut R,
     buffer: &mut [u8],
