@@ -2,7 +2,8 @@
 --   inside_most, inside_all  the units of the pairs inside a set are at most q times its inside count; all of that, for a set inside the scope
 --   split_kept, split_room   a split whose units moved is a split; a split has room
 --   has_units_in                  a pair with units has its ends in the scope
---   none_own, no_own         no own loads, of a module and of a set
+--   none_own                 no own load, of a module
+--   own_none, no_own         of a set of modules that have none, whatever has the own loads; where nobody has one
 -- Assumes nothing.
 use Rattle.std.proofs.Common.{◌≡◌, ℕ, suc, ◌+◌, ◌*◌, ◌<◌, ◌≤◌, Bool, true, false, cond, List, [], ◌∷◌, length, get_or, sym, refl, ap, ◌∙◌, mul-le-mul_right, mul-le-mul_left, arith}
 use Rattle.theory.specs.Groups.{is_in, holds_pair, inside}
@@ -93,12 +94,13 @@ pub none_own : (v : ℕ) → get_or no_load v 0 ≡ 0
 unfolding no_load
 none_own v = zero_at 512 v
 
-own_zero : (own t : List ℕ) → ((v : ℕ) → get_or own v 0 ≡ 0) → own_of own t ≡ 0
+-- nor a set of modules that have none
+pub own_none : (own t : List ℕ) → ((v : ℕ) → v < length t → get_or own v 0 ≡ 0) → own_of own t ≡ 0
 unfolding own_of
-own_zero own [] h = refl
-own_zero [] (x ∷ xs) h = refl
-own_zero (o ∷ os) (x ∷ xs) h = omega (arith, ap (λ (z : ℕ). x * z) (h 0), own_zero os xs (λ v. h (suc v)))
+own_none own [] h = refl
+own_none [] (x ∷ xs) h = refl
+own_none (o ∷ os) (x ∷ xs) h = omega (arith, ap (λ (z : ℕ). x * z) (h 0 (omega arith)), own_none os xs (λ v l. h (suc v) (omega arith)))
 
--- nor a set of modules
+-- where nobody has one
 pub no_own : (t : List ℕ) → own_of no_load t ≡ 0
-no_own t = own_zero no_load t none_own
+no_own t = own_none no_load t (λ v _. none_own v)

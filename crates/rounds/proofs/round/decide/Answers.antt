@@ -1,10 +1,10 @@
 -- `rounds::round::decide` meets its contract. Assumes nothing.
 use Rattle.std.proofs.Common.{arith}
-use Rattle.rounds.proofs.Rounds.{opened_kept, opened_long, opened_loads, round_stuck, round_of}
+use Rattle.rounds.proofs.Rounds.{opened_kept, opened_long, opened_loads, stuck_made, round_of}
 use Rattle.rounds.proofs.round.decide.Goals as goal
 
 pub returns-in-Some-clause-round : goal.returns-in-Some-clause-round
-returns-in-Some-clause-round c = round_stuck (opened_kept c.requires.opened c.balance.ensures.kept).opened c.in-Some.ensures.denser
+returns-in-Some-clause-round c = stuck_made (opened_kept c.requires.opened c.balance.ensures.kept).opened c.in-Some.ensures.denser
 
 pub flow-ended-requires-clause-scope_len : goal.flow-ended-requires-clause-scope_len
 flow-ended-requires-clause-scope_len c =
