@@ -3,8 +3,9 @@
 --   lasts_next     each module's last place
 --   linked_next    the links
 --   last_le        a link leads back
+--   total_linked   a sum over a module's places, along its links
 -- Assumes nothing.
-use mathlib.Core.Path.{◌≡◌, sym, ap, ◌∙◌}
+use mathlib.Core.Path.{◌≡◌, refl, sym, ap, ◌∙◌}
 use mathlib.Core.List.{List}
 use mathlib.Core.Logic.{⊎_elim}
 use Prim.Native.Nat.{ℕ, zero, suc, ◌+◌, ◌≤◌, ◌<◌}
@@ -13,6 +14,7 @@ use native.Mathlib.Numerals.{add-one}
 use lib.ListN.{length, get_or, set}
 use lib.Seq.{get_or-set_same, get_or-set_other}
 use borrow.Author.Tests.{eq-eqb, ne_eqb}
+use Rattle.slots.specs.Slots.{total}
 use Rattle.slots.specs.Links.{last_at, Lasts, Linked}
 use Rattle.slots.proofs.Choice.{eq_or_ne, stored_more}
 
@@ -51,4 +53,14 @@ last_le (suc k) f v =
     ⊎_elim
     (λ (e : f k ≡ v). rw (eq-eqb (f k) v e) (omega arith))
     (λ ne. rw (ne_eqb (f k) v ne) (omega (arith, last_le k f v)))
+    (eq_or_ne (f k) v)
+
+-- the links pass over places of other modules, which add nothing
+pub total_linked : (k : ℕ) (f : ℕ → ℕ) (v : ℕ) (h : ℕ → ℕ) → ((i : ℕ) → (f i ≡ v → ⊥) → h i ≡ 0) → total k h ≡ total (last_at k f v) h
+unfolding total last_at
+total_linked zero f v h z = refl
+total_linked (suc k) f v h z =
+    ⊎_elim
+    (λ (e : f k ≡ v). rw (eq-eqb (f k) v e))
+    (λ ne. rw (ne_eqb (f k) v ne) (omega (arith, z k ne, total_linked k f v h z)))
     (eq_or_ne (f k) v)
