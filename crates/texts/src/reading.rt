@@ -15,6 +15,7 @@ pub fn read_full<const DECIDE: usize, R: Read>(
 ) -> io::Result<usize>
     requires decides { DECIDE ≤ length buffer.old }
     ensures within { IfOk result (λ n. n ≤ length buffer.new) }
+    ensures front { IfOk result (λ n. IfSome (R.remaining input.old) (λ file. take n buffer.new ≡ take (length buffer.new) file)) }
     ensures read { IfOk result (λ n. IfSome (R.remaining input.old) (λ file. ReadOf DECIDE (take n buffer.new) file)) }
 {
     let mut done = 0;
