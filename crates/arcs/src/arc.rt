@@ -17,7 +17,7 @@ pub struct Arcs<'a> {
 }
 
 impl<'a> Arcs<'a> {
-    // The arcs of module v; none where nothing is said of it.
+    // The arcs of module v; none where nothing is said of it. It has no contract by design: arcs are a hint, and which there are is free.
     pub fn of(&self, v: usize) -> &'a [Arc] {
         match *self.starts.get(v..).unwrap_or_default() {
             [from, to, ..] => self
