@@ -8,7 +8,7 @@ import sys
 show = "--list" in sys.argv
 rest = [a for a in sys.argv[1:] if a != "--list"]
 root = rest[0] if rest else "."
-tests = {"searches", "edits", "readers", "calls", "cases"}
+tests = {"searches", "model", "edits", "readers", "calls", "cases"}
 found = collections.defaultdict(list)
 
 

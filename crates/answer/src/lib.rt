@@ -1,69 +1,77 @@
 // The answer to the bytes of a pair file, which crate `texts` writes out.
+// `as` stands where std has no `From`: from u32 to usize, and where a bound lets a number fit fewer bits.
 #![tactic(auto)]
 
 ghost use Rattle.std.specs.Prelude.{◌≡◌, ◌≤◌, length};
+ghost use Rattle.theory.specs.Words.{laid_list};
+ghost use Rattle.lists.specs.Listed.{listed};
+ghost use Rattle.pairfile.specs.Answers.{SamePast};
 ghost use Rattle.answer.specs.Answers.{Answers, RoomEnough, Sheeted};
 
-use kandurzo::{read, solve};
-use records::{Head, Pair, copy_out};
+use lists::List;
+use numbers::Ratio;
+use on_words::solving::solve_on_words;
+use pairfile::read_words;
+use records::Head;
+use refusals::Refusal;
 
-// The refusal number or 0; N and M; P and Q; K and the number of modules in the core of order K. Beside a refusal all but the number are 0.
-#[derive(Clone, Copy)]
+// N and M; P and Q; K and the number of modules in the core of order K.
+#[derive(Clone, Copy, Debug, PartialEq, Eq)]
 pub struct Answer {
-    pub number: u32,
-    pub n: u32,
-    pub m: u32,
-    pub p: u32,
-    pub q: u32,
+    pub head: Head,
+    pub ratio: Ratio,
     pub k: u32,
     pub coresize: u32,
 }
 
-// How many pairs a head counts.
-fn count(head: Head) -> usize
-    ensures { result ≡ head.m }
+// The pairs of a list to words. The other words stay.
+fn lay(list: List, words: &mut [u32])
+    requires { 12288 ≤ length words.old }
+    ensures pairs { laid_list list.entry.n list.entry.m words.new ≡ listed list.entry }
+    ensures past { SamePast list.entry.m words.old words.new }
 {
-    head.m as usize
+    let ends = 2 * list.m;
+    words[..ends].copy_from_slice(&list.ends[..ends]);
+    words[8192..8192 + list.m].copy_from_slice(&list.weights[..list.m]);
 }
 
-// Reads the file and solves its list: the member bytes mark the found group, then core numbers, load sheet, and the list in words. A refused
-// file has the head 0,0: no record goes out, and solve declines.
+// Reads the file and solves its list: the member bytes mark the found group, then core numbers, load sheet, and the list in words.
 pub fn sheet_file(
     bytes: &[u8],
     members: &mut [u8],
     cores: &mut [u32],
     shares: &mut [u32],
     words: &mut [u32],
-) -> Answer
+) -> Result<Answer, Refusal>
     requires { RoomEnough (length members.old) (length cores.old) (length shares.old) (length words.old) }
     ensures { Sheeted bytes.now members.old cores.old shares.old words.old result
         members.new cores.new shares.new words.new }
 {
-    let mut list = [Pair { a: 0, b: 0, w: 0 }; 4096];
-    let mut work = [0u32; 16384];
-    let file = read(bytes, &mut list, &mut work);
-    let head = file.head;
-    let held = count(head);
-    copy_out(&list, words, held);
-    let found = solve(head, &list, members, cores, shares, &mut work);
-    Answer {
-        number: file.number,
-        n: head.n,
-        m: head.m,
-        p: found.p,
-        q: found.q,
+    let mut work = [0; 16384];
+    let head = read_words(bytes, 4096, &mut work)?;
+    lay(
+        List::in_words(head.n as usize, head.m as usize, &work),
+        words,
+    );
+    let found = solve_on_words(head, members, cores, shares, &mut work);
+    Ok(Answer {
+        head,
+        ratio: Ratio {
+            p: found.p,
+            q: found.q,
+        },
         k: found.k,
         coresize: found.coresize,
-    }
+    })
 }
 
 // The found group alone.
-pub fn solve_file(bytes: &[u8], members: &mut [u8]) -> Answer
+pub fn solve_file(bytes: &[u8], members: &mut [u8]) -> Result<Answer, Refusal>
     requires { 512 ≤ length members.old }
     ensures { Answers bytes.now members.old result members.new }
 {
-    let mut cores = [0u32; 512];
-    let mut shares = [0u32; 4096];
-    let mut words = [0u32; 12288];
+    let mut cores = [0; 512];
+    let mut shares = [0; 4096];
+    let mut words = [0; 12288];
     sheet_file(bytes, members, &mut cores, &mut shares, &mut words)
 }

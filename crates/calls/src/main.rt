@@ -6,109 +6,107 @@
 #![tactic(auto)]
 
 mod checks;
-mod lent;
-mod lists;
 mod peels;
 mod plain;
 mod print;
+mod ratios;
+mod samples;
 mod solves;
 mod surpluses;
-mod words;
 mod writes;
 
-use lists::Damage;
+use records::Pair;
+use samples::{Damage, NONE};
+use std::alloc::Global;
+use std::io;
 
 // A list that is altered, put to each call: the number due from check, and from the others.
-fn each_call(name: &[u8], judged: u32, due: u32, damage: Damage) {
-    checks::tried(
-        name,
-        judged,
-        checks::Altered {
-            damage,
-            ..checks::sound()
-        },
-    );
-    peels::tried(
-        name,
-        due,
-        peels::Altered {
-            damage,
-            ..peels::sound()
-        },
-    );
-    solves::tried(
-        name,
-        due,
-        solves::Altered {
-            damage,
-            ..solves::sound()
-        },
-    );
-    surpluses::itself(name, due, damage);
-    writes::tried(
-        name,
-        due,
-        writes::Altered {
-            damage,
-            ..writes::sound()
-        },
-    );
+fn each_call(
+    rt: &impl Print,
+    alloc: Global,
+    name: &str,
+    judged: u32,
+    due: u32,
+    damage: Damage,
+) -> io::Result<()> {
+    checks::damaged(rt, name, judged, damage)?;
+    peels::damaged(rt, name, due, damage)?;
+    solves::damaged(rt, name, due, damage)?;
+    surpluses::damaged(rt, name, due, damage)?;
+    writes::damaged(rt, alloc, name, due, damage)
 }
 
-// A head and a last record that disagree with the list: N, how many more pairs than there are, and the record.
-fn damaged(name: &[u8], n: u32, more: u32, first: u32, second: u32, count: u32) {
-    each_call(
-        name,
-        13,
-        13,
-        Damage {
-            n,
-            more,
-            first,
-            second,
-            count,
-            past: 0,
-        },
-    );
+// Heads that disagree with the list: N, and how many more pairs than there are.
+fn heads(rt: &impl Print, alloc: Global) -> io::Result<()> {
+    let heads = [
+        ("no modules", 0, 0),
+        ("513 modules", 513, 0),
+        ("over 4,096 pairs", 5, 4096),
+        ("one pair more than was recorded", 5, 1),
+    ];
+    for (name, n, more) in heads {
+        each_call(rt, alloc, name, 13, 13, Damage { n, more, ..NONE })?;
+    }
+    Ok(())
 }
 
-fn heads() {
-    damaged(b"no modules", 0, 0, 3, 4, 1);
-    damaged(b"513 modules", 513, 0, 3, 4, 1);
-    damaged(b"over 4,096 pairs", 5, 4096, 3, 4, 1);
-    damaged(b"one pair more than was recorded", 5, 1, 3, 4, 1);
-}
-
-fn records() {
-    damaged(b"a record out of order", 5, 0, 0, 4, 1);
-    damaged(b"a record of one module", 5, 0, 3, 3, 1);
-    damaged(b"a module unknown", 5, 0, 3, 5, 1);
-    damaged(b"a count of 0", 5, 0, 3, 4, 0);
-    damaged(b"a count of 1,001", 5, 0, 3, 4, 1001);
-    damaged(b"a count of 65,535", 5, 0, 3, 4, 65535);
+// Last records that disagree with the list.
+fn records(rt: &impl Print, alloc: Global) -> io::Result<()> {
+    let records = [
+        ("a record out of order", Pair { a: 0, b: 4, w: 1 }),
+        ("a record of one module", Pair { a: 3, b: 3, w: 1 }),
+        ("a module unknown", Pair { a: 3, b: 5, w: 1 }),
+        ("a count of 0", Pair { a: 3, b: 4, w: 0 }),
+        (
+            "a count of 1,001",
+            Pair {
+                a: 3,
+                b: 4,
+                w: 1001,
+            },
+        ),
+        (
+            "a count of 65,535",
+            Pair {
+                a: 3,
+                b: 4,
+                w: 65535,
+            },
+        ),
+    ];
+    for (name, last) in records {
+        each_call(rt, alloc, name, 13, 13, Damage { last, ..NONE })?;
+    }
+    Ok(())
 }
 
 // The pair 3,4 more often, and the count of the record past the list; check has another number due where its sheet is not for this count.
-fn counted(name: &[u8], judged: u32, count: u32, past: u32) {
-    let d = lists::none();
-    each_call(name, judged, 0, Damage { count, past, ..d });
+fn counts(rt: &impl Print, alloc: Global) -> io::Result<()> {
+    let counts = [
+        ("3,4 twice", 9, 2, 0),
+        ("3,4 three times", 9, 3, 0),
+        ("3,4 ten times", 9, 10, 0),
+        ("3,4 1,000 times", 9, 1000, 0),
+        ("a count of 1,001 past it", 0, 1, 1001),
+    ];
+    for (name, judged, count, past) in counts {
+        let damage = Damage {
+            past,
+            ..samples::counted(count)
+        };
+        each_call(rt, alloc, name, judged, 0, damage)?;
+    }
+    Ok(())
 }
 
-fn counts() {
-    counted(b"3,4 twice", 9, 2, 0);
-    counted(b"3,4 three times", 9, 3, 0);
-    counted(b"3,4 ten times", 9, 10, 0);
-    counted(b"3,4 1,000 times", 9, 1000, 0);
-    counted(b"a count of 1,001 past it", 0, 1, 1001);
-}
-
-fn main() {
-    peels::run();
-    solves::run();
-    checks::run();
-    surpluses::run();
-    writes::run();
-    heads();
-    records();
-    counts();
+fn main(rt: HostRuntime) -> io::Result<()> {
+    let alloc = rt.alloc();
+    peels::run(&rt)?;
+    solves::run(&rt)?;
+    checks::run(&rt)?;
+    surpluses::run(&rt)?;
+    writes::run(&rt, alloc)?;
+    heads(&rt, alloc)?;
+    records(&rt, alloc)?;
+    counts(&rt, alloc)
 }

@@ -1,81 +1,90 @@
 // peel: the list *tail* of document 01, whose leaving order is 4,0,1,2,3 and whose core numbers are 3,3,3,3,1. Where 3,4 counts three times or more, the
 // leaving order is 0,1,2,3,4; where it counts more often than that, the core numbers of 3 and 4 are its count.
-use crate::lists::Damage;
-use crate::{lent, lists, print};
+use crate::samples::{Damage, NONE};
+use crate::{print, samples};
+use kandurzo::kandurzo_peel;
+use model::front_mut;
+use std::io;
 
-// What is altered: the list, and the lengths lent.
+// How much of the buffers is lent.
 #[derive(Clone, Copy)]
-pub(crate) struct Altered {
-    pub(crate) damage: Damage,
-    pub(crate) order: usize,
-    pub(crate) cores: usize,
-    pub(crate) work: usize,
+struct Lengths {
+    order: usize,
+    cores: usize,
+    work: usize,
 }
 
-// Nothing is.
-pub(crate) fn sound() -> Altered {
-    Altered {
-        damage: lists::none(),
-        order: 5,
-        cores: 5,
-        work: 16384,
-    }
-}
-
-// peel with the first entries of the buffers.
-fn peel_part(
-    a: Altered,
-    words: &mut [u32],
-    order: &mut [u16],
-    cores: &mut [u32],
-    work: &mut [u32],
-) -> u32 {
-    let first = lists::at_most(order.len(), a.order);
-    let second = lists::at_most(cores.len(), a.cores);
-    let third = lists::at_most(work.len(), a.work);
-    lent::peel_4096(
-        words,
-        lists::head(a.damage, 7),
-        &mut order[0..first],
-        &mut cores[0..second],
-        &mut work[0..third],
-    )
-}
+// As much as is named.
+const NAMED: Lengths = Lengths {
+    order: 5,
+    cores: 5,
+    work: 16384,
+};
 
 // One line: what peel says and writes.
-pub(crate) fn tried(name: &[u8], due: u32, a: Altered) {
-    let mut words = [0u32; 12288];
+fn tried(
+    rt: &impl Print,
+    name: &str,
+    due: u32,
+    damage: Damage,
+    lengths: Lengths,
+) -> io::Result<()> {
     let mut order = [9u16; 8];
     let mut cores = [9u32; 8];
     let mut work = [7u32; 16400];
-    lists::tail(a.damage, &mut words);
-    let number = peel_part(a, &mut words, &mut order, &mut cores, &mut work);
-    print::begin(b"peel", name, due, number);
-    print::halves(b" order=", &order, 0);
-    print::eight(b" cores=", &cores, 0);
-    print::end_work(&work);
+    let lent = samples::tail(damage);
+    let number = kandurzo_peel(
+        lent.head,
+        &lent.list,
+        front_mut(&mut order, lengths.order),
+        front_mut(&mut cores, lengths.cores),
+        front_mut(&mut work, lengths.work),
+    );
+    print::begin(rt, "peel", name, due, number)?;
+    print::eight(rt, "order", &order, 0)?;
+    print::eight(rt, "cores", &cores, 0)?;
+    print::end_work(rt, &work)
+}
+
+// A list that is altered.
+pub(crate) fn damaged(rt: &impl Print, name: &str, due: u32, damage: Damage) -> io::Result<()> {
+    tried(rt, name, due, damage, NAMED)
 }
 
 // The list *tail*, its head with N, and so much of the buffers.
-fn lent_so(name: &[u8], due: u32, n: u32, order: usize, cores: usize, work: usize) {
-    let s = sound();
-    tried(
-        name,
-        due,
-        Altered {
-            damage: Damage { n, ..s.damage },
-            order,
-            cores,
-            work,
-        },
-    );
-}
-
-pub(crate) fn run() {
-    lent_so(b"as it is", 0, 5, 5, 5, 16384);
-    lent_so(b"longer buffers", 0, 5, 8, 6, 16390);
-    lent_so(b"short order", 12, 5, 4, 5, 16384);
-    lent_so(b"short core numbers", 12, 5, 5, 4, 16384);
-    lent_so(b"short work", 12, 5, 5, 5, 16383);
-    lent_so(b"no modules, and short order", 13, 0, 4, 5, 16384);
+pub(crate) fn run(rt: &impl Print) -> io::Result<()> {
+    let all = [
+        ("as it is", 0, 5, NAMED),
+        (
+            "longer buffers",
+            0,
+            5,
+            Lengths {
+                order: 8,
+                cores: 6,
+                work: 16390,
+            },
+        ),
+        ("short order", 12, 5, Lengths { order: 4, ..NAMED }),
+        ("short core numbers", 12, 5, Lengths { cores: 4, ..NAMED }),
+        (
+            "short work",
+            12,
+            5,
+            Lengths {
+                work: 16383,
+                ..NAMED
+            },
+        ),
+        (
+            "no modules, and short order",
+            13,
+            0,
+            Lengths { order: 4, ..NAMED },
+        ),
+    ];
+    for (name, due, n, lengths) in all {
+        tried(rt, name, due, Damage { n, ..NONE }, lengths)?;
+    }
+    Ok(())
 }

@@ -45,131 +45,71 @@
 
 mod asked;
 mod audited;
+mod circle;
 mod edges;
-mod files;
 mod made;
 mod solved;
-mod text;
+mod words;
 mod written;
 
 use asked::try_asked;
-use audited::{try_audit, try_limits};
+use audited::{try_audit, try_bytes, try_limits};
 use edges::{try_edges, try_room};
-use files::{open_named, read_open};
 use made::try_made;
 use solved::{try_file, try_large};
-use text::{Given, find, one_more, same};
+use std::{fs, io};
+use words::Words;
 use written::{try_full, try_written};
 
-// What is tried.
-#[derive(Clone, Copy)]
-enum Kind {
-    Files,
-    Large,
-    Audited,
-    Bytes,
-    Limits,
-    Asked,
-    Edges,
-    Rooms,
-    Made,
-    Written,
-    Full,
-}
-
-// How many cases came out as due, and how many did not.
-#[derive(Clone, Copy)]
-struct Tally {
-    good: u32,
-    bad: u32,
-}
-
-// Tries what a line names, and puts the answer into the text.
-fn try_case(rt: &HostRuntime, kind: Kind, line: &[u8], text: &mut [u8]) -> Given {
-    match kind {
-        Kind::Files => try_file(rt, line, text),
-        Kind::Large => try_large(line, text),
-        Kind::Audited => try_audit(rt, line, text, false),
-        Kind::Bytes => try_audit(rt, line, text, true),
-        Kind::Limits => try_limits(rt, line, text),
-        Kind::Asked => try_asked(rt, line, text),
-        Kind::Edges => try_edges(rt, line, text),
-        Kind::Rooms => try_room(rt, line, text),
-        Kind::Made => try_made(line, text),
-        Kind::Written => try_written(rt, line, text),
-        Kind::Full => try_full(line, text),
+// Tries a case: whether it comes out as due. Where it does not, its line is printed, and the answer given.
+fn try_case<F: Fn(&HostRuntime, &mut Words) -> io::Result<String>>(
+    rt: &HostRuntime,
+    line: &str,
+    answer: &F,
+) -> io::Result<bool>
+    requires { F.IsAlwaysCallable answer.now }
+{
+    let mut words = Words { left: line };
+    let given = answer(rt, &mut words);
+    match given {
+        Ok(text) if text.as_str() == words.left => return Ok(true),
+        Ok(text) => println!(rt; "{line}: not as due, but {text}")?,
+        Err(error) => println!(rt; "{line}: not as due, but {error}")?,
     }
+    Ok(false)
 }
 
-// Prints the first n bytes.
-fn print_first(bytes: &[u8], n: usize) {
-    if bytes.len() < n {
-        return;
+// The list of that name, and how many of its cases came out as due; `answer` gives the answer to a case.
+fn try_list<F: Fn(&HostRuntime, &mut Words) -> io::Result<String>>(
+    rt: &HostRuntime,
+    name: &str,
+    answer: F,
+) -> io::Result<()>
+    requires { F.IsAlwaysCallable answer }
+{
+    let list = fs::read_to_string(rt, name)?;
+    let (mut good, mut bad) = (0u32, 0u32);
+    for line in list.lines() {
+        if try_case(rt, line, &answer)? {
+            good = good.saturating_add(1);
+        } else {
+            bad = bad.saturating_add(1);
+        }
     }
-    io::write_all(1, &bytes[0..n]);
-}
-
-// A case that did not come out as due: its line, and the answer given.
-fn print_bad(line: &[u8], text: &[u8], end: usize) {
-    io::write_all(1, line);
-    io::write_all(1, b": not as due, but");
-    print_first(text, end);
-    io::write_all(1, b"\n");
-}
-
-// One case more.
-fn try_line(rt: &HostRuntime, tally: Tally, kind: Kind, line: &[u8]) -> Tally {
-    let mut text = [0u8; 128];
-    let answer = try_case(rt, kind, line, &mut text);
-    if same(line, answer.due, &text, answer.end) {
-        return Tally {
-            good: one_more(tally.good),
-            bad: tally.bad,
-        };
-    }
-    print_bad(line, &text, answer.end);
-    Tally {
-        good: tally.good,
-        bad: one_more(tally.bad),
-    }
-}
-
-// The cases of a list.
-fn try_lines(rt: &HostRuntime, kind: Kind, list: &[u8]) -> Tally {
-    let mut tally = Tally { good: 0, bad: 0 };
-    let mut at = 0;
-    while at < list.len() {
-        let end = find(list, at, b'\n');
-        tally = try_line(rt, tally, kind, &list[at..end]);
-        at = end + 1;
-    }
-    tally
-}
-
-// The list of that name, and how many of its cases came out as due.
-fn try_list(rt: &HostRuntime, kind: Kind, name: &[u8]) {
-    let mut list = io::large_buffer();
-    let n = read_open(open_named(rt, name), &mut list);
-    let tally = try_lines(rt, kind, &list[..n]);
-    io::write_all(1, name);
-    io::write_all(1, b": as due=");
-    io::print_decimal(1, tally.good as u64);
-    io::write_all(1, b" not=");
-    io::print_decimal(1, tally.bad as u64);
-    io::write_all(1, b"\n");
+    println!(rt; "{name}: as due={good} not={bad}")
 }
 
 // All lists.
-fn main(rt: HostRuntime) {
-    try_list(&rt, Kind::Files, b"files");
-    try_list(&rt, Kind::Large, b"large");
-    try_list(&rt, Kind::Audited, b"audited");
-    try_list(&rt, Kind::Bytes, b"bytes");
-    try_list(&rt, Kind::Limits, b"limits");
-    try_list(&rt, Kind::Asked, b"neighbours");
-    try_list(&rt, Kind::Edges, b"dimacs/files");
-    try_list(&rt, Kind::Rooms, b"dimacs/rooms");
-    try_list(&rt, Kind::Made, b"dimacs/made");
-    try_list(&rt, Kind::Written, b"dimacs/written");
-    try_list(&rt, Kind::Full, b"dimacs/full");
+fn main(rt: HostRuntime) -> io::Result<()> {
+    try_list(&rt, "files", try_file)?;
+    try_list(&rt, "large", try_large)?;
+    try_list(&rt, "audited", try_audit)?;
+    try_list(&rt, "bytes", try_bytes)?;
+    try_list(&rt, "limits", try_limits)?;
+    try_list(&rt, "neighbours", try_asked)?;
+    try_list(&rt, "dimacs/files", try_edges)?;
+    try_list(&rt, "dimacs/rooms", try_room)?;
+    try_list(&rt, "dimacs/made", try_made)?;
+    try_list(&rt, "dimacs/written", try_written)?;
+    try_list(&rt, "dimacs/full", try_full)
 }

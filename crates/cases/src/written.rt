@@ -1,145 +1,93 @@
 // Lists that are written as DIMACS files, and read back.
-use crate::edges::word_at;
-use crate::files::{open_both, read_open};
-use crate::made::{named, put_edge, put_problem};
-use crate::solved::put_file;
-use crate::text::{Given, no_file, number_at, one_more, put_number};
+use crate::circle;
+use crate::made::{put_edge, put_problem};
+use crate::solved::Plan;
+use crate::words::Words;
 use dimacs::write_words;
-use pairfile::{Reading, read_words};
-
-// One more, unless they are the same.
-fn one_unless(same: bool, count: u32) -> u32 {
-    if same { count } else { one_more(count) }
-}
+use lists::List;
+use pairfile::read_words;
+use records::Head;
+use std::alloc::{AllocError, Global};
+use std::io;
 
 // ---- what is compared
 
-// Byte i of the file, and behind its end 7, as all bytes are before they are written.
-fn byte_due(file: &[u8], i: usize) -> u8 {
-    if i < file.len() { file[i] } else { 7 }
+// The buffer before a list is written to it.
+const UNWRITTEN: [u8; 65600] = [7; 65600];
+
+// How many bytes of the buffer are not the file's, or behind its end not as before.
+fn differing_bytes(out: &[u8], file: &[u8]) -> usize {
+    let due = file.iter().chain(&UNWRITTEN);
+    out.iter().zip(due).filter(|(x, y)| x != y).count()
 }
 
-// How many of the bytes are not as due.
-fn differing_bytes(bytes: &[u8], file: &[u8]) -> u32 {
-    let mut count = 0;
-    let mut i = 0;
-    while i < bytes.len() {
-        count = one_unless(bytes[i] == byte_due(file, i), count);
-        i += 1;
-    }
-    count
+// How many of the words read back are not the list's with each count 1.
+fn differing_words(list: &[u32], again: &[u32]) -> usize {
+    let due = list
+        .iter()
+        .enumerate()
+        .map(|(i, &w)| if i < 8192 { w } else { w.min(1) });
+    due.zip(again).filter(|(x, y)| x != *y).count()
 }
 
-// Word i of a list as it is read back: each count is 1.
-fn word_back(i: usize, word: u32) -> u32 {
-    if 8192 <= i && 1 < word { 1 } else { word }
-}
-
-// How many of the words read back are not as due, after so many before.
-fn differing_words(list: &[u32], again: &[u32], before: u32) -> u32 {
-    let mut count = before;
-    let mut i = 0;
-    while i < list.len() {
-        count = one_unless(word_back(i, list[i]) == word_at(again, i), count);
-        i += 1;
-    }
-    count
-}
-
-// How much of what is read from the file is not the list with each count 1: of the number, N, M and all words.
-fn read_back(file: &[u8], list: Reading, words: &[u32]) -> u32 {
+// How much of what is read from the file is not the list with each count 1: of N and M in one, and of all words.
+fn read_back(file: &[u8], head: Head, words: &[u32]) -> usize {
     let mut again = [0u32; 12288];
-    let reading = dimacs::read_words(file, 4096, &mut again);
-    let number = one_unless(reading.number == list.number, 0);
-    let n = one_unless(reading.n == list.n, number);
-    let m = one_unless(reading.m == list.m, n);
-    differing_words(words, &again, m)
+    let read = dimacs::read_words(file, 4096, &mut again);
+    usize::from(read != Ok(head)).saturating_add(differing_words(words, &again))
 }
 
-// The list of a pair file, written, beside the DIMACS file due: how many bytes are written, how many bytes of the buffer are not the file's, or past it
-// not as before, and how much of what is read from the file is not the list with each count 1.
-fn put_written(text: &mut [u8], pairs: &[u8], file: &[u8]) -> usize {
+// The list of a pair file, written, beside the DIMACS file due: how many bytes are written, and how much of them and of what is read back is not as due.
+// (`as` stands where std has no `From`: from u32 to usize.)
+fn written(alloc: Global, pairs: &[u8], file: &[u8]) -> Result<String, AllocError> {
     let mut words = [0u32; 12288];
-    let mut out = [7u8; 65600];
-    let list = read_words(pairs, 4096, &mut words);
-    if list.number != 0 {
-        return put_number(text, 0, b' ', list.number as u64);
+    let mut out = UNWRITTEN;
+    match read_words(pairs, 4096, &mut words) {
+        Ok(head) => {
+            let list = List::in_words(head.n as usize, head.m as usize, &words);
+            let length = write_words(list, &mut out);
+            let bytes = differing_bytes(&out, file);
+            format!(in alloc; "{length} {bytes} {}", read_back(file, head, &words))
+        }
+        Err(refusal) => format!(in alloc; "{}", u32::from(refusal)),
     }
-    let length = write_words(list.n, list.m as usize, &words, &mut out);
-    let first = put_number(text, 0, b' ', length as u64);
-    let second = put_number(text, first, b' ', differing_bytes(&out, file) as u64);
-    put_number(text, second, b' ', read_back(file, list, &words) as u64)
 }
 
 // ---- by name
 
 // A pair file, and the DIMACS file of its list.
-pub(crate) fn try_written(rt: &HostRuntime, line: &[u8], text: &mut [u8]) -> Given {
-    let mut pairs = io::large_buffer();
-    let mut file = io::large_buffer();
-    let opened = open_both(rt, line);
-    if opened.first.is_none() || opened.second.is_none() {
-        return no_file(text, opened.rest);
-    }
-    let n = read_open(opened.first, &mut pairs);
-    let k = read_open(opened.second, &mut file);
-    Given {
-        due: opened.rest,
-        end: put_written(text, &pairs[..n], &file[..k]),
-    }
+pub(crate) fn try_written(rt: &HostRuntime, words: &mut Words) -> io::Result<String> {
+    let pairs = words.file(rt)?;
+    let file = words.file(rt)?;
+    Ok(written(rt.alloc(), pairs.as_slice(), file.as_slice())?)
 }
 
 // ---- made here
 
-// The line of a pair, where one of the pair file's first `lines` lines names it.
-fn put_named(file: &mut [u8], at: usize, a: u32, b: u32, lines: u32) -> usize {
-    if named(a, b, lines) {
-        return put_edge(file, at, a, b);
+// The lines of module a's pairs with those above it, of the first `lines` of the circle.
+fn put_row(file: &mut Vec<u8>, a: u32, lines: u32) -> io::Result<()> {
+    for b in a..512 {
+        if circle::holds(a, b, lines) {
+            put_edge(file, a, b)?;
+        }
     }
-    at
+    Ok(())
 }
 
-// Module a's pairs with those above it.
-fn put_row(file: &mut [u8], at: usize, a: u32, lines: u32) -> usize {
-    let mut end = at;
-    let mut b = a;
-    while b < 512 {
-        end = put_named(file, end, a, b, lines);
-        b += 1;
+// The DIMACS file of n modules and the first m pairs of the circle, in list order.
+fn make(alloc: Global, n: u32, m: u32) -> io::Result<Vec<u8>> {
+    let mut file = Vec::new(alloc);
+    put_problem(&mut file, n, m)?;
+    for a in 0..512 {
+        put_row(&mut file, a, m)?;
     }
-    end
-}
-
-// All pairs in list order.
-fn put_rows(file: &mut [u8], at: usize, lines: u32) -> usize {
-    let mut end = at;
-    let mut a = 0;
-    while a < 512 {
-        end = put_row(file, end, a, lines);
-        a += 1;
-    }
-    end
-}
-
-// The list of the first n bytes, beside the first k of the file due.
-fn put_firsts(text: &mut [u8], pairs: &[u8], n: usize, file: &[u8], k: usize) -> usize {
-    if pairs.len() < n || file.len() < k {
-        return 0;
-    }
-    put_written(text, &pairs[0..n], &file[0..k])
+    Ok(file)
 }
 
 // A pair file made from the line's numbers, and the DIMACS file of its pairs.
-pub(crate) fn try_full(line: &[u8], text: &mut [u8]) -> Given {
-    let mut pairs = [0u8; 80000];
-    let mut file = [0u8; 65536];
-    let n = number_at(line, 0);
-    let m = number_at(line, n.next);
-    let made = put_file(&mut pairs, line);
-    let head = put_problem(&mut file, 0, n.value, m.value);
-    let end = put_rows(&mut file, head, m.value);
-    Given {
-        due: made.due,
-        end: put_firsts(text, &pairs, made.end, &file, end),
-    }
+pub(crate) fn try_full(rt: &HostRuntime, words: &mut Words) -> io::Result<String> {
+    let plan = Plan::read(words)?;
+    let pairs = plan.make(rt.alloc())?;
+    let file = make(rt.alloc(), plan.n, plan.m)?;
+    Ok(written(rt.alloc(), pairs.as_bytes(), file.as_slice())?)
 }

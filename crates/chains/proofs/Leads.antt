@@ -1,17 +1,18 @@
 -- Slots that lead out of a set.
 --   leads_facts, leads_of           what it says of a slot that it leads out, and back
---   leads_none, leads_not, leads_test    the three ways that `leading` goes
---   leads_pair, leads_below         which slot of a pair may lead out; none of the slots before one does
+--   pair_before, pair_passed        which slot of a pair may lead out; none before it does, and where it does not, none of the pair
 --   closed_empty                    of a closed set: a slot from a member to another module holds nothing
 --   LeadsOut, leads_out            what is known of a slot that leads out
 -- Assumes nothing.
-use Rattle.std.proofs.Common.{◌≡◌, ℕ, ◌+◌, ◌*◌, ◌<◌, ◌≤◌, true, false, eqb, List, length, get_or, sym, ap, ◌∙◌, ⊎_elim, arith, le-ltb, lt-ltb}
+use Rattle.std.proofs.Common.{◌≡◌, ℕ, ◌+◌, ◌*◌, ◌<◌, ◌≤◌, Bool, true, false, not, eqb, List, length, get_or, sym, ap, ◌∙◌, ◌⊎◌, ⊎_elim, arith}
+use mathlib.Core.Bool.{beq}
+use Rattle.std.proofs.lemmas.Bool.Decides.{nat_tests}
 use Rattle.theory.proofs.Tests.{tests, no, fails}
 use Rattle.slots.specs.Slots.{mate, Ends}
 use Rattle.slots.proofs.Choice.{eq_or_ne, lt_or_le}
 use Rattle.slots.proofs.Mates.{mates, mate_even, mate_odd}
 use Rattle.chains.specs.Search.{leads}
-use Rattle.chains.proofs.Zeros.{is_zero, zero_not}
+use Rattle.chains.proofs.Zeros.{is_zero, zero_not, zero_most}
 
 module _ (ends hold rank : List ℕ) (s : ℕ) where
   pub leads_facts : leads ends hold rank s ≡ true →
@@ -23,21 +24,6 @@ module _ (ends hold rank : List ℕ) (s : ℕ) where
   unfolding leads
   leads_of l up out = simp tests (l, (up, out))
 
-  pub leads_none : get_or hold s 0 ≤ 0 → false ≡ leads ends hold rank s
-  unfolding leads
-  leads_none h = rw (le-ltb 0 (get_or hold s 0) h)
-
-  pub leads_not : (u : ℕ) → 0 < get_or hold s 0 → u ≡ get_or ends s 0 → get_or rank u 0 ≤ 0 → false ≡ leads ends hold rank s
-  unfolding leads
-  leads_not u l e h = rw (lt-ltb 0 (get_or hold s 0) l, le-ltb 0 (get_or rank (get_or ends s 0) 0) (rw e at h))
-
-  pub leads_test : (u o v : ℕ) → 0 < get_or hold s 0 → u ≡ get_or ends s 0 → 0 < get_or rank u 0 → o ≡ mate s → v ≡ get_or ends o 0 →
-      eqb (get_or rank v 0) 0 ≡ leads ends hold rank s
-  unfolding leads
-  leads_test u o v l e h d f =
-      rw (lt-ltb 0 (get_or hold s 0) l, lt-ltb 0 (get_or rank (get_or ends s 0) 0) (rw e at h))
-      (ap (λ (z : ℕ). eqb (get_or rank z 0) 0) (f ∙ ap (λ (z : ℕ). get_or ends z 0) d))
-
   -- a slot from a member to another module holds nothing, where it does not lead out
   pub closed_empty : leads ends hold rank s ≡ false → 0 < get_or rank (get_or ends s 0) 0 → get_or rank (get_or ends (mate s) 0) 0 ≡ 0 → get_or hold s 0 ≡ 0
   closed_empty e up out =
@@ -46,30 +32,41 @@ module _ (ends hold rank : List ℕ) (s : ℕ) where
       (λ (l : get_or hold s 0 ≤ 0). omega arith)
       (lt_or_le 0 (get_or hold s 0))
 
-module _ (ends hold rank : List ℕ) where
-  -- whether the ends of a slot that leads out are outside the set
-  leads_bits : (s o : ℕ) → o ≡ mate s → leads ends hold rank s ≡ true →
-      (is_zero (get_or rank (get_or ends s 0) 0) ≡ 0) × (is_zero (get_or rank (get_or ends o 0) 0) ≡ 1)
-  leads_bits s o e ld =
-      let f = leads_facts ends hold rank s ld in
-      (zero_not _ f.1.0, ap (λ (z : ℕ). is_zero (get_or rank (get_or ends z 0) 0)) e ∙ ap is_zero f.1.1)
+-- whether of two numbers one alone is 0
+abbrev pub one_zero : (x y : ℕ) → Bool
+one_zero x y = not (beq (eqb x 0) (eqb y 0))
 
-  -- a and b say whether the ends of pair j are outside the set: where both are alike no slot of it leads out, else 2j + a alone may
-  pub leads_pair : (j a b : ℕ) → a ≡ is_zero (get_or rank (get_or ends (2 * j) 0) 0) → b ≡ is_zero (get_or rank (get_or ends (2 * j + 1) 0) 0) →
-      (s : ℕ) → 2 * j ≤ s → s < 2 * j + 2 → leads ends hold rank s ≡ true → (s ≡ 2 * j + a) × (a ≡ b → ⊥)
-  leads_pair j a b ea eb s l h ld =
+one_zero_is : (x y : ℕ) → 0 < x → y ≡ 0 → (one_zero x y ≡ true) × (one_zero y x ≡ true)
+one_zero_is x y h e = (grind (arith, nat_tests), grind (arith, nat_tests))
+
+-- the ends of pair j are modules u and v, bit says whether u is outside the set; and no slot of the pairs before it leads out
+module _ (ends hold rank : List ℕ) (j u v bit : ℕ) (eu : u ≡ get_or ends (2 * j) 0) (ev : v ≡ get_or ends (2 * j + 1) 0)
+    (at : bit ≡ is_zero (get_or rank u 0)) (before : (k : ℕ) → k < 2 * j → leads ends hold rank k ≡ false) where
+  -- of the pair, slot 2j + bit alone may lead out, and not where both ends are alike
+  leads_pair : (k : ℕ) → 2 * j ≤ k → k < 2 * j + 2 → leads ends hold rank k ≡ true →
+      (k ≡ 2 * j + bit) × (one_zero (get_or rank u 0) (get_or rank v 0) ≡ true)
+  leads_pair k l h ld =
+      let f = leads_facts ends hold rank k ld in
       ⊎_elim
-      (λ (e : s ≡ 2 * j).
-      let f = leads_bits (2 * j) (2 * j + 1) (sym (mate_even j)) (rw e at ld) in (omega (arith, ea, f.0), λ z. omega (arith, ea, eb, f.0, f.1)))
+      (λ (e : k ≡ 2 * j).
+      let z = rw (e, mate_even, ← eu, ← ev) at f in (omega (arith, at, zero_not _ z.1.0), (one_zero_is _ _ z.1.0 z.1.1).0))
       (λ ne.
-      let e : s ≡ 2 * j + 1 = omega arith in
-      let f = leads_bits (2 * j + 1) (2 * j) (sym (mate_odd j)) (rw e at ld) in (omega (arith, ea, f.1), λ z. omega (arith, ea, eb, f.0, f.1)))
-      (eq_or_ne s (2 * j))
+      let e : k ≡ 2 * j + 1 = omega arith in
+      let z = rw (e, mate_odd, ← eu, ← ev) at f in (omega (arith, at, ap is_zero z.1.1), (one_zero_is _ _ z.1.0 z.1.1).1))
+      (eq_or_ne k (2 * j))
 
-  pub leads_below : (i top : ℕ) → ((k : ℕ) → k < i → leads ends hold rank k ≡ false) →
-      ((k : ℕ) → i ≤ k → k < top → leads ends hold rank k ≡ true → ⊥) → (k : ℕ) → k < top → leads ends hold rank k ≡ false
-  leads_below i top a b k h =
-      ⊎_elim (λ (l : k < i). a k l) (λ (l : i ≤ k). fails (leads ends hold rank k) (b k l h)) (lt_or_le k i)
+  leads_below : (top : ℕ) → ((k : ℕ) → 2 * j ≤ k → k < top → leads ends hold rank k ≡ true → ⊥) → (k : ℕ) → k < top → leads ends hold rank k ≡ false
+  leads_below top f k h = ⊎_elim (λ (l : k < 2 * j). before k l) (λ (l : 2 * j ≤ k). fails (leads ends hold rank k) (f k l h)) (lt_or_le k (2 * j))
+
+  -- no slot before 2j + bit leads out
+  pub pair_before : (k : ℕ) → k < 2 * j + bit → leads ends hold rank k ≡ false
+  pair_before = leads_below (2 * j + bit) (λ k l h ld. omega (arith, leads_pair k l (omega (arith, at, zero_most (get_or rank u 0))) ld))
+
+  -- the pair's slots do not, where both ends are alike or that slot does not
+  pub pair_passed : (one_zero (get_or rank u 0) (get_or rank v 0) ≡ false) ⊎ (leads ends hold rank (2 * j + bit) ≡ false) → (k : ℕ) → k < 2 * (j + 1) → leads ends hold rank k ≡ false
+  pair_passed f = leads_below (2 * (j + 1)) (λ k l h ld.
+      let p = leads_pair k l (omega arith) ld in
+      ⊎_elim (λ (e : one_zero (get_or rank u 0) (get_or rank v 0) ≡ false). no (sym e ∙ p.1)) (λ (e : leads ends hold rank (2 * j + bit) ≡ false). no (sym e ∙ ap (λ (s : ℕ). leads ends hold rank s) (sym p.0) ∙ ld)) f)
 
 -- slot k leads out of the set
 pub record LeadsOut (n m : ℕ) (ends hold rank : List ℕ) (k : ℕ) : Type 0 where

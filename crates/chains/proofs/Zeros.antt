@@ -1,13 +1,14 @@
 -- How many numbers are 0.
 --   is_zero, zero_not, zero_most    1 where a number is 0, else 0
---   zeros_all, zeros_most           all of them; at most all
+--   zeros_all, zeros_most, zeros_upto    all of them; at most all; more numbers have no fewer
 --   zeros_up, zeros_down            one is 0 no more; one becomes 0
 --   zeros_next                      one place more
 --   zeros_low                       fewer than all, where one is not 0
 -- Assumes nothing.
-use Rattle.std.proofs.Common.{◌≡◌, ℕ, zero, suc, ◌+◌, ◌<◌, ◌≤◌, Bool, true, false, cond, eqb, List, length, get_or, set, refl, ap, add-one, arith, get_or-set_other, get_or-set_same, ne_eqb}
+use Rattle.std.proofs.Common.{◌≡◌, ℕ, zero, suc, ◌+◌, ◌<◌, ◌≤◌, cond, eqb, List, length, get_or, set, refl, ap, add-one, arith, get_or-set_other, get_or-set_same}
+use Rattle.std.proofs.lemmas.Bool.Decides.{nat_tests}
 use Rattle.slots.specs.Slots.{total}
-use Rattle.slots.proofs.Totals.{total_ext, total_one}
+use Rattle.slots.proofs.Totals.{total_ext, total_one, total_upto}
 use Rattle.chains.specs.Search.{zeros}
 
 -- 1 where x is 0
@@ -15,14 +16,10 @@ abbrev pub is_zero : ℕ → ℕ
 is_zero x = cond (eqb x 0) 1 0
 
 pub zero_not : (x : ℕ) → 0 < x → is_zero x ≡ 0
-zero_not x h = rw (ne_eqb x 0 (λ e. omega arith))
+zero_not x h = grind (arith, nat_tests)
 
 pub zero_most : (x : ℕ) → is_zero x ≤ 1
-zero_most x = go (eqb x 0)
-  where
-    go : (b : Bool) → cond b 1 0 ≤ 1
-    go true = omega arith
-    go false = omega arith
+zero_most x = grind (arith, nat_tests)
 
 pub zeros_all : (n : ℕ) (xs : List ℕ) → ((v : ℕ) → v < n → get_or xs v 0 ≡ 0) → zeros n xs ≡ n
 unfolding zeros total
@@ -33,6 +30,11 @@ pub zeros_most : (n : ℕ) (xs : List ℕ) → zeros n xs ≤ n
 unfolding zeros total
 zeros_most zero xs = omega arith
 zeros_most (suc n) xs = omega (arith, zeros_most n xs, zero_most (get_or xs n 0))
+
+-- more numbers have no fewer
+pub zeros_upto : (k n : ℕ) (xs : List ℕ) → k ≤ n → zeros k xs ≤ zeros n xs
+unfolding zeros
+zeros_upto k n xs h = total_upto k n (λ v. is_zero (get_or xs v 0)) h
 
 -- one number is stored
 zeros_set : (n v x : ℕ) (xs : List ℕ) → v < n → v < length xs → zeros n (set xs v x) + is_zero (get_or xs v 0) ≡ zeros n xs + is_zero x
@@ -49,6 +51,10 @@ zeros_up n v x xs l h z p = omega (arith, zeros_set n v x xs l h, ap is_zero z, 
 
 pub zeros_down : (n v : ℕ) (xs : List ℕ) → v < n → v < length xs → 0 < get_or xs v 0 → zeros n (set xs v 0) ≡ zeros n xs + 1
 zeros_down n v xs l h p = omega (arith, zeros_set n v 0 xs l h, zero_not (get_or xs v 0) p)
+
+-- some, where one is 0
+pub zeros_some : (n v : ℕ) (xs : List ℕ) → v < n → v < length xs → get_or xs v 0 ≡ 0 → 0 < zeros n xs
+zeros_some n v xs l h z = omega (arith, zeros_up n v 1 xs l h z (omega arith))
 
 -- fewer than all, where one is not 0
 pub zeros_low : (n v : ℕ) (xs : List ℕ) → v < n → v < length xs → 0 < get_or xs v 0 → zeros n xs < n

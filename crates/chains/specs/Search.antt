@@ -1,14 +1,14 @@
 -- What the chain search does, on the way to the promise of crate `flow`. A set of modules is given by numbers above 0 (`rank`).
 --   zeros                      how many numbers are 0
 --   HasUnits                  an end of a pair that has units
---   leads, Closed, Exit        slots that hold units and lead out of a set
+--   leads, Closed, ExitFound   slots that hold units and lead out of a set
 --   Step, Tree                 how each module was reached (a search tree)
 --   Full                       every module of a set is loaded p or more
 --   Visited, ChainFound       one module more; a search's answer
 --   excess, Pulled             what lies above p; units moved back along a chain
 --   Stuck, Settled             a set that no unit can leave; the answer of all searches
 -- Assumes nothing: these are definitions.
-use Rattle.std.specs.Prelude.{◌≡◌, ℕ, ◌+◌, ◌-◌, ◌*◌, ◌<◌, ◌≤◌, Bool, true, false, cond, ◌&&◌, List, length, ◌==◌, ◌≢◌, nat_lt, slice_index, slice_index_or, slice_set}
+use Rattle.std.specs.Prelude.{◌≡◌, ℕ, ◌+◌, ◌-◌, ◌*◌, ◌<◌, ◌≤◌, Bool, true, false, cond, ◌&&◌, List, length, ◌==◌, ◌≢◌, nat_lt, slice_index, slice_index_or, slice_set, Option, IfSome, IfNone}
 use Rattle.slots.specs.Slots.{mate, total, pair_units, Kept}
 
 -- how many of the first k numbers are 0
@@ -31,11 +31,10 @@ leads ends hold rank s =
 abbrev pub Closed : (m : ℕ) → (ends hold rank : List ℕ) → Type 0
 Closed m ends hold rank = (s : ℕ) → s < 2 * m → leads ends hold rank s ≡ false
 
--- the first slot that leads out, or 2m
-pub record Exit (m : ℕ) (ends hold rank : List ℕ) (r : ℕ) : Type 0 where
-  pub within : r ≤ 2 * m
-  pub found : r < 2 * m → leads ends hold rank r ≡ true
-  pub none : (s : ℕ) → s < r → leads ends hold rank s ≡ false
+-- the first slot that leads out, if one does
+pub record ExitFound (m : ℕ) (ends hold rank : List ℕ) (r : Option ℕ) : Type 0 where
+  pub found : IfSome r (λ s. (s < 2 * m) × (leads ends hold rank s ≡ true) × ((t : ℕ) → t < s → leads ends hold rank t ≡ false))
+  pub none : IfNone r (Closed m ends hold rank)
 
 -- the module that slot k leads to is the next of rank, at the end of the queue
 pub record Visited (ends : List ℕ) (k tail : ℕ) (rank from queue rank' from' queue' : List ℕ) (r : ℕ) : Type 0 where
@@ -64,14 +63,13 @@ pub record Tree (n m root top : ℕ) (ends hold rank from : List ℕ) : Type 0 w
 abbrev pub Full : (n p : ℕ) → (load rank : List ℕ) → Type 0
 Full n p load rank = (v : ℕ) → v < n → 0 < slice_index rank v → p ≤ slice_index load v
 
--- a search from the root: the module r is reached and loaded below p; or r is n, and the modules reached are closed and loaded p or more
-pub record ChainFound (n m p root : ℕ) (ends hold load rank from : List ℕ) (r : ℕ) : Type 0 where
+-- a search from the root: a module c is reached and loaded below p; or none is, and the modules reached are closed and loaded p or more
+pub record ChainFound (n m p root : ℕ) (ends hold load rank from : List ℕ) (r : Option ℕ) : Type 0 where
   pub tree : (top : ℕ) → Tree n m root top ends hold rank from
-  pub within : r ≤ n
-  pub low : r < n → (0 < slice_index rank r) × (slice_index load r < p)
+  pub low : IfSome r (λ c. (c < n) × (0 < slice_index rank c) × (slice_index load c < p))
   -- it is the first such module: every other one was reached before it and is loaded p or more
-  pub first : r < n → (v : ℕ) → v < n → 0 < slice_index rank v → (v ≢ r) → (p ≤ slice_index load v) × (slice_index rank v < slice_index rank r)
-  pub shut : r ≡ n → Closed m ends hold rank × Full n p load rank
+  pub first : IfSome r (λ c. (v : ℕ) → v < n → 0 < slice_index rank v → (v ≢ c) → (p ≤ slice_index load v) × (slice_index rank v < slice_index rank c))
+  pub shut : IfNone r (Closed m ends hold rank × Full n p load rank)
 
 -- what the first k loads have above p, in all
 unfoldable pub excess : (k p : ℕ) → (load : List ℕ) → ℕ

@@ -3,9 +3,9 @@
 --   together       searches and further searches
 -- Assumes nothing: these are definitions.
 use Rattle.std.specs.Prelude.{◌+◌, ◌%◌, ◌^◌, max}
-use Rattle.chains.specs.declared.Searches.{Searches}
+use Rattle.chains.specs.declared.counts.Searches.{Searches}
 
--- no search
+-- no search: what `Searches::default` gives
 abbrev pub no_searches : Searches
 no_searches = record { chains = 0; longest = 0; none = 0 }
 

@@ -5,21 +5,24 @@
 --   Gathering, gathering_start, gathering_next, gathering_end            a loop that gathers, in place
 --   gathered_few, gathered_held    no more pairs are gathered than there are; they are held as a list is
 -- Assumes nothing.
-use Rattle.std.proofs.Common.{◌≡◌, ℕ, zero, suc, ◌+◌, ◌*◌, ◌<◌, ◌≤◌, Bool, true, false, cond, List, ◌∷◌, length, get_or, set, sym, refl, ap, ◌∙◌, ⊎_elim, zero-add, one-add, arith, length-drop, length-set, get_or-drop, get_or-set_other, get_or-set_same}
+use Rattle.std.proofs.Common.{◌≡◌, ℕ, zero, suc, ◌+◌, ◌*◌, ◌<◌, ◌≤◌, Bool, true, false, cond, List, ◌∷◌, length, drop, get_or, set, sym, refl, ap, ◌∙◌, ⊎_elim, zero-add, one-add, arith, length-drop, length-set, get_or-drop, get_or-set_other, get_or-set_same}
+use Rattle.std.proofs.lemmas.Bool.{cases_eq}
 use Rattle.theory.specs.Basics.{table}
-use Rattle.theory.specs.Lists.{Pair, is_list}
+use Rattle.theory.specs.Lists.{Pair}
 use Rattle.theory.specs.Groups.{holds_pair}
-use Rattle.theory.specs.Words.{word_pair, pairs_in, list_in, HeldWords, counts_of}
+use Rattle.theory.specs.Words.{word_pair, pairs_in, list_in, HeldWords, counts_of, HoldsList}
+use Rattle.theory.proofs.Words.{holds_few, holds_held}
 use Rattle.slots.specs.Slots.{total}
-use Rattle.slots.proofs.Choice.{eq_or_ne, stored_more}
+use Rattle.slots.proofs.Choice.{stored_more}
 use Rattle.slots.proofs.Totals.{total_ext, total_next, total_first, total_const, total_upto}
-use Rattle.slots.proofs.Words.{good_pair, few_modules, few_pairs}
+use Rattle.slots.proofs.Words.{good_pair}
 use Rattle.densest.specs.Inner.{inner_pairs, inner_list}
 use Rattle.densest.specs.Gather.{inner_before, Gathered, unpacked, Packed}
+use Rattle.densest.proofs.InnerPairs.{inner_is_list}
 
 -- ---- ranks
 
-pub bit_le : (b : Bool) → cond b 1 0 ≤ 1
+bit_le : (b : Bool) → cond b 1 0 ≤ 1
 bit_le true = omega arith
 bit_le false = omega arith
 
@@ -149,32 +152,36 @@ stored xs i a b w l h =
 
 -- ---- gathering
 
--- the pairs below j are packed, and those inside the core gathered; the others are where they were
-pub record Gathering (j : ℕ) (core words₀ shares₀ words shares : List ℕ) : Type 0 where
-  pub words_long : length words ≡ length words₀
-  pub shares_long : length shares ≡ length shares₀
+-- at pair j of n modules and m pairs: those below j are packed, and those inside the core gathered, i of them; the others are where they were
+pub record Gathering (n m j i : ℕ) (core words₀ words shares : List ℕ) : Type 0 where
+  pub held : HeldWords n m words₀ (counts_of words₀)
+  pub few : (n ≤ 512) × (m ≤ 4096)
+  pub passed : InnerPassed m j i (laid words₀) core
+  pub words_long : 12288 ≤ length words
+  pub shares_long : length shares ≡ m
   pub pairs : (k : ℕ) → k < j → holds_pair core (laid words₀ k) ≡ true → laid words (inner_before (laid words₀) core k) ≡ laid words₀ k
   pub ahead : (k : ℕ) → j ≤ k → k < 4096 → laid words k ≡ laid words₀ k
   pub packed : (k : ℕ) → k < j → unpacked (get_or shares k 0) ≡ laid words₀ k
 
-pub gathering_start : (core words shares : List ℕ) → Gathering 0 core words shares words shares
-gathering_start core words shares = record {
-  words_long = refl;
-  shares_long = refl;
-  pairs = λ k h. absurd (omega arith);
+pub gathering_start : (n m : ℕ) (core words shares : List ℕ) → HoldsList n m words → length shares ≡ m → Gathering n m 0 0 core words words shares
+gathering_start n m core words shares h e = record {
+  held = holds_held n m words h;
+  few = holds_few n m words h.listed;
+  passed = passed_start m (laid words) core;
+  words_long = h.long;
+  shares_long = e;
+  pairs = λ k l. absurd (omega arith);
   ahead = λ k h l. refl;
-  packed = λ k h. absurd (omega arith);
+  packed = λ k l. absurd (omega arith);
 }
 
-module _ {n m j : ℕ} {core words₀ shares₀ words shares : List ℕ} (h : HeldWords n m words₀ (counts_of words₀)) (low : j < m)
-    (g : Gathering j core words₀ shares₀ words shares) where
+module _ {n m j i : ℕ} {core words₀ words shares : List ℕ} (g : Gathering n m j i core words₀ words shares) where
   -- pair j is read as it was
-  pub pair_read : Read n words (laid words₀ j) j
+  pub pair_read : j < m → Read n words (laid words₀ j) j
   unfolding word_pair counts_of
-  pair_read =
-      let few = few_pairs n m words₀ (counts_of words₀) h.listed in
+  pair_read low =
       let same = g.ahead j (omega arith) (omega arith) in
-      let w = good_pair n m words₀ (counts_of words₀) h.listed j low in
+      let w = good_pair n m words₀ (counts_of words₀) g.held.listed j low in
       let count : get_or words (8192 + j) 0 ≡ get_or (counts_of words₀) j 0 = sym (get_or-drop 8192 words j 0) ∙ ap (λ (p : Pair). p.w) same in
       let first : get_or words (2 * j) 0 ≡ get_or words₀ (2 * j) 0 = ap (λ (p : Pair). p.a) same in
       let second : get_or words (2 * j + 1) 0 ≡ get_or words₀ (2 * j + 1) 0 = ap (λ (p : Pair). p.b) same in
@@ -183,61 +190,62 @@ module _ {n m j : ℕ} {core words₀ shares₀ words shares : List ℕ} (h : He
         first = omega arith;
         second = omega (arith, w.below);
         light = omega (arith, w.light);
-        few = few_modules n m words₀ (counts_of words₀) h.listed;
+        few = g.few.0;
       }
 
-  -- pair j is stored at place i, and packed
-  pub gathering_next : {i : ℕ} (x : ℕ) → InnerPassed m j i (laid words₀) core → m ≤ length shares₀ →
+  -- pair j is packed and stored at place i, and counted where it is inside the core
+  pub gathering_next : (x : ℕ) (b : Bool) (d : ℕ) → j < m →
       unpacked x ≡ record { a = get_or words (2 * j) 0; b = get_or words (2 * j + 1) 0; w = get_or words (8192 + j) 0 } →
-      Gathering (j + 1) core words₀ shares₀
+      b ≡ holds_pair core (unpacked x) → d ≡ cond b 1 0 →
+      Gathering n m (j + 1) (i + d) core words₀
       (set (set (set words (2 * i) (get_or words (2 * j) 0)) (2 * i + 1) (get_or words (2 * j + 1) 0)) (8192 + i) (get_or words (8192 + j) 0)) (set shares j x)
-  unfolding counts_of
-  gathering_next {i} x c ls ex =
-      let few = few_pairs n m words₀ (counts_of words₀) h.listed in
-      let long = length-drop 8192 words₀ in
-      let wl = g.words_long in
-      let sl = g.shares_long in
-      let back = c.behind in
-      let heavy = h.weights_long in
+  gathering_next x b d low ex eb ed =
+      let back = g.passed.behind in
+      let read = pair_read low in
       let s = stored words i (get_or words (2 * j) 0) (get_or words (2 * j + 1) 0) (get_or words (8192 + j) 0) (omega arith) (omega arith) in
       record {
-        words_long = s.long ∙ wl;
-        shares_long = length-set shares j x ∙ sl;
+        held = g.held;
+        few = g.few;
+        passed = passed_next b d g.passed low (eb ∙ ap (holds_pair core) (ex ∙ read.same)) ed;
+        words_long = omega (arith, s.long, g.words_long);
+        shares_long = length-set shares j x ∙ g.shares_long;
         pairs = λ k l y. ⊎_elim
-            (λ (z : k ≡ j). rw (z, ← c.place) (s.here ∙ pair_read.same))
+            (λ (z : k ≡ j). rw (z, ← g.passed.place) (s.here ∙ read.same))
             (λ ne.
-            let b : inner_before (laid words₀) core k < i = omega (arith, c.place, inner_before_less (laid words₀) core k j (omega arith) y) in
+            let b : inner_before (laid words₀) core k < i = omega (arith, g.passed.place, inner_before_less (laid words₀) core k j (omega arith) y) in
             s.others (inner_before (laid words₀) core k) (omega arith) (λ z. omega arith) ∙ g.pairs k (omega arith) y)
-            (eq_or_ne k j);
+            (cases_eq k j);
         ahead = λ k l b. s.others k b (λ z. omega arith) ∙ g.ahead k (omega arith) b;
-        packed = stored_more (λ k y. unpacked y ≡ laid words₀ k) shares j x (omega arith) g.packed (ex ∙ pair_read.same);
+        packed = stored_more (λ k y. unpacked y ≡ laid words₀ k) shares j x (omega arith) g.packed (ex ∙ read.same);
       }
 
-pub gathering_end : {m j i : ℕ} {core words₀ shares₀ words shares : List ℕ} (n : ℕ) → InnerPassed m j i (laid words₀) core → m ≤ j →
-    Gathering j core words₀ shares₀ words shares →
-    Gathered n m words₀ (counts_of words₀) core words (counts_of words) i × Packed m words₀ (counts_of words₀) shares
-unfolding list_in pairs_in inner_list inner_before
-gathering_end {m} {j} {i} {core} {words₀} {shares₀} {words} {shares} n c h g =
-    let e : j ≡ m = omega (arith, c.low) in
-    let p : i ≡ inner_before (laid words₀) core m = c.place ∙ ap (inner_before (laid words₀) core) e in
-    let all : (k : ℕ) → k < m → holds_pair core (laid words₀ k) ≡ true → laid words (inner_before (laid words₀) core k) ≡ laid words₀ k =
-    λ k l. g.pairs k (omega arith) in (
-      record {
-        count = p;
-        list = rw p (ap (λ (ps : List Pair). record { n = n; pairs = ps }) (inner_table m (laid words₀) (laid words) core all));
-        pairs = all;
-      },
-      record { pairs = λ k l. g.packed k (omega arith) },
-    )
+  pub gathering_end : m ≤ j → Gathered n m words₀ (counts_of words₀) core words (counts_of words) i × Packed m words₀ (counts_of words₀) shares
+  unfolding list_in pairs_in inner_list inner_before
+  gathering_end h =
+      let e : j ≡ m = omega (arith, g.passed.low) in
+      let p : i ≡ inner_before (laid words₀) core m = g.passed.place ∙ ap (inner_before (laid words₀) core) e in
+      let all : (k : ℕ) → k < m → holds_pair core (laid words₀ k) ≡ true → laid words (inner_before (laid words₀) core k) ≡ laid words₀ k =
+      λ k l. g.pairs k (omega arith) in (
+        record {
+          count = p;
+          list = rw p (ap (λ (ps : List Pair). record { n = n; pairs = ps }) (inner_table m (laid words₀) (laid words) core all));
+          pairs = all;
+        },
+        record { pairs = λ k l. g.packed k (omega arith) },
+      )
 
 -- no more pairs than there are
 pub gathered_few : {n m r : ℕ} {ends weights scope inner_ends inner_weights : List ℕ} → Gathered n m ends weights scope inner_ends inner_weights r → r ≤ m
 gathered_few {m = m} {ends = ends} {weights = weights} {scope = scope} g = omega (arith, g.count, inner_before_le (word_pair ends weights) scope m)
 
--- where they are a list, they are held as one
-pub gathered_held : {n m r : ℕ} {ends weights scope inner_ends inner_weights : List ℕ} → Gathered n m ends weights scope inner_ends inner_weights r →
-    is_list (inner_list (list_in n m ends weights) scope) ≡ true → 2 * m ≤ length inner_ends → m ≤ length inner_weights →
-    HeldWords n r inner_ends inner_weights
-gathered_held g l lf lh =
-    let k = gathered_few g in
-    record { listed = rw g.list l; ends_long = omega arith; weights_long = omega arith }
+-- they are held as a list is
+pub gathered_held : {n m r : ℕ} {words core inner : List ℕ} → HeldWords n m words (counts_of words) → m ≤ 4096 → 12288 ≤ length inner →
+    Gathered n m words (counts_of words) core inner (counts_of inner) r → HeldWords n r inner (counts_of inner)
+unfolding counts_of
+gathered_held {n} {m} {r} {words} {core} {inner} h few long g =
+    let le = gathered_few g in
+    record {
+      listed = rw g.list (inner_is_list (list_in n m words (drop 8192 words)) core h.listed);
+      ends_long = omega arith;
+      weights_long = omega (arith, length-drop 8192 inner);
+    }

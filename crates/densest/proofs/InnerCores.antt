@@ -2,22 +2,23 @@
 --   core_sub                           cores of higher orders lie within
 --   inner_core                         cores of no lower order are those of all pairs
 --   inner_core_number                  members of the core keep their core numbers, the others have 0
---   inner_dense                        inside a core of that order or lower, too, some group's ratio is p over q or more
+--   inner_candidate                    inside a core of that order or lower, too, some group's ratio is p over q or more
 --   inner_found, inner_found_inside    the found group inside that core is the found group of all pairs, with as many pairs inside
 -- Assumes nothing.
 use Rattle.std.proofs.Common.{◌≡◌, ℕ, ◌*◌, ◌<◌, ◌≤◌, Bool, true, false, cond, leb, List, sym, refl, ap, ◌∙◌, subst, mul-le-mul_right, arith, leb-true}
 use Rattle.theory.specs.Lists.{Pairs, is_list}
-use Rattle.theory.specs.Groups.{is_in, size, is_group, inside, at_most, Found}
+use Rattle.theory.specs.Groups.{is_in, size, is_group, inside, at_most, Found, found_of}
 use Rattle.theory.specs.Cores.{core, core_number}
 use Rattle.theory.specs.Splits.{rounded_up}
-use Rattle.theory.specs.Promise.{FoundThere, CoreMembers}
+use Rattle.theory.specs.Promise.{FoundOutright, CoreMembers}
 use Rattle.theory.proofs.Tests.{tests}
 use Rattle.theory.proofs.Groups.{Bits, Sub, sub_within, within_both}
-use Rattle.theory.proofs.Best.{found_there}
+use Rattle.theory.proofs.Best.{found_outright}
 use Rattle.theory.proofs.Cores.{good_in_core, core_good, core_bits, length_core, core_members, number_of, in_own_core}
-use Rattle.rounds.proofs.Scopes.{found_ratio, dense_in_core}
+use Rattle.rounds.specs.Known.{Candidate}
+use Rattle.rounds.proofs.Scopes.{reached_candidate, dense_in_core}
 use Rattle.densest.specs.Inner.{inner_list}
-use Rattle.densest.proofs.InnerPairs.{inner_inside, inner_inside_same, inner_degree, inner_degree_same, inner_degree_none}
+use Rattle.densest.proofs.InnerPairs.{inner_is_list, inner_inside, inner_inside_same, inner_degree, inner_degree_same, inner_degree_none}
 
 -- ---- cores
 
@@ -70,22 +71,22 @@ inner_core_number g k v l h = go (leb k (core_number g v)) refl
 
 -- ---- the found group
 
-module _ (g : Pairs) (p q k : ℕ) (t : List ℕ) (l : is_list g ≡ true) (pos : 0 < q) (group : is_group g t ≡ true) (dense : p * size t ≤ inside g t * q)
-    (low : k ≤ rounded_up p q) where
+module _ (g : Pairs) (p q k : ℕ) (l : is_list g ≡ true) (c : Candidate g p q) (low : k ≤ rounded_up p q) where
   -- the list of the pairs inside the core of order k
   abbrev inner : Pairs
   inner = inner_list g (core g k)
 
   -- all pairs of the found group are inside that core
   found_inside : (f : List ℕ) → Found g f → inside inner f ≡ inside g f
-  found_inside f ff = inner_inside_same g (core g k) f (λ v i. core_sub g k (rounded_up p q) low v (dense_in_core g p q t l pos group dense f ff v i))
+  found_inside f ff = inner_inside_same g (core g k) f (λ v i. core_sub g k (rounded_up p q) low v (dense_in_core g p q l c f ff v i))
 
-  -- inside that core some group's ratio is p over q or more
-  pub inner_dense : (f : List ℕ) × (is_group inner f ≡ true) × (p * size f ≤ inside inner f * q)
-  unfolding inner_list FoundThere is_group
-  inner_dense =
-      let f = found_there g l in
-      (f.0, f.1.group, rw (found_inside f.0 f.1) (found_ratio g p q t l pos group dense f.0 f.1))
+  -- inside that core, too, some group reaches p over q
+  pub inner_candidate : Candidate inner p q
+  unfolding inner_list FoundOutright is_group
+  inner_candidate =
+      let f = found_of g in
+      let ff = found_outright g l in
+      reached_candidate inner p q f (inner_is_list g (core g k) l) ff.group (rw (found_inside f ff) c.reached) c.few c.some c.small
 
   -- a found group inside that core is one of all pairs: they have the same ratio, so each holds the other
   found_same : (s f : List ℕ) → Found inner s → Found g f → f ≡ s
@@ -101,8 +102,8 @@ module _ (g : Pairs) (p q k : ℕ) (t : List ℕ) (l : is_list g ≡ true) (pos 
 
   -- what is found inside that core is the found group
   pub inner_found : (s : List ℕ) → Found inner s → Found g s
-  unfolding FoundThere
-  inner_found s fs = let f = found_there g l in subst (λ (x : List ℕ). Found g x) (found_same s f.0 fs f.1) f.1
+  unfolding FoundOutright
+  inner_found s fs = let ff = found_outright g l in subst (λ (x : List ℕ). Found g x) (found_same s (found_of g) fs ff) ff
 
   -- with as many pairs inside
   pub inner_found_inside : (s : List ℕ) → Found inner s → inside inner s ≡ inside g s

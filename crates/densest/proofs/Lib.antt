@@ -1,7 +1,6 @@
 -- Slots against lists, groups and splits; each file opens with what it gives.
 pub mod InnerPairs
 pub mod InnerCores
-pub mod Bytes
 pub mod Loads
 pub mod Sheets
 pub mod Solving

@@ -1,9 +1,10 @@
 -- The units of the pairs gathered, put back in the slots of all pairs.
---   put_back, put_back_is    slots of all pairs that have them
+--   ScatteredAt, Scattered   slots of all pairs that have them
+--   put_back, put_back_is    such slots
 --   scattered_held           each module holds what it held among the pairs gathered
 --   scattered_split          a split of the pairs gathered is one of all pairs
 -- Assumes nothing.
-use Rattle.std.proofs.Common.{◌≡◌, ℕ, ◌+◌, ◌*◌, ◌/◌, ◌%◌, ◌<◌, Bool, true, false, cond, eqb, List, get_or, sym, refl, ap, ◌∙◌, arith}
+use Rattle.std.proofs.Common.{◌≡◌, ℕ, ◌+◌, ◌*◌, ◌/◌, ◌%◌, ◌<◌, ◌≤◌, Bool, true, false, cond, eqb, List, length, get_or, sym, refl, ap, ◌∙◌, arith}
 use Rattle.theory.specs.Basics.{table}
 use Rattle.theory.specs.Lists.{Pair}
 use Rattle.theory.specs.Groups.{holds_pair}
@@ -15,8 +16,19 @@ use Rattle.slots.specs.Slots.{total, held_upto, held_by}
 use Rattle.slots.specs.Split.{scope_units, Split}
 use Rattle.slots.proofs.Totals.{total_ext, total_pairs}
 use Rattle.flow.specs.Flow.{Sub}
-use Rattle.densest.specs.Gather.{inner_before, Gathered, Scattered}
+use Rattle.densest.specs.Gather.{inner_before, Gathered}
 use Rattle.densest.proofs.Gathering.{inner_before_less, inner_total}
+
+-- pair j has the units of the pair gathered from it, slot by slot, and none where it is not inside the scope
+abbrev pub ScatteredAt : (h : ℕ → Pair) → (scope units hold : List ℕ) → (j : ℕ) → Type 0
+ScatteredAt h scope units hold j =
+    (get_or hold (2 * j) 0 ≡ cond (holds_pair scope (h j)) (get_or units (2 * inner_before h scope j) 0) 0)
+    × (get_or hold (2 * j + 1) 0 ≡ cond (holds_pair scope (h j)) (get_or units (2 * inner_before h scope j + 1) 0) 0)
+
+-- all pairs do; further slots are free
+pub record Scattered (m : ℕ) (h : ℕ → Pair) (scope units hold : List ℕ) : Type 0 where
+  pub long : 2 * m ≤ length hold
+  pub slots : (j : ℕ) → j < m → ScatteredAt h scope units hold j
 
 -- the slots of all pairs: those of pair j, where it is inside the scope, have what the slots at its number among the pairs gathered have
 unfoldable pub put_back : (m : ℕ) (h : ℕ → Pair) (scope units : List ℕ) → List ℕ

@@ -1,6 +1,6 @@
 -- The load sheet: units inside the core, the other pairs wholly with the end that left first.
 --   only_table, merge_table           shares inside the core and all shares, as tables
---   Writing, writing_start, pair_same, writing_low, writing_next, writing_end    a loop that writes the shares in the place of the pairs packed
+--   Writing, writing_start, writing_next    a loop that writes the shares in the place of the pairs packed
 --   written_shares                    shares that are written by the units of the pairs gathered
 --   Sheet                             what the last round and the leaving places give
 --   sheet_optimal, sheet_outside      such a sheet is the split that solve hands out
@@ -25,9 +25,10 @@ use Rattle.slots.specs.Slots.{held_by}
 use Rattle.slots.specs.Split.{scope_units, Split}
 use Rattle.slots.proofs.Choice.{stored_more}
 use Rattle.slots.proofs.Words.{good_pair}
-use Rattle.densest.specs.Gather.{inner_before, unpacked, Packed, Unpacks, Scattered, first_left, sheet_share, Written}
+use Rattle.densest.specs.Gather.{inner_before, unpacked, Packed, first_left, sheet_share, Written}
+use Rattle.densest.proofs.Scattering.{Scattered}
 use Rattle.densest.proofs.Loads.{load_held, shares_table}
-use Rattle.densest.proofs.Gathering.{inner_before_ext, InnerPassed}
+use Rattle.densest.proofs.Gathering.{inner_before_ext, InnerPassed, passed_start, passed_next}
 
 -- ---- shares as tables
 
@@ -56,43 +57,42 @@ cond_times false w q = omega arith
 abbrev pub packed_at : List ℕ → ℕ → Pair
 packed_at xs j = unpacked (get_or xs j 0)
 
--- the shares below j are written; the other pairs stand packed as they did
-pub record Writing (j q : ℕ) (core scope place held shares₀ shares : List ℕ) : Type 0 where
-  pub long : length shares ≡ length shares₀
+-- at pair j of m, of which i before it are inside the core: the shares below j are written; the other pairs stand packed as they did
+pub record Writing (m j i q : ℕ) (core scope place held shares₀ shares : List ℕ) : Type 0 where
+  pub passed : InnerPassed m j i (packed_at shares₀) core
+  pub long : length shares ≡ m
   pub ahead : (k : ℕ) → j ≤ k → get_or shares k 0 ≡ get_or shares₀ k 0
   pub written : (k : ℕ) → k < j →
       get_or shares k 0 ≡ sheet_share q scope place (packed_at shares₀ k) (get_or held (2 * inner_before (packed_at shares₀) core k) 0)
 
-pub writing_start : (q : ℕ) (core scope place held shares : List ℕ) → Writing 0 q core scope place held shares shares
-writing_start q core scope place held shares = record { long = refl; ahead = λ k h. refl; written = λ k h. absurd (omega arith) }
+pub writing_start : (q : ℕ) (core scope place held shares : List ℕ) → Writing (length shares) 0 0 q core scope place held shares shares
+writing_start q core scope place held shares = record {
+  passed = passed_start _ _ _;
+  long = refl;
+  ahead = λ k h. refl;
+  written = λ k h. absurd (omega arith);
+}
 
--- pair j is read as it was
-pub pair_same : {j q : ℕ} {core scope place held shares₀ shares : List ℕ} → Writing j q core scope place held shares₀ shares →
-    packed_at shares j ≡ packed_at shares₀ j
-pair_same {j} w = ap unpacked (w.ahead j (omega arith))
-
-module _ {m j q : ℕ} {core scope place held shares₀ shares : List ℕ} (low : j < m) (w : Writing j q core scope place held shares₀ shares) where
-  pub writing_low : {n : ℕ} → Unpacks n m shares₀ → ((packed_at shares j).a < n) × ((packed_at shares j).b < n)
-  writing_low u = (rw (pair_same w) (u.first j low), rw (pair_same w) (u.second j low))
+module _ {m j i q : ℕ} {core scope place held shares₀ shares : List ℕ} (low : j < m) (w : Writing m j i q core scope place held shares₀ shares) where
+  -- pair j is read as it was
+  pair_same : packed_at shares j ≡ packed_at shares₀ j
+  pair_same = ap unpacked (w.ahead j (omega arith))
 
   -- pair j gets the share x
-  pub writing_next : {i : ℕ} (x y : ℕ) (t : Bool) → InnerPassed m j i (packed_at shares₀) core → m ≤ length shares₀ →
-      t ≡ holds_pair scope (packed_at shares j) → y ≡ cond (first_left place (packed_at shares j)) (units q (packed_at shares j)) 0 →
-      x ≡ cond t (get_or held (2 * i) 0) y → Writing (j + 1) q core scope place held shares₀ (set shares j x)
+  pub writing_next : (x y d : ℕ) (t b : Bool) → t ≡ holds_pair scope (packed_at shares j) →
+      y ≡ cond (first_left place (packed_at shares j)) (units q (packed_at shares j)) 0 → x ≡ cond t (get_or held (2 * i) 0) y →
+      b ≡ holds_pair core (packed_at shares j) → d ≡ cond b 1 0 → Writing m (j + 1) (i + d) q core scope place held shares₀ (set shares j x)
   unfolding sheet_share
-  writing_next {i} x y t c l et ey ex =
+  writing_next x y d t b et ey ex eb ed =
       let sl = w.long in
       record {
+        passed = passed_next b d w.passed low (eb ∙ ap (holds_pair core) pair_same) ed;
         long = length-set shares j x ∙ sl;
         ahead = λ k h. get_or-set_other shares j k x 0 (λ z. omega arith) ∙ w.ahead k (omega arith);
         written =
             stored_more (λ k z. z ≡ sheet_share q scope place (packed_at shares₀ k) (get_or held (2 * inner_before (packed_at shares₀) core k) 0))
-            shares j x (omega arith) w.written (rw (← c.place, ← pair_same w, ← et, ← ey) ex);
+            shares j x (omega arith) w.written (rw (← w.passed.place, ← pair_same, ← et, ← ey) ex);
       }
-
-pub writing_end : {m j i q : ℕ} {core scope place held shares₀ shares : List ℕ} → InnerPassed m j i (packed_at shares₀) core → m ≤ j →
-    Writing j q core scope place held shares₀ shares → Written m q core scope place held shares₀ shares
-writing_end c h w = record { shares = λ k l. w.written k (omega arith) }
 
 -- a pair's share where what its first slot holds matters only inside the scope
 share_same : (b : Bool) (x y z : ℕ) → (b ≡ true → x ≡ y) → cond b x z ≡ cond b y z

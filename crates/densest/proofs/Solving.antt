@@ -1,21 +1,22 @@
 -- From the leaving order to the answer.
 --   peeled_cored, peeled_candidate, peeled_by_place    what `peel` gives the search
---   peelable_zeros, room_zeros, room_less              buffers are long enough: of zeros, and for fewer pairs
---   gathering_bounded, gathering_unpacks               what is found among the pairs gathered, and the pairs packed
+--   peelable_zeros, room_zeros                         buffers of zeros are long enough
+--   gathering_candidate, gathering_unpacks             what is found among the pairs gathered, and the pairs packed
 --   solution_written, solves_of                        the answer, and where it stands in the buffers
 -- Assumes nothing.
-use Rattle.std.proofs.Common.{◌≡◌, ℕ, ◌*◌, ◌<◌, ◌≤◌, true, ltb, List, ◌++◌, length, get_or, drop, replicate, sym, refl, ap, ◌∙◌, arith, length-take-le, take_at, drop_at}
-use lib.ListN.{length-replicate, get_or-append}
+use Rattle.std.proofs.Common.{◌≡◌, ℕ, ◌*◌, ◌<◌, ◌≤◌, true, ltb, List, ◌++◌, length, get_or, take, drop, replicate, sym, refl, ap, ◌∙◌, arith, length-take-le, take_at, drop_at}
+use lib.ListN.{length-replicate}
 use lib.Seq.{length_front}
 use Rattle.theory.specs.Lists.{Pairs, is_list}
-use Rattle.theory.specs.Groups.{size, bytes_good, inside}
+use Rattle.theory.specs.Groups.{size, inside}
 use Rattle.theory.specs.Leaving.{leaving, remainder, before}
 use Rattle.theory.specs.Cores.{core, core_number, core_numbers}
 use Rattle.theory.specs.Splits.{rounded_up}
 use Rattle.theory.specs.Words.{word_pair, list_in, laid_list, HeldWords}
 use Rattle.theory.proofs.Tables.{length_table, table_at}
-use Rattle.theory.proofs.Cores.{core_bits}
 use Rattle.theory.proofs.Lists.{listed}
+use Rattle.lists.specs.declared.list.List as L
+use Rattle.lists.specs.Listed.{listed as in_list}
 use Rattle.theory.proofs.Words.{length_laid}
 use Rattle.slots.specs.Slots.{mate, Room}
 use Rattle.slots.proofs.Held.{zero_at}
@@ -25,63 +26,57 @@ use Rattle.peel.specs.Promise.{PeelPromised}
 use Rattle.peel.specs.declared.Remainder.{Remainder}
 use Rattle.peel.proofs.Leavers.{remainder_group}
 use Rattle.peel.proofs.Promises.{peel_promised}
-use Rattle.rounds.specs.Search.{Candidate, Cored, Round, GroupFound}
-use Rattle.rounds.proofs.Rounds.{Bounded, group_candidate, found_bounded}
+use Rattle.rounds.specs.Known.{Candidate, Cored}
+use Rattle.rounds.specs.Search.{Round, GroupFound}
+use Rattle.rounds.proofs.Rounds.{group_candidate, group_found_candidate}
 use Rattle.densest.specs.declared.Solution.{Solution}
-use Rattle.densest.specs.Gather.{Unpacks, GatheringFound, sheet_share, Written}
+use Rattle.densest.specs.Gather.{Unpacks, sheet_share, Written}
 use Rattle.densest.specs.Solve.{IsSolution, Solves}
 use Rattle.densest.proofs.Scattering.{put_back, put_back_is}
+use Rattle.densest.proofs.InnerSearch.{GatheringFound}
 use Rattle.densest.proofs.Sheets.{Sheet, written_shares, sheet_optimal, sheet_outside}
 
 -- ---- the leaving order
 
-module _ (g : Pairs) (l : is_list g ≡ true) (order cores place order' cores' place' : List ℕ) (r : Remainder)
+module _ {g : Pairs} {order cores place order' cores' place' : List ℕ} {r : Remainder} (l : is_list g ≡ true)
     (h : Peels g 1 order cores place order' cores' place' r) where
-  pub peeled_cored : g.n ≤ length cores' → Cored g cores'
+  pub peeled_cored : Cored g (take g.n cores')
   unfolding core_numbers
-  peeled_cored e = record {
-    long = e;
-    numbers = λ v b.
-        ap (λ (xs : List ℕ). get_or xs v 0) h.cores_are
-        ∙ get_or-append (core_numbers g) (drop g.n cores) 0 v (omega (arith, length_table g.n (core_number g)))
-        ∙ table_at g.n (core_number g) v 0 b;
-  }
+  peeled_cored =
+      let long = length_table g.n (core_number g) in
+      let e : take g.n cores' ≡ core_numbers g = rw h.cores_are (take_at (core_numbers g) (drop g.n cores) g.n long) in
+      rw e (record { long = omega (arith, long); numbers = λ v b. table_at g.n (core_number g) v 0 b })
 
-  pub peeled_candidate : Candidate g r.p r.q
+  pub peeled_candidate : Candidate g r.ratio.p r.ratio.q
   unfolding PeelPromised
   peeled_candidate =
       let k = peel_promised g 1 order cores place order' cores' place' r l (omega arith) (listed g l).some h in
-      group_candidate g (remainder g r.at) r.p r.q l (remainder_group g r.at (omega (arith, k.rest, k.enough))) h.p_is h.q_is
+      group_candidate g (remainder g r.at) r.ratio.p r.ratio.q l (remainder_group g r.at (omega (arith, k.rest, k.enough))) h.p_is h.q_is
 
   pub peeled_by_place : (a b : ℕ) → a < g.n → b < g.n → before (leaving g) a b ≡ ltb (get_or place' a 0) (get_or place' b 0)
   unfolding PeelPromised
   peeled_by_place = (peel_promised g 1 order cores place order' cores' place' r l (omega arith) (listed g l).some h).by_place
 
-pub peelable_zeros : (n m : ℕ) (ends weights cores : List ℕ) → HeldWords n m ends weights → n ≤ length cores →
-    Peelable n 1 (replicate {A = ℕ} 512 0) cores (replicate {A = ℕ} 512 0)
+pub peelable_zeros : (list : L.List) (cores : List ℕ) → list.n ≤ length cores → Peelable list.n 1 (replicate {A = ℕ} 512 0) cores (replicate {A = ℕ} 512 0)
 unfolding list_in
-peelable_zeros n m ends weights cores h c =
-    let l = listed (list_in n m ends weights) h.listed in
+peelable_zeros list cores c =
+    let l = listed (in_list list) list.held.listed in
     record { some = omega arith; few = l.some; order_long = l.few; cores_long = c; place_long = l.few }
 
 pub room_zeros : (m k : ℕ) → 2 * m ≤ k → Room m (replicate {A = ℕ} k 0)
 room_zeros m k h = record { long = omega (arith, length-replicate {A = ℕ} k 0); small = λ s l. omega (arith, zero_at k s, zero_at k (mate s)) }
 
--- fewer pairs need no more room
-pub room_less : {m r : ℕ} {hold : List ℕ} → r ≤ m → Room m hold → Room r hold
-room_less l h = record { long = omega (arith, h.long); small = λ s b. h.small s (omega arith) }
-
 -- ---- the answer
 
 module _ (n m : ℕ) (ends weights : List ℕ) (h : HeldWords n m ends weights) (scope hold t : List ℕ) (p q : ℕ)
-    (f : GroupFound n m ends weights scope hold t p q true) where
+    (f : GroupFound n m ends weights scope hold t p q) where
   solution_of : (place shares : List ℕ) (x : Solution) →
       ((a b : ℕ) → a < n → b < n → before (leaving (list_in n m ends weights)) a b ≡ ltb (get_or place a 0) (get_or place b 0)) →
       length shares ≡ m → ((j : ℕ) → j < m → get_or shares j 0 ≡ sheet_share q scope place (word_pair ends weights j) (get_or hold (2 * j) 0)) →
-      x.p ≡ p → x.q ≡ q → x.k ≡ rounded_up p q → x.core ≡ size scope → IsSolution (list_in n m ends weights) t shares x
+      x.ratio.p ≡ p → x.ratio.q ≡ q → x.k ≡ rounded_up p q → x.core ≡ size scope → IsSolution (list_in n m ends weights) t shares x
   solution_of place shares x by long written xp xq xk xc =
       let g = list_in n m ends weights in
-      let d : Round n m p q ends weights scope hold t true = f.last refl in
+      let d : Round n m p q ends weights scope hold t true = f.last in
       let ep : p ≡ inside g t = f.inside_count in
       let eq : q ≡ size t = f.modules in
       let ek : rounded_up p q ≡ rounded_up (inside g t) (size t) = rw (ep, eq) in
@@ -104,32 +99,31 @@ module _ (n m : ℕ) (ends weights : List ℕ) (h : HeldWords n m ends weights) 
       }
 
 -- found among the pairs gathered
-module _ (n m : ℕ) (ends weights : List ℕ) (h : HeldWords n m ends weights) (core scope units packed t : List ℕ) (p q : ℕ)
-    (f : GatheringFound n m ends weights core scope units packed t p q) where
+module _ {n m : ℕ} {ends weights core scope units packed t : List ℕ} {p q : ℕ} (f : GatheringFound n m ends weights core scope units packed t p q) where
   -- the units of all pairs
   abbrev hold : List ℕ
   hold = put_back m (word_pair ends weights) core units
 
-  all_found : GroupFound n m ends weights scope hold t p q true
+  all_found : GroupFound n m ends weights scope hold t p q
   all_found = f.found hold (put_back_is m (word_pair ends weights) core units)
 
-  pub gathering_bounded : Bounded p q
-  gathering_bounded = found_bounded n m ends weights h scope hold t p q true all_found
+  pub gathering_candidate : Candidate (list_in n m ends weights) p q
+  gathering_candidate = group_found_candidate f.held.listed all_found
 
   -- the pairs packed have ends below n
   pub gathering_unpacks : Unpacks n m packed
   unfolding word_pair
   gathering_unpacks = record {
-    first = λ j l. rw (f.packed.pairs j l) (omega (arith, good_pair n m ends weights h.listed j l));
-    second = λ j l. rw (f.packed.pairs j l) (good_pair n m ends weights h.listed j l).below;
+    first = λ j l. rw (f.packed.pairs j l) (omega (arith, good_pair n m ends weights f.held.listed j l));
+    second = λ j l. rw (f.packed.pairs j l) (good_pair n m ends weights f.held.listed j l).below;
   }
 
-  pub solution_written : (place shares : List ℕ) (x : Solution) →
+  pub solution_written : {place shares : List ℕ} {x : Solution} →
       ((a b : ℕ) → a < n → b < n → before (leaving (list_in n m ends weights)) a b ≡ ltb (get_or place a 0) (get_or place b 0)) →
       length shares ≡ m → Written m q core scope place units packed shares →
-      x.p ≡ p → x.q ≡ q → x.k ≡ rounded_up p q → x.core ≡ size scope → IsSolution (list_in n m ends weights) t shares x
-  solution_written place shares x by long written =
-      solution_of n m ends weights h scope hold t p q all_found place shares x by long
+      x.ratio.p ≡ p → x.ratio.q ≡ q → x.k ≡ rounded_up p q → x.core ≡ size scope → IsSolution (list_in n m ends weights) t shares x
+  solution_written {place} {shares} {x} by long written =
+      solution_of n m ends weights f.held scope hold t p q all_found place shares x by long
       (written_shares m q ends weights core scope place units hold packed shares f.packed f.sub
       (put_back_is m (word_pair ends weights) core units) written)
 

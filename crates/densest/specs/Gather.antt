@@ -1,19 +1,18 @@
--- The pairs inside a scope, gathered at the front of the words that hold all pairs; all pairs, packed; and the units of the pairs gathered, put back.
+-- The pairs inside a scope, gathered at the front of the words that hold all pairs; all pairs, packed; and the load sheet.
 --   inner_before               how many pairs before pair j are inside the scope (its number among the pairs gathered)
---   Gathered                   words that have the pairs inside the scope
+--   Gathered, CoreGathered     words that have the pairs inside the scope; inside a core as large as the group at hand asks for
 --   unpacked, Packed, Unpacks  the pair of one word; entries that are the pairs, packed; entries whose ends are modules
---   ScatteredAt, Scattered    slots of all pairs that have the units of the pairs gathered
---   GatheringFound            the found group, by the pairs gathered
 --   first_left, sheet_share    who of a pair left first; a pair's share, from its first slot and the leaving places
 --   Written                    the load sheet, from the pairs packed and the units of the pairs gathered
 -- Assumes nothing: these are definitions.
-use Rattle.std.specs.Prelude.{◌≡◌, ℕ, ◌+◌, ◌*◌, ◌/◌, ◌%◌, ◌<◌, ◌≤◌, Bool, true, cond, List, length, nat_lt, slice_index}
+use Rattle.std.specs.Prelude.{◌≡◌, ℕ, ◌*◌, ◌/◌, ◌%◌, ◌<◌, ◌≤◌, Bool, true, cond, List, nat_lt, slice_index}
 use Rattle.theory.specs.Lists.{Pair}
-use Rattle.theory.specs.Groups.{is_in, holds_pair}
-use Rattle.theory.specs.Splits.{units}
-use Rattle.theory.specs.Words.{word_pair, list_in}
+use Rattle.theory.specs.Groups.{holds_pair}
+use Rattle.theory.specs.Cores.{core}
+use Rattle.theory.specs.Splits.{units, rounded_up}
+use Rattle.theory.specs.Words.{word_pair, list_in, HeldWords}
 use Rattle.slots.specs.Slots.{total}
-use Rattle.rounds.specs.Search.{GroupFound}
+use Rattle.rounds.specs.Known.{Candidate}
 use Rattle.densest.specs.Inner.{inner_list}
 
 -- how many of the first j pairs have both ends in the scope; pair i is h i
@@ -28,6 +27,15 @@ pub record Gathered (n m : ℕ) (ends weights scope inner_ends inner_weights : L
   pub pairs : (j : ℕ) → j < m → holds_pair scope (word_pair ends weights j) ≡ true →
       word_pair inner_ends inner_weights (inner_before (word_pair ends weights) scope j) ≡ word_pair ends weights j
 
+-- the pairs inside a core, gathered: its order is at most p over q rounded up, a ratio that some group of all pairs reaches
+pub record CoreGathered (n m p q : ℕ) (ends weights members inner_ends inner_weights : List ℕ) (r : ℕ) : Type 0 where
+  pub held : HeldWords n m ends weights
+  pub at_hand : Candidate (list_in n m ends weights) p q
+  pub order : ℕ
+  pub low : order ≤ rounded_up p q
+  pub members_are : members ≡ core (list_in n m ends weights) order
+  pub gathered : Gathered n m ends weights members inner_ends inner_weights r
+
 -- the pair of a word that has its first end from bit 19 on, its second end from bit 10 on, and its count in the lowest 10 bits
 unfoldable pub unpacked : ℕ → Pair
 unpacked x = record { a = x / 524288; b = x / 1024 % 512; w = x % 1024 }
@@ -40,24 +48,6 @@ pub record Packed (m : ℕ) (ends weights shares : List ℕ) : Type 0 where
 pub record Unpacks (n m : ℕ) (shares : List ℕ) : Type 0 where
   pub first : (j : ℕ) → j < m → (unpacked (slice_index shares j)).a < n
   pub second : (j : ℕ) → j < m → (unpacked (slice_index shares j)).b < n
-
--- pair j has the units of the pair gathered from it, slot by slot, and none where it is not inside the scope
-abbrev pub ScatteredAt : (h : ℕ → Pair) → (scope units hold : List ℕ) → (j : ℕ) → Type 0
-ScatteredAt h scope units hold j =
-    (slice_index hold (2 * j) ≡ cond (holds_pair scope (h j)) (slice_index units (2 * inner_before h scope j)) 0)
-    × (slice_index hold (2 * j + 1) ≡ cond (holds_pair scope (h j)) (slice_index units (2 * inner_before h scope j + 1)) 0)
-
--- all pairs do; further slots are free
-pub record Scattered (m : ℕ) (h : ℕ → Pair) (scope units hold : List ℕ) : Type 0 where
-  pub long : 2 * m ≤ length hold
-  pub slots : (j : ℕ) → j < m → ScatteredAt h scope units hold j
-
--- the found group, looked for among the pairs inside `core`, which has the scope of the last round within it; `units` are of the pairs gathered, and
--- all pairs stand packed among the shares
-pub record GatheringFound (n m : ℕ) (ends weights core scope units shares group : List ℕ) (p q : ℕ) : Type 0 where
-  pub packed : Packed m ends weights shares
-  pub sub : (v : ℕ) → is_in scope v ≡ true → is_in core v ≡ true
-  pub found : (hold : List ℕ) → Scattered m (word_pair ends weights) core units hold → GroupFound n m ends weights scope hold group p q true
 
 -- whether a pair's first end left before the second
 abbrev pub first_left : (place : List ℕ) → Pair → Bool

@@ -15,10 +15,10 @@ use Rattle.densest.specs.declared.Solution.{Solution}
 pub record IsSolution (g : Pairs) (s xs : List ℕ) (r : Solution) : Type 0 where
   -- s is the found group
   pub found : Found g s
-  -- P and Q are its inside count and size; xs is a split at share size Q, its greatest load is exactly P, and both are best
-  pub optimal : Optimal g s xs r.p r.q
+  -- the ratio is its inside count P over its size Q; xs is a split at share size Q, its greatest load is exactly P, and both are best
+  pub optimal : Optimal g s xs r.ratio.p r.ratio.q
   -- a pair with an end outside the core of order K goes wholly to the end that left first
-  pub outside : outside_good g (core_order g s) r.q g.pairs xs ≡ true
+  pub outside : outside_good g (core_order g s) r.ratio.q g.pairs xs ≡ true
   -- K is P over Q, rounded up, and the core of order K has so many modules
   pub order : r.k ≡ core_order g s
   pub core_size : r.core ≡ size (core g r.k)

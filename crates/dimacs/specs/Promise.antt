@@ -12,8 +12,7 @@
 --   is_dimacs_number, OnlyThese    a file is refused by no other numbers than 16, 2, 3, 11, 17, 5, 4 and 10
 --   WrittenFits           65,536 bytes hold the file of any list
 -- proofs/Promises.antt has a theorem for each, of the same name in small letters. Assumes nothing: these are definitions.
-use Rattle.std.specs.Prelude.{◌≡◌, Bool, true, ◌||◌, List, [], ◌∷◌, ◌++◌, map, ℕ, ◌-◌, ◌≤◌, eqb, length}
-use Rattle.std.proofs.Math.Option.{Option, none, some}
+use Rattle.std.specs.Prelude.{◌≡◌, Bool, true, ◌||◌, List, [], ◌∷◌, ◌++◌, map, ℕ, ◌-◌, ◌≤◌, eqb, length, Option, Some, None}
 use Rattle.theory.specs.Basics.{all}
 use Rattle.theory.specs.Lists.{Pair, Pairs, pair, smaller_first, rising, is_list}
 use Rattle.lines.specs.Text.{between}
@@ -38,8 +37,8 @@ WrittenReadsBack =
 
 -- the pair on a line in front of others, if the line is an `e` line
 unfoldable pub pair_on : Option Line → List Pair → List Pair
-pair_on none ps = ps
-pair_on (some l) ps = pair (first l - 1) (second l - 1) ∷ ps
+pair_on None ps = ps
+pair_on (Some l) ps = pair (first l - 1) (second l - 1) ∷ ps
 
 -- the pairs named on `e` lines, in their order, as written less 1 (0 stays 0; no file that is taken has it)
 unfoldable pub named_on : (lines : List (List ℕ)) → List Pair

@@ -1,95 +1,85 @@
 // How the steps are drawn: pairs of the list and others, in either order, some with numbers out of range or a module with itself; mostly a few stops, and
 // numbers of stops at every bound.
-use crate::{desk, model};
+use crate::steps::Run;
+use model::below;
 
-// A step: add or remove, the pair, the stops that add is given, and the random state after the draw.
+// A step: add or remove, the pair, and the stops that add is given.
 #[derive(Clone, Copy)]
 pub(crate) struct Ask {
     pub(crate) adds: bool,
     pub(crate) a: u32,
     pub(crate) b: u32,
     pub(crate) w: u32,
-    pub(crate) state: u32,
-}
-
-// A number below k, by chance; 0 where k is 0.
-pub(crate) fn below(state: u32, k: u32) -> u32 {
-    if k == 0 { 0 } else { (state / 65536) % k }
 }
 
 // A module number, or n, or one time in 64 any number.
-fn drawn_end(n: u32, state: u32) -> u32 {
-    if state % 64 == 0 {
-        return state;
+fn drawn_end(n: u32, drawn: u32) -> u32 {
+    if drawn % 64 == 0 {
+        drawn
+    } else {
+        below(drawn, n.saturating_add(1))
     }
-    below(state, std::num::wrapping_add_u32(n, 1))
 }
 
 // A number of stops outside 1 to 1,000: 0, 1,001, the greatest of all, or 1 to 9 in the lower 16 bits.
-fn outside(state: u32, few: u32) -> u32 {
-    let kind = (state / 16) % 4;
-    if kind == 0 {
-        return 0;
+fn outside(drawn: u32, few: u32) -> u32 {
+    match drawn / 16 % 4 {
+        0 => 0,
+        1 => 1001,
+        2 => u32::MAX,
+        _ => few.saturating_add(65536),
     }
-    if kind == 1 {
-        return 1001;
-    }
-    if kind == 2 {
-        return 4294967295;
-    }
-    std::num::wrapping_add_u32(65536, few)
 }
 
 // The stops for a pair whose count is x. Of sixteen times: two outside 1 to 1,000, one that makes the count 1,000, one that makes it 1,001, one 1,000; else
 // 1 to 9.
-fn drawn_stops(x: u32, state: u32) -> u32 {
-    let kind = state % 16;
-    let few = std::num::wrapping_add_u32(below(state, 9), 1);
-    if kind % 8 == 0 {
-        return outside(state, few);
+fn drawn_stops(x: u32, drawn: u32) -> u32 {
+    let few = below(drawn, 9).saturating_add(1);
+    match drawn % 16 {
+        0 | 8 => outside(drawn, few),
+        1 => 1000u32.wrapping_sub(x),
+        2 => 1001u32.wrapping_sub(x),
+        3 => 1000,
+        _ => few,
     }
-    if kind == 1 {
-        return std::num::wrapping_sub_u32(1000, x);
-    }
-    if kind == 2 {
-        return std::num::wrapping_sub_u32(1001, x);
-    }
-    if kind == 3 { 1000 } else { few }
 }
 
 // The step for a and b, in either order.
-pub(crate) fn asked(adds: bool, a: u32, b: u32, w: u32, state: u32) -> Ask {
-    if (state / 256) % 2 == 0 {
-        return Ask {
+pub(crate) fn asked(adds: bool, a: u32, b: u32, w: u32, drawn: u32) -> Ask {
+    if drawn / 256 % 2 == 0 {
+        Ask { adds, a, b, w }
+    } else {
+        Ask {
             adds,
-            a,
-            b,
+            a: b,
+            b: a,
             w,
-            state,
-        };
-    }
-    Ask {
-        adds,
-        a: b,
-        b: a,
-        w,
-        state,
+        }
     }
 }
 
+// Record j of the list: its modules and its count. There is no From of u32 for usize.
+pub(crate) fn listed(run: &Run, j: u32) -> Option<(u32, u32, u32)> {
+    let pair = run.list.get(j as usize)?;
+    Some((u32::from(pair.a), u32::from(pair.b), u32::from(pair.w)))
+}
+
 // A pair of the list one time in two, else any.
-pub(crate) fn drawn(n: u32, adds: bool, m: u32, state: u32, desk: &[u32]) -> Ask {
-    let first = desk::next(state);
-    let second = desk::next(first);
-    let third = desk::next(second);
-    let fourth = desk::next(third);
-    let j = desk::place(0, below(second, m));
-    let mut a = drawn_end(n, second);
-    let mut b = drawn_end(n, third);
-    if first % 2 == 0 {
-        a = desk::word_at(desk, j);
-        b = desk::word_at(desk, desk::plus(j, 1));
-    }
-    let w = drawn_stops(model::count_of(desk, a, b), fourth);
-    asked(adds, a, b, w, fourth)
+pub(crate) fn drawn(run: &mut Run, adds: bool) -> Ask {
+    let first = run.random.draw();
+    let second = run.random.draw();
+    let third = run.random.draw();
+    let fourth = run.random.draw();
+    let n = run.plan.n;
+    let (a, b) = match listed(run, below(second, run.model.pairs())) {
+        Some((a, b, _)) if first % 2 == 0 => (a, b),
+        _ => (drawn_end(n, second), drawn_end(n, third)),
+    };
+    asked(
+        adds,
+        a,
+        b,
+        drawn_stops(run.model.count(a, b), fourth),
+        fourth,
+    )
 }

@@ -2,18 +2,19 @@
 // has each pair's stop count, and before each step place. The program `readers` has those that read one from a file.
 #![tactic(auto)]
 
-mod desk;
+mod answers;
 mod draws;
-mod lent;
-mod model;
 mod orders;
 mod places;
-mod print;
 mod runs;
+mod spoils;
 mod starts;
 mod steps;
+mod tally;
 
-fn main() {
-    starts::run();
-    runs::run_all();
+use std::io;
+
+fn main(rt: HostRuntime) -> io::Result<()> {
+    starts::run(&rt)?;
+    runs::run_all(&rt, rt.alloc())
 }

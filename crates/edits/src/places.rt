@@ -1,92 +1,56 @@
-// Where the pair of a step stands: place is asked before the step is made. Its number must be the model's; the pair is held where the table has it, and its
+// Where the pair of a step stands: place is asked before the step is made. Its number must be the model's; the pair is held where the model has it, and its
 // place is how many records of the list are smaller, counted one by one. Beside a refusal both are 0.
+use crate::answers;
 use crate::draws::Ask;
-use crate::steps::Plan;
-use crate::{desk, lent, model, steps};
+use crate::steps::{Altered, Plan, Run};
 use kandurzo::Placed;
-use records::Head;
+use model::front;
+use refusals::Refusal;
 
-// The call, on 4,096 records or on 100.
-fn call(len: u32, ask: Ask, head: Head, desk: &mut [u32]) -> Placed {
-    if len == 4096 {
-        return lent::place_4096(desk, head, ask.a, ask.b);
-    }
-    lent::place_100(desk, head, ask.a, ask.b)
+// How many of the list's records are smaller than the pair. There is no From of u32 for usize.
+fn smaller_ones(run: &Run, a: u32, b: u32) -> u32 {
+    let pair = (a.min(b), a.max(b));
+    let smaller = front(run.list.as_slice(), run.head.m as usize)
+        .iter()
+        .filter(|p| (u32::from(p.a), u32::from(p.b)) < pair)
+        .count();
+    u32::try_from(smaller).unwrap_or(u32::MAX)
 }
 
-// Whether record j of the list is smaller than the pair a,b.
-fn smaller(desk: &[u32], j: u32, a: u32, b: u32) -> bool {
-    let c = desk::word_at(desk, desk::place(0, j));
-    let d = desk::word_at(desk, desk::plus(desk::place(0, j), 1));
-    if c == a { d < b } else { c < a }
-}
-
-// One more where it is.
-fn counted(desk: &[u32], j: u32, a: u32, b: u32, found: u32) -> u32 {
-    desk::one_more(!smaller(desk, j, a, b), found)
-}
-
-// How many of the list's first m records are smaller.
-fn smaller_ones(desk: &[u32], m: u32, a: u32, b: u32) -> u32 {
-    let mut found = 0;
-    let mut j = 0;
-    while j < m {
-        found = counted(desk, j, a, b, found);
-        j += 1;
-    }
-    found
-}
-
-// The answer that is due where the number is this one.
-fn due(ask: Ask, number: u32, m: u32, desk: &[u32]) -> Placed {
-    if number != 0 {
-        return Placed {
-            number,
+// The answer that is due.
+fn due(run: &Run, ask: Ask, answer: Result<(), Refusal>) -> Placed {
+    match answer {
+        Ok(()) => Placed {
+            number: 0,
+            held: u32::from(run.model.count(ask.a, ask.b) != 0),
+            at: smaller_ones(run, ask.a, ask.b),
+        },
+        Err(refusal) => Placed {
+            number: u32::from(refusal),
             held: 0,
             at: 0,
-        };
-    }
-    let at = if ask.a < ask.b {
-        smaller_ones(desk, m, ask.a, ask.b)
-    } else {
-        smaller_ones(desk, m, ask.b, ask.a)
-    };
-    Placed {
-        number,
-        held: model::held_mark(desk, ask.a, ask.b),
-        at,
+        },
     }
 }
 
 // Whether an answer is the one that is due.
-fn same(plan: Plan, answer: Placed, right: Placed) -> bool {
-    if steps::altered(plan, 5, answer.number) != right.number {
-        return false;
-    }
-    if steps::altered(plan, 6, answer.held) != right.held {
-        return false;
-    }
-    steps::altered(plan, 7, answer.at) == right.at
+fn is_same(plan: Plan, answer: Placed, due: Placed) -> bool {
+    let number = plan.altered(Altered::PlaceNumber, answer.number);
+    let held = plan.altered(Altered::Held, answer.held);
+    let at = plan.altered(Altered::Place, answer.at);
+    (number, held, at) == (due.number, due.held, due.at)
 }
 
-// A call of place, which says held where `held` is 1.
-fn count_held(desk: &mut [u32], held: u32) {
-    steps::count_in(desk, 7);
-    if held == 1 {
-        steps::count_in(desk, 8);
-    }
-}
-
-// Asks place, whose number must be this one, and compares.
-pub(crate) fn asked(plan: Plan, ask: Ask, number: u32, head: Head, desk: &mut [u32]) {
-    let right = due(ask, number, head.m, desk);
-    let answer = call(plan.len, ask, head, desk);
-    steps::note(same(plan, answer, right), desk);
-    count_held(desk, answer.held);
+// Asks place, which must answer so, and compares.
+pub(crate) fn asked(run: &mut Run, ask: Ask, answer: Result<(), Refusal>) {
+    let due = due(run, ask, answer);
+    let placed = kandurzo::place(run.head, run.list.as_slice(), ask.a, ask.b);
+    let same = is_same(run.plan, placed, due);
+    run.tally.place(same, placed.held == 1);
 }
 
 // The same before a step, where head and list agree.
-pub(crate) fn before_step(plan: Plan, ask: Ask, head: Head, desk: &mut [u32]) {
-    let number = model::pair_number(plan.n, ask.a, ask.b);
-    asked(plan, ask, number, head, desk);
+pub(crate) fn before_step(run: &mut Run, ask: Ask) {
+    let answer = answers::of_pair(run.plan.n, ask);
+    asked(run, ask, answer);
 }

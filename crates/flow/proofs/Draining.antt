@@ -1,79 +1,53 @@
 -- Draining: who stays, and that nobody of a closed set drains.
---   DrainStarting                                         the start, module by module
---   drain_start_none, drain_start_next, drain_start_end    no module, one more, all
---   drains_none, drains_more                               nobody drains; some and then others
---   release_room, release_drains                           the module of a slot that leads out drains
---   Draining, draining_start, draining_on, draining_end    all of it
+--   DrainStarting                                          the start, module by module
+--   drain_start_next                                       one module more
+--   drains_more                                            some drain, and then others
+--   release_room, release_count, release_drains            the module of a slot that leads out drains
+--   Draining, draining_start, draining_on                  all of it
 -- Assumes nothing.
-use Rattle.std.proofs.Common.{◌≡◌, refl, sym, ap, ◌∙◌, Bool, true, false, ◌&&◌, cond, List, ⊎_elim, ℕ, ◌+◌, ◌*◌, ◌≤◌, ◌<◌, arith, leb, ltb, eqb, length, get_or, set, get_or-set_same, get_or-set_other, lt-ltb, le-ltb}
-use Rattle.std.proofs.lemmas.Bool.{lt-leb}
+use Rattle.std.proofs.Common.{◌≡◌, refl, sym, ap, ◌∙◌, Bool, true, false, ◌&&◌, cond, List, ⊎_elim, ℕ, ◌+◌, ◌≤◌, ◌<◌, arith, leb, ltb, eqb, length, get_or, set, get_or-set_same, get_or-set_other, length-set}
+use Rattle.std.proofs.lemmas.Bool.Decides.{nat_tests}
 use Rattle.theory.specs.Groups.{is_in}
 use Rattle.theory.proofs.Tests.{tests, no}
 use Rattle.slots.specs.Slots.{mate}
 use Rattle.slots.proofs.Choice.{eq_or_ne, lt_or_le, stored_more}
-use Rattle.chains.specs.Search.{zeros, Closed, Exit}
+use Rattle.chains.specs.Search.{zeros, Closed}
 use Rattle.chains.proofs.Leads.{leads_of, LeadsOut}
 use Rattle.chains.proofs.Zeros.{is_zero, zeros_down, zeros_low, zeros_next}
-use Rattle.flow.specs.Drain.{DrainStart, Released, Drains, Drained}
+use Rattle.flow.specs.Drain.{DrainStart, Released, Drains}
 
 -- ---- the start
 
 -- who stays of the modules below v, and who is queued
 pub record DrainStarting (n p v : ℕ) (scope load rank queue : List ℕ) (tail : ℕ) : Type 0 where
-  pub low : v ≤ n
   pub ranks : (k : ℕ) → k < v → get_or rank k 0 ≡ cond (is_in scope k && leb p (get_or load k 0)) 1 0
   pub queued : (i : ℕ) → i < tail → get_or queue i 0 < n
   pub count : tail ≤ zeros v rank
   pub few : tail ≤ v
-
-pub drain_start_none : {n p : ℕ} {scope load rank queue : List ℕ} → DrainStarting n p 0 scope load rank queue 0
-drain_start_none = record {
-  low = omega arith;
-  ranks = λ k h. absurd (omega arith);
-  queued = λ i h. absurd (omega arith);
-  count = omega arith;
-  few = omega arith;
-}
+  pub long : n ≤ length rank
 
 -- who is queued does not stay
 queued_gone : (b : Bool) (p x : ℕ) → cond (b && ltb x p) 1 0 ≤ is_zero (cond (b && leb p x) 1 0)
-queued_gone true p x =
-    ⊎_elim
-    (λ (l : x < p). rw (lt-ltb x p l, lt-leb p x l) (omega arith))
-    (λ (l : p ≤ x). rw (le-ltb x p l) (omega arith))
-    (lt_or_le x p)
-queued_gone false p x = omega arith
+queued_gone b p x = grind (arith, nat_tests)
 
-cond_most : (b : Bool) → cond b 1 0 ≤ 1
-cond_most true = omega arith
-cond_most false = omega arith
-
-module _ {n p v : ℕ} {scope load rank queue : List ℕ} {tail : ℕ} (w : DrainStarting n p v scope load rank queue tail) (l : v < n) (lr : v < length rank)
+module _ {n p v : ℕ} {scope load rank queue : List ℕ} {tail : ℕ} (w : DrainStarting n p v scope load rank queue tail) (l : v < n)
     (lq : tail < length queue) where
   pub drain_start_next : (k d : ℕ) → k ≡ cond (eqb (get_or scope v 0) 1 && leb p (get_or load v 0)) 1 0 →
       d ≡ cond (eqb (get_or scope v 0) 1 && ltb (get_or load v 0) p) 1 0 → DrainStarting n p (v + 1) scope load (set rank v k) (set queue tail v) (tail + d)
   unfolding is_in
   drain_start_next k d ek ed =
-      let one : d ≤ 1 = rw ed (cond_most (eqb (get_or scope v 0) 1 && ltb (get_or load v 0) p)) in
+      let one : d ≤ 1 = grind (arith, nat_tests) in
+      let lr : v < length rank = omega (arith, w.long) in
       let gone : d ≤ is_zero k = rw (ed, ek) (queued_gone (eqb (get_or scope v 0) 1) p (get_or load v 0)) in
       record {
-        low = omega arith;
         ranks = stored_more (λ k x. x ≡ cond (is_in scope k && leb p (get_or load k 0)) 1 0) rank v k lr w.ranks ek;
         queued = λ i h. stored_more (λ i x. x < n) queue tail v lq w.queued l i (omega arith);
         count = omega (arith, zeros_next v k rank lr, w.count);
         few = omega (arith, w.few);
+        long = simp length-set w.long;
       }
 
-pub drain_start_end : {n p v : ℕ} {scope load rank queue : List ℕ} {tail : ℕ} → DrainStarting n p v scope load rank queue tail → n ≤ v →
-    DrainStart n p scope load rank queue tail
-drain_start_end {n} {p} {v} {scope} {load} {rank} {queue} {tail} w h =
-    let e : v ≡ n = omega (arith, w.low) in
-    record { ranks = rw e at w.ranks; queued = w.queued; count = rw e at w.count }
-
 -- ---- modules drain
-
-pub drains_none : {n m : ℕ} {ends hold rank queue : List ℕ} {tail : ℕ} → Drains n m ends hold rank queue tail rank queue tail
-drains_none = record { fewer = λ v h b. b; keeps = λ t c f. f; more = omega arith; count = refl; queued = λ q. q }
 
 pub drains_more : {n m : ℕ} {ends hold rank queue : List ℕ} {tail : ℕ} {rank' queue' : List ℕ} {tail' : ℕ} {rank'' queue'' : List ℕ} {tail'' : ℕ} →
     Drains n m ends hold rank queue tail rank' queue' tail' → Drains n m ends hold rank' queue' tail' rank'' queue'' tail'' →
@@ -88,9 +62,19 @@ drains_more a b = record {
 
 -- slot k leads out of those who stay: its module drains
 module _ {n m : ℕ} {ends hold rank : List ℕ} {k : ℕ} (w : LeadsOut n m ends hold rank k) where
-  -- the queue has room
-  pub release_room : {tail : ℕ} → tail ≤ zeros n rank → tail < n
-  release_room h = omega (arith, zeros_low n (get_or ends k 0) rank w.low (omega (arith, w.low, w.long)) w.up)
+  -- among modules that are more than the graph's: the queue has room for it, and there is one more that does not stay
+  module _ (top tail v : ℕ) (le : n ≤ top) (long : length rank ≡ top) (ev : v ≡ get_or ends k 0) (count : tail ≤ zeros top rank) where
+    in_top : v < top
+    in_top = omega (arith, w.low)
+
+    staying_v : 0 < get_or rank v 0
+    staying_v = omega (arith, w.up, ap (λ (x : ℕ). get_or rank x 0) ev)
+
+    pub release_room : tail < top
+    release_room = omega (arith, zeros_low top v rank in_top (omega (arith, in_top)) staying_v)
+
+    pub release_count : tail + 1 ≤ zeros top (set rank v 0)
+    release_count = omega (arith, zeros_down top v rank in_top (omega (arith, in_top)) staying_v)
 
   pub release_drains : {tail : ℕ} {queue rank' queue' : List ℕ} → tail < length queue → Released ends k tail rank queue rank' queue' →
       Drains n m ends hold rank queue tail rank' queue' (tail + 1)
@@ -116,12 +100,10 @@ module _ {n m : ℕ} {ends hold rank : List ℕ} {k : ℕ} (w : LeadsOut n m end
 -- ---- all of it
 
 -- who may still stay: modules of the scope loaded p or more, among them every closed set of such
-pub record Draining (n m p : ℕ) (scope ends hold load rank queue : List ℕ) (tail : ℕ) : Type 0 where
+pub record Draining (n m p : ℕ) (scope ends hold load rank : List ℕ) : Type 0 where
   pub inside : (v : ℕ) → v < n → 0 < get_or rank v 0 → (is_in scope v ≡ true) × (p ≤ get_or load v 0)
   pub all : (t : List ℕ) → Closed m ends hold t → ((v : ℕ) → v < n → 0 < get_or t v 0 → (is_in scope v ≡ true) × (p ≤ get_or load v 0)) →
       (v : ℕ) → v < n → 0 < get_or t v 0 → 0 < get_or rank v 0
-  pub queued : (i : ℕ) → i < tail → get_or queue i 0 < n
-  pub count : tail ≤ zeros n rank
 
 bit_on : (b : Bool) → 0 < cond b 1 0 → b ≡ true
 bit_on true h = refl
@@ -132,24 +114,12 @@ on_bit true h = omega arith
 on_bit false h = no h
 
 pub draining_start : {n m p : ℕ} {scope ends hold load rank queue : List ℕ} {tail : ℕ} → DrainStart n p scope load rank queue tail →
-    Draining n m p scope ends hold load rank queue tail
+    Draining n m p scope ends hold load rank
 draining_start {n} {m} {p} {scope} {ends} {hold} {load} {rank} l = record {
   inside = λ v h b. simp tests at (bit_on (is_in scope v && leb p (get_or load v 0)) (rw (l.ranks v h) at b));
   all = λ t c f v h b. rw (l.ranks v h) (on_bit (is_in scope v && leb p (get_or load v 0)) (simp tests (f v h b)));
-  queued = l.queued;
-  count = l.count;
 }
 
-module _ {n m p : ℕ} {scope ends hold load rank queue : List ℕ} {tail : ℕ} (w : Draining n m p scope ends hold load rank queue tail) where
-  pub draining_on : {rank' queue' : List ℕ} {tail' : ℕ} → Drains n m ends hold rank queue tail rank' queue' tail' →
-      Draining n m p scope ends hold load rank' queue' tail'
-  draining_on d = record {
-    inside = λ v h b. w.inside v h (d.fewer v h b);
-    all = λ t c f. d.keeps t c (w.all t c f);
-    queued = d.queued w.queued;
-    count = omega (arith, d.count, w.count);
-  }
-
-  -- no slot leads out: the rest stays
-  pub draining_end : {k : ℕ} → Exit m ends hold rank k → k ≡ 2 * m → Drained n m p scope ends hold load rank
-  draining_end x z = record { inside = w.inside; shut = λ s h. x.none s (omega arith); all = w.all }
+pub draining_on : {n m p : ℕ} {scope ends hold load rank queue : List ℕ} {tail : ℕ} {rank' queue' : List ℕ} {tail' : ℕ} →
+    Draining n m p scope ends hold load rank → Drains n m ends hold rank queue tail rank' queue' tail' → Draining n m p scope ends hold load rank'
+draining_on w d = record { inside = λ v h b. w.inside v h (d.fewer v h b); all = λ t c f. d.keeps t c (w.all t c f) }

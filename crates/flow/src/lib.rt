@@ -7,68 +7,50 @@
 // what stays is the largest set loaded p throughout. Push phases (crate `push`) leave little to search: they go before, in the caller, and the promise does
 // not depend on them.
 // Cost: the searches for chains, a step for each arc of the modules that drain, and scans over all pairs for who else does. Nothing is refused.
+// That a graph has at most 512 modules, and how long a lent buffer is, are clauses where an array of 512 is indexed: a graph may have more, and an array in the
+// place of a slice would ask for more.
 #![tactic(auto)]
 
 mod drain;
+mod staying;
 
 ghost use Rattle.std.specs.Prelude.{◌≡◌, List, ℕ, ◌≤◌, ◌<◌, length};
-ghost use Rattle.slots.specs.Slots.{Ends, Room, Loads, Covers};
-ghost use Rattle.arcs.specs.Arcs.{ArcRoom};
+ghost use Rattle.slots.specs.Slots.{Loads};
+ghost use Rattle.slots.specs.Views.{UnitsSame};
 ghost use Rattle.flow.specs.Flow.{Flowed};
 ghost use Rattle.flow.specs.Drain.{Marked};
 
+use arcs::Arcs;
 use chains::settle;
-pub use chains::{Ended, Searches, no_searches, together};
+pub use chains::{Ended, Searches};
 use drain::drain;
-
-// 1 where x is above 0, else 0.
-fn bit(x: u32) -> u8
-    ensures { (0 < x → result ≡ 1) × (x ≡ 0 → result ≡ 0) }
-{
-    if x > 0 { 1 } else { 0 }
-}
+use slots::Units;
 
 // The modules with a rank, as bytes.
-fn mark(n: usize, rank: &[u32], group: &mut [u8])
-    requires n_in_bounds { n ≤ length rank.now }
-    requires group_len { length group.old ≡ n }
-    ensures { Marked n rank.now group.new }
+fn mark(rank: &[u32], group: &mut [u8])
+    requires { length group.old ≤ length rank.now }
+    ensures { Marked (length group.old) rank.now group.new }
 {
-    for v in 0..n {
-        group[v] = bit(rank[v]);
+    for (v, byte) in group.iter_mut().enumerate() {
+        *byte = u8::from(rank[v] > 0);
     }
 }
 
 // Settled: units lie in hold so that no load is above p, and `group` is the largest tight set inside the scope. Else more than p a module stays in
 // `group`. That holds for whatever loads modules have of their own, if `load` is their loads; afterwards `load` is free.
-pub fn flow(
-    n: usize,
-    m: usize,
-    p: u32,
-    scope: &[u8],
-    ends: &[u32],
-    starts: &[u32],
-    arcs: &[u32],
-    hold: &mut [u32],
-    load: &mut [u32],
-    group: &mut [u8],
-) -> Ended
-    requires n_bound { n ≤ 512 }
-    requires ends { Ends n m ends.now }
-    requires room { Room m hold.old }
-    requires covers { Covers n m ends.now hold.old load.old }
-    requires arc_room { ArcRoom n starts.now arcs.now }
-    requires scope_len { (length scope.now ≡ n) × (length group.old ≡ n) }
-    ensures { (own : List ℕ) → Loads n m own ends.now hold.old load.old →
-        Flowed n m p own scope.now ends.now hold.old hold.new group.new result.settled }
+pub fn flow(units: &mut Units, arcs: Arcs, p: u32, scope: &[u8], group: &mut [u8]) -> Ended
+    requires n_bound { units.old.graph.n ≤ 512 }
+    requires scope_len { (length scope.now ≡ units.old.graph.n) × (length group.old ≡ units.old.graph.n) }
+    ensures same { UnitsSame units.old units.new }
+    ensures flowed { (own : List ℕ) → Loads units.old.graph.n units.old.graph.m own units.old.graph.ends.now units.old.hold.now units.old.load.now →
+        Flowed units.old.graph.n units.old.graph.m p own scope.now units.old.graph.ends.now units.old.hold.now units.new.hold.now group.new
+        result.settled }
 {
     let mut rank = [0u32; 512];
-    let split = settle(n, m, p, ends, starts, arcs, hold, load, &mut rank);
+    let split = settle(units, arcs, p, &mut rank);
     if split.settled {
-        drain(n, m, p, scope, ends, starts, arcs, hold, load, &mut rank);
-        mark(n, &rank, group);
-        return split;
+        drain(units, arcs, p, scope, &mut rank);
     }
-    mark(n, &rank, group);
+    mark(&rank, group);
     split
 }

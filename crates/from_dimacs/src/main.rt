@@ -13,8 +13,8 @@ fn run(rt: &HostRuntime, file: &mut [u8], out: &mut [u8]) -> io::Result<()>
     requires in_bounds { 1048577 ≤ length file.old }
     requires in_bounds_2 { 65536 ≤ length out.old }
 {
-    let n = texts::read_full(&mut rt.stdin(), file)?;
-    let r = texts::from_dimacs_text(file, n, out);
+    let n = texts::read_full::<1048577, _>(&mut rt.stdin(), file)?;
+    let r = texts::from_dimacs_text(&file[..n], out);
     rt.write_all(&out[..r])
 }
 

@@ -8,7 +8,7 @@ use std::io;
 fn main(rt: HostRuntime) -> io::Result<()> {
     let mut file = [0u8; 65536];
     let mut out = [0u8; 8192];
-    let n = texts::read_full(&mut rt.stdin(), &mut file)?;
-    let r = texts::group_text(&file, n, &mut out);
+    let n = texts::read_full::<65536, _>(&mut rt.stdin(), &mut file)?;
+    let r = texts::group_text(&file[..n], &mut out);
     rt.write_all(&out[..r])
 }

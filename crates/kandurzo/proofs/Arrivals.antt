@@ -34,8 +34,7 @@ use Rattle.records.specs.declared.Head.{Head}
 use Rattle.records.specs.Records.{as_pairs, held_list, agrees}
 use Rattle.on_words.specs.Edits.{head_of}
 use Rattle.kandurzo.specs.Listing.{changed_to, started, as_records, pairs_then, add_number, added}
-use Rattle.kandurzo.specs.Keeping.{Adds, SameStops, some_stops, ArrivalTraceless, AnyOrderTaken, OneAtATime, EveryListAdded}
-use Rattle.kandurzo.specs.Keeping.{SamePairsSameRecords}
+use Rattle.kandurzo.specs.Keeping.{Adds, SameStops, some_stops, ArrivalTraceless, AnyOrderTaken, OneAtATime, EveryListAdded, SamePairsSameRecords}
 use Rattle.kandurzo.proofs.Stopping.{weights_some, fewer_stops, row_stops, row_some}
 use Rattle.kandurzo.proofs.Taken.{length_as_records, held_few, held_is_list, length_held, held_front, agrees_front}
 use Rattle.kandurzo.proofs.Taken.{taken_addable, addable_taken, held_removable, added_agrees}

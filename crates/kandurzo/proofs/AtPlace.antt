@@ -8,12 +8,13 @@ use mathlib.Core.Path.{◌≡◌, refl, sym, ap, ◌∙◌}
 use mathlib.Core.Bool.{Bool, true, false, ◌&&◌, not, cond}
 use mathlib.Core.List.{List, [], ◌∷◌, ◌++◌, append_assoc, map-append}
 use mathlib.Core.Logic.{◌↔◌}
-use Prim.Native.Nat.{ℕ, zero, suc, ◌+◌, ◌<◌}
+use Prim.Native.Nat.{ℕ, suc, ◌+◌, ◌<◌}
 use native.Mathlib.Omega.{arith}
 use lib.Dec.{ltb, eqb}
 use lib.ListN.{length, get_or, set, take, drop, take-append-drop}
 use lib.Seq.{take-take, length-take-le, get_or-append_seam, set-append_left}
 use borrow.Author.Tests.{eqb-true, eqb-false, ne_eqb}
+use Rattle.std.proofs.lemmas.List.{take-map, drop-map, map-set}
 use Rattle.theory.specs.Basics.{mark}
 use Rattle.theory.specs.Lists as Lists
 use Rattle.theory.specs.Lists.{Pairs}
@@ -32,8 +33,7 @@ use Rattle.records.specs.Records.{as_pair, held_list, agrees, blank}
 use Rattle.kandurzo.specs.declared.Changed.{Changed}
 use Rattle.on_words.specs.declared.Placed.{Placed}
 use Rattle.on_words.specs.Edits.{head_of, is_full}
-use Rattle.kandurzo.specs.Listing.{as_record, as_records, add_number, pairs_then, added, AddSays, remove_number, removed}
-use Rattle.kandurzo.specs.Listing.{RemoveSays}
+use Rattle.kandurzo.specs.Listing.{as_record, as_records, add_number, pairs_then, added, AddSays, remove_number, removed, RemoveSays}
 use Rattle.kandurzo.specs.Placing.{place_number, PlaceSays, PutThere, AddPutsThere, RaisedThere, AddRaisesThere, TakenThere}
 use Rattle.kandurzo.specs.Placing.{RemoveTakesThere, RefusedAsRemove, EveryPlaceAnswered}
 use Rattle.kandurzo.proofs.Stopping.{new_count}
@@ -51,21 +51,15 @@ records_append xs ys = map-append as_record xs ys
 
 records_take : (i : ℕ) (xs : List Lists.Pair) → as_records (take i xs) ≡ take i (as_records xs)
 unfolding as_records
-records_take zero xs = refl
-records_take (suc i) [] = refl
-records_take (suc i) (x ∷ xs) = ap (λ (zs : List Pair). as_record x ∷ zs) (records_take i xs)
+records_take i xs = sym (take-map as_record i xs)
 
 records_drop : (i : ℕ) (xs : List Lists.Pair) → as_records (drop i xs) ≡ drop i (as_records xs)
 unfolding as_records
-records_drop zero xs = refl
-records_drop (suc i) [] = refl
-records_drop (suc i) (x ∷ xs) = records_drop i xs
+records_drop i xs = sym (drop-map as_record i xs)
 
 records_set : (i : ℕ) (xs : List Lists.Pair) (p : Lists.Pair) → as_records (set xs i p) ≡ set (as_records xs) i (as_record p)
 unfolding as_records
-records_set i [] p = refl
-records_set zero (x ∷ xs) p = refl
-records_set (suc i) (x ∷ xs) p = ap (λ (zs : List Pair). as_record x ∷ zs) (records_set i xs p)
+records_set i xs p = map-set as_record xs i p
 
 -- ---- what add and remove do there
 

@@ -1,99 +1,55 @@
 -- From the records to the words and back: what add and remove do on words is what they do to the lent records.
---   out                                what the words are after the records went out
---   out_room, out_long, out_ready      what the way out asks, how many words there are then, and what add and remove on words ask
---   records_laid                       the records in words are those of the pairs
---   Change, changed_alike, add_change, remove_change    a change of the words makes the call's answer and its list
+--   laid_records                       the records in words are those of the pairs
+--   add_disagrees, add_refused, add_done          add's promise, where 13 refuses, where add on words does, and where it is taken
+--   add_part, add_back                            what the way back asks
+--   remove_disagrees, remove_refused, remove_done, remove_back    remove likewise
 -- Assumes nothing.
-use mathlib.Core.Path.{◌≡◌, refl, sym, ap, subst, ◌∙◌}
-use mathlib.Core.Bool.{Bool, true, false, not, cond}
+use mathlib.Core.Path.{◌≡◌, refl, sym, ap, ◌∙◌}
+use mathlib.Core.Bool.{true, not, cond}
 use mathlib.Core.List.{List, [], ◌∷◌, ◌++◌}
-use Prim.Native.Nat.{ℕ, ◌+◌, ◌-◌}
+use Prim.Native.Nat.{ℕ, ◌+◌, ◌≤◌}
 use native.Mathlib.Omega.{arith}
-use lib.Dec.{eqb}
-use lib.ListN.{length, drop}
-use borrow.Author.Tests.{eqb-true, ne_eqb}
-use Rattle.theory.specs.Basics.{table}
+use lib.ListN.{length, take, drop}
+use lib.Seq.{length-take-le}
+use Rattle.std.proofs.Common.{Ok, Err}
 use Rattle.theory.specs.Lists as Lists
-use Rattle.theory.specs.Lists.{Pairs}
-use Rattle.theory.specs.Refusals.{refusal, if_taken}
+use Rattle.theory.specs.Lists.{Pairs, is_list}
 use Rattle.theory.specs.Words.{laid_pairs, laid_list}
-use Rattle.theory.proofs.Tests.{by_test}
-use Rattle.pairs.specs.Held.{is_held, raise_pair, remove_pair, smaller_first_pair, stops_of}
-use Rattle.pairs.specs.Causes.{add_causes, remove_causes}
+use Rattle.theory.proofs.Refusals.{if_taken_new, if_taken_old}
+use Rattle.refusals.specs.declared.Refusal.{Refusal}
+use Rattle.refusals.specs.Numbers.{number_of}
+use Rattle.pairs.specs.Held.{is_held, place_of, raise_pair, remove_pair, without_pair, smaller_first_pair, stops_of}
 use Rattle.pairs.specs.Located.{located}
-use Rattle.pairs.specs.Counts.{pairs_raised}
+use Rattle.pairs.specs.Counts.{raised, pairs_raised}
+use Rattle.pairs.specs.Shifts.{delete_at}
+use Rattle.pairs.proofs.Keeps.{remove_list}
+use Rattle.pairs.proofs.Words.{holds_rising, laid_freed}
+use Rattle.lines.proofs.Found.{numbered}
 use Rattle.records.specs.declared.Pair.{Pair}
 use Rattle.records.specs.declared.Head.{Head}
-use Rattle.records.specs.Records.{held_list, agrees, blank, copied_out, records_in, put_back, RoomOut, RoomBack}
-use Rattle.records.proofs.Copies.{length_copied_out, pairs_read, agrees_room, copied_out_list}
-use Rattle.on_words.specs.declared.Edit.{Edit}
-use Rattle.on_words.specs.Edits.{head_of, is_full, records_out, Ready, edit_of, pair_located, add_on_number, add_edit, add_words}
-use Rattle.kandurzo.specs.Listing.{as_record, as_records, add_number, pairs_then, added, AddSays}
-use Rattle.kandurzo.specs.Listing.{remove_number, removed, RemoveSays}
-use Rattle.on_words.specs.Edits.{remove_on_number, remove_edit, remove_words}
+use Rattle.records.specs.Records.{held_list, agrees, blank, records_in, put_back, RoomBack}
+use Rattle.records.proofs.Copies.{pairs_read, put_back_part}
+use Rattle.records.proofs.Scans.{agrees_count}
+use Rattle.on_words.specs.Buffers.{any_short}
+use Rattle.on_words.specs.Gate.{gate_number}
+use Rattle.on_words.specs.Edits.{head_of, is_full, pair_located, add_on_number, AddOn, remove_on_number, RemoveOn}
 use Rattle.on_words.proofs.Orders.{add_13, remove_13}
-use Rattle.kandurzo.proofs.Outcomes.{Call, answer}
-use Rattle.on_words.proofs.Changes.{Edited, freed_pair, add_edited, remove_edited}
-use Rattle.kandurzo.proofs.Taken.{as_records_back, held_few, held_is_list}
-
--- the words zs after the records went out to them
-abbrev pub out : List ℕ → Head → List Pair → List ℕ
-out zs h ps = copied_out ps zs (records_out h (agrees h ps))
+use Rattle.on_words.proofs.Changes.{raised_few, raised_there}
+use Rattle.on_words.proofs.Fits.{freed_pair, list_fits, freed_fits}
+use Rattle.kandurzo.specs.Laying.{Laid}
+use Rattle.kandurzo.specs.Listing.{as_record, as_records, changed_of, add_number, pairs_then, added, AddSays, remove_number, removed, RemoveSays}
+use Rattle.kandurzo.proofs.Gates.{disagrees, none_lent}
+use Rattle.kandurzo.proofs.Taken.{as_records_back, held_is_list, taken_removable, added_list}
 
 -- the records that lie in words are those of the pairs
-pub records_laid : (m : ℕ) (ws : List ℕ) → records_in m ws ≡ as_records (laid_pairs m ws)
-records_laid m ws = sym (ap as_records (pairs_read m ws) ∙ as_records_back (records_in m ws))
+pub laid_records : (m : ℕ) (ws : List ℕ) → records_in m ws ≡ as_records (laid_pairs m ws)
+laid_records m ws = sym (ap as_records (pairs_read m ws) ∙ as_records_back (records_in m ws))
 
-module _ (zs : List ℕ) (long : length zs ≡ 12288) (h : Head) (ps : List Pair) where
-  agreed_room : agrees h ps ≡ true → RoomOut ps zs h.m
-  agreed_room e = agrees_room h ps zs e (omega (arith, long))
-
-  -- where head and list agree, the words hold the list
-  out_list : agrees h ps ≡ true → laid_list h.n h.m (out zs h ps) ≡ held_list h ps
-  unfolding records_out
-  out_list e = rw e (copied_out_list h ps zs (agreed_room e))
-
-  -- there is room for the records that go out
-  pub out_room : RoomOut ps zs (records_out h (agrees h ps))
-  unfolding records_out
-  out_room =
-      by_test (agrees h ps) (λ e. rw e (agreed_room e))
-      (λ e. rw e (record { enough = omega arith; few = omega arith; long = λ l. absurd (omega (arith, l)) }))
-
-  pub out_long : length (out zs h ps) ≡ 12288
-  out_long = length_copied_out ps zs (records_out h (agrees h ps)) out_room ∙ long
-
-  pub out_ready : Ready h (agrees h ps) (length ps) (out zs h ps)
-  out_ready = record {
-    holds = λ e. record { listed = rw (out_list e) (held_is_list h ps e); long = omega (arith, out_long) };
-    fits = λ e. held_few h ps e;
-  }
-
-  -- the number on words is the number on records: where head and list disagree it is 13 for both
-  out_number : (k : (disagree : Bool) → Pairs → ℕ) → ((g : Pairs) → k true g ≡ 13) →
-      k (not (agrees h ps)) (laid_list h.n h.m (out zs h ps)) ≡ k (not (agrees h ps)) (held_list h ps)
-  out_number k first = by_test (agrees h ps) (λ e. rw (out_list e)) (λ e. rw e (first _ ∙ sym (first _)))
-
-  module _ (a b : ℕ) where
-    out_add_number : (w : ℕ) →
-        refusal (add_causes (not (agrees h ps)) (laid_list h.n h.m (out zs h ps)) (is_full h (length ps)) a b w) ≡ add_number h ps a b w
-    unfolding add_number
-    out_add_number w = out_number (λ d g. refusal (add_causes d g (is_full h (length ps)) a b w)) (λ g. add_13 true g _ a b w refl)
-
-    out_remove_number : refusal (remove_causes (not (agrees h ps)) (laid_list h.n h.m (out zs h ps)) a b) ≡ remove_number h ps a b
-    unfolding remove_number
-    out_remove_number = out_number (λ d g. refusal (remove_causes d g a b)) (λ g. remove_13 true g a b refl)
-
--- the records that come back: none after a refusal, else those of the pairs in the words
-back_is : (h : Head) (len k : ℕ) (new : Head) (back : ℕ) (after : List Lists.Pair) (words : List ℕ) (ps : List Pair) →
-    Edited h len k new back after words → put_back ps words (edit_of h k new back).count ≡ if_taken k (as_records after ++ drop back ps) ps
-unfolding edit_of if_taken put_back
-back_is h len k new back after words ps e = go (eqb k 0) refl
-  where
-    go : (t : Bool) → eqb k 0 ≡ t →
-        records_in (cond t back 0) words ++ drop (cond t back 0) ps ≡ cond t (as_records after ++ drop back ps) ps
-    go true z = rw (records_laid back words, e.pairs (eqb-true k 0 z))
-    go false z = unfold records_in table in refl
+-- the first m records from words, and the others of the list
+part_back : (ps : List Pair) (ws : List ℕ) (m : ℕ) → m ≤ length ps →
+    records_in (length (take m ps)) ws ++ drop m ps ≡ as_records (laid_pairs m ws) ++ drop m ps
+unfolding put_back
+part_back ps ws m l = put_back_part ps ws m l ∙ ap (λ (qs : List Pair). qs ++ drop m ps) (laid_records m ws)
 
 -- the pair 0,0 of no stops behind others is the record 0,0,0
 freed : (qs : List Lists.Pair) (rest : List Pair) → as_records (qs ++ (freed_pair ∷ [])) ++ rest ≡ as_records qs ++ (blank ∷ rest)
@@ -101,84 +57,132 @@ unfolding as_records as_record
 freed [] rest = refl
 freed (q ∷ qs) rest = ap (λ (ps : List Pair). as_record q ∷ ps) (freed qs rest)
 
--- the words after a change are as many, what comes back fits the list, and the call's contract holds
-pub record Change (Says : Call) (ps : List Pair) (e : Edit) (words : List ℕ) : Type 0 where
-  pub long : length words ≡ 12288
-  pub back : RoomBack ps words e.count
-  pub says : Says (answer e) (put_back ps words e.count)
+-- the pairs in words are those that are held
+held_laid : {h : Head} {ps : List Pair} {zs words : List ℕ} → Laid h ps zs words → laid_pairs h.m words ≡ (held_list h ps).pairs
+unfolding laid_list
+held_laid laid = ap (λ (g : Pairs). g.pairs) laid.list
 
--- so of what equals them
-pub changed_alike : {Says : Call} {ps : List Pair} {e f : Edit} {vs ws : List ℕ} → e ≡ f → vs ≡ ws → Change Says ps f ws → Change Says ps e vs
-changed_alike {Says} {ps} {e} {f} {vs} {ws} p q c =
-    subst (λ (x : Edit). Change Says ps x vs) (sym p) (subst (λ (us : List ℕ). Change Says ps f us) (sym q) c)
+-- ---- add
 
--- what comes back is said of the held pairs: where head and list disagree, nothing does
-module _ (zs : List ℕ) (long : length zs ≡ 12288) (h : Head) (ps : List Pair) (a b : ℕ) where
-  held_out : agrees h ps ≡ true → laid_pairs h.m (out zs h ps) ≡ (held_list h ps).pairs
-  unfolding laid_list
-  held_out e = ap (λ (g : Pairs). g.pairs) (out_list zs long h ps e)
+module _ (h : Head) (ps : List Pair) (a b w : ℕ) where
+  add_left : (e : Refusal) → number_of e ≡ add_number h ps a b w → AddSays h ps a b w (changed_of (Err e) h) ps
+  add_left e f =
+      let some : add_number h ps a b w ≡ 0 → ⊥ = λ z. numbered e (f ∙ z) in
+      record { number = f; head = sym (if_taken_old _ _ h some); list = sym (if_taken_old _ _ ps some) }
 
-  taken_held : {X : Type 0} (k : ℕ) (new : List Lists.Pair → X) (old : X) → (agrees h ps ≡ false → k ≡ 13) →
-      if_taken k (new (laid_pairs h.m (out zs h ps))) old ≡ if_taken k (new (held_list h ps).pairs) old
-  unfolding if_taken
-  taken_held {X} k new old f = go (agrees h ps) refl
-    where
-      go : (t : Bool) → agrees h ps ≡ t → cond (eqb k 0) (new (laid_pairs h.m (out zs h ps))) old ≡ cond (eqb k 0) (new (held_list h ps).pairs) old
-      go true e = rw (held_out e)
-      go false e = let z : eqb k 0 ≡ false = ne_eqb k 0 (λ z. omega (arith, f e)) in rw z
+  pub add_disagrees : (e : Refusal) → number_of e ≡ gate_number (agrees h ps) (any_short []) → AddSays h ps a b w (changed_of (Err e) h) ps
+  unfolding add_number
+  add_disagrees e f =
+      let d = disagrees (agrees h ps) (f ∙ none_lent (agrees h ps)) (numbered e) in
+      add_left e (d.1 ∙ sym (add_13 (not (agrees h ps)) (held_list h ps) (is_full h (length ps)) a b w (rw d.0)))
 
-  abbrev t : Bool
-  t = agrees h ps
+  module _ {zs words : List ℕ} (laid : Laid h ps zs words) where
+    add_same : add_on_number h (length ps) words a b w ≡ add_number h ps a b w
+    unfolding add_on_number add_number
+    add_same = rw (laid.list, laid.agreed)
 
-  -- what comes back fits the list, and its records
-  back_enough : {k : ℕ} {new : Head} {back : ℕ} {after : List Lists.Pair} {words : List ℕ} → Edited h (length ps) k new back after words →
-      RoomBack ps words (edit_of h k new back).count
-  back_enough e = record { room = record { enough = e.in_list; few = e.room; long = λ _. omega (arith, e.long) }; fits = e.fit }
+    pub add_refused : (e : Refusal) {words' : List ℕ} → AddOn h (length ps) words a b w (Err e) words' → AddSays h ps a b w (changed_of (Err e) h) ps
+    add_refused e on = add_left e (on.number ∙ add_same)
 
-  -- ADD: the answer on words is the call's
-  pub add_change : (w : ℕ) →
-      Change (AddSays h ps a b w) ps (add_edit h t (length ps) (out zs h ps) a b w) (add_words h t (length ps) (out zs h ps) a b w)
-  unfolding added pairs_then add_edit edit_of add_on_number pair_located located pairs_raised
-  add_change w =
-      let same = out_add_number zs long h ps a b w in
-      let done = add_edited h t (length ps) (out zs h ps) (out_ready zs long h ps) (out_long zs long h ps) a b w in
-      let m : List Lists.Pair → ℕ = λ qs. cond (is_held (smaller_first_pair a b) qs) h.m (h.m + 1) in
-      let new : List Lists.Pair → List Pair = λ qs. as_records (raise_pair (stops_of a b w) qs) ++ drop (m qs) ps in
-      let thirteen : agrees h ps ≡ false → add_number h ps a b w ≡ 13 = λ d. unfold add_number in (add_13 _ _ _ a b w (rw d)) in
-      record {
-        long = done.long;
-        back = back_enough done;
-        says = record {
-          number = same;
-          head =
-              ap (λ (k : ℕ). if_taken k (head_of h.n (m (laid_pairs h.m (out zs h ps)))) h) same
-              ∙ taken_held (add_number h ps a b w) (λ qs. head_of h.n (m qs)) h thirteen;
-          list =
-              back_is h _ _ _ (m (laid_pairs h.m (out zs h ps))) _ _ ps done
-              ∙ ap (λ (k : ℕ). if_taken k (new (laid_pairs h.m (out zs h ps))) ps) same
-              ∙ taken_held (add_number h ps a b w) new ps thirteen;
-        };
-      }
+    module _ {new : Head} {words' : List ℕ} (on : AddOn h (length ps) words a b w (Ok new) words') where
+      add_taken : add_number h ps a b w ≡ 0
+      add_taken = sym add_same ∙ sym on.number
 
-  -- REMOVE likewise
-  pub remove_change : Change (RemoveSays h ps a b) ps (remove_edit h t (out zs h ps) a b) (remove_words h t (out zs h ps) a b)
-  unfolding removed remove_edit edit_of remove_on_number
-  remove_change =
-      let same = out_remove_number zs long h ps a b in
-      let done = remove_edited h t (length ps) (out zs h ps) (out_ready zs long h ps) (out_long zs long h ps) a b in
-      let new : List Lists.Pair → List Pair =
-      λ qs. as_records (remove_pair (smaller_first_pair a b) qs) ++ (blank ∷ drop h.m ps) in
-      record {
-        long = done.long;
-        back = back_enough done;
-        says = record {
-          number = same;
-          head = ap (λ (k : ℕ). if_taken k (head_of h.n (h.m - 1)) h) same;
-          list =
-              back_is h _ _ _ h.m _ _ ps done
-              ∙ ap (λ (qs : List Pair). if_taken (refusal (remove_causes (not (agrees h ps)) (laid_list h.n h.m (out zs h ps)) a b)) qs ps)
-              (freed (remove_pair (smaller_first_pair a b) (laid_pairs h.m (out zs h ps))) (drop h.m ps))
-              ∙ ap (λ (k : ℕ). if_taken k (new (laid_pairs h.m (out zs h ps))) ps) same
-              ∙ taken_held (remove_number h ps a b) new ps (λ d. unfold remove_number in (remove_13 _ _ a b (rw d)));
-        };
-      }
+      new_pairs : new.m ≡ pairs_raised h.m (pair_located h words a b)
+      unfolding head_of
+      new_pairs = ap (λ (k : Head). k.m) on.head
+
+      pairs_are : laid_pairs new.m words' ≡ raise_pair (stops_of a b w) (held_list h ps).pairs
+      pairs_are =
+          let after : words' ≡ raised h.m (pair_located h words a b) (stops_of a b w) words = on.after ∙ if_taken_new 0 _ words refl in
+          rw (new_pairs, after) (raised_there h (length ps) words a b w laid.holds laid.some (sym on.number))
+          ∙ ap (raise_pair (stops_of a b w)) (held_laid laid)
+
+      pub add_part : (new.m ≤ 4096) × (new.m ≤ length ps)
+      add_part = rw new_pairs (raised_few h (length ps) words a b w laid.holds laid.some (sym on.number))
+
+      pub add_back : 12288 ≤ length words' → RoomBack (take new.m ps) words'
+      add_back long =
+          let part : length (take new.m ps) ≡ new.m = length-take-le new.m ps add_part.1 in
+          record {
+            room = record { few = omega (arith, part, add_part); long = λ _. long };
+            fits = rw part (list_fits (record { n = h.n; pairs = raise_pair (stops_of a b w) (held_list h ps).pairs }) new.m words'
+                (added_list h ps a b w add_taken) pairs_are);
+          }
+
+      pub add_done : AddSays h ps a b w (changed_of (Ok new) h) (records_in (length (take new.m ps)) words' ++ drop new.m ps)
+      unfolding added pairs_then pairs_raised pair_located located head_of
+      add_done =
+          let z : add_number h ps a b w ≡ 0 = add_taken in
+          let many : new.m ≡ pairs_then h ps a b =
+          new_pairs ∙ ap (λ (qs : List Lists.Pair). cond (is_held (smaller_first_pair a b) qs) h.m (h.m + 1)) (held_laid laid) in
+          record {
+            number = sym z;
+            head = on.head ∙ ap (λ (qs : List Lists.Pair). head_of h.n (cond (is_held (smaller_first_pair a b) qs) h.m (h.m + 1))) (held_laid laid)
+                ∙ sym (if_taken_new _ _ h z);
+            list = part_back ps words' new.m add_part.1 ∙ rw (pairs_are, many) (sym (if_taken_new _ _ ps z));
+          }
+
+-- ---- remove
+
+module _ (h : Head) (ps : List Pair) (a b : ℕ) where
+  remove_left : (e : Refusal) → number_of e ≡ remove_number h ps a b → RemoveSays h ps a b (changed_of (Err e) h) ps
+  remove_left e f =
+      let some : remove_number h ps a b ≡ 0 → ⊥ = λ z. numbered e (f ∙ z) in
+      record { number = f; head = sym (if_taken_old _ _ h some); list = sym (if_taken_old _ _ ps some) }
+
+  pub remove_disagrees : (e : Refusal) → number_of e ≡ gate_number (agrees h ps) (any_short []) → RemoveSays h ps a b (changed_of (Err e) h) ps
+  unfolding remove_number
+  remove_disagrees e f =
+      let d = disagrees (agrees h ps) (f ∙ none_lent (agrees h ps)) (numbered e) in
+      remove_left e (d.1 ∙ sym (remove_13 (not (agrees h ps)) (held_list h ps) a b (rw d.0)))
+
+  module _ {zs words : List ℕ} (laid : Laid h ps zs words) where
+    remove_same : remove_on_number h words a b ≡ remove_number h ps a b
+    unfolding remove_on_number remove_number
+    remove_same = rw (laid.list, laid.agreed)
+
+    pub remove_refused : (e : Refusal) {words' : List ℕ} → RemoveOn h words a b (Err e) words' → RemoveSays h ps a b (changed_of (Err e) h) ps
+    remove_refused e on = remove_left e (on.number ∙ remove_same)
+
+    module _ {new : Head} {words' : List ℕ} (on : RemoveOn h words a b (Ok new) words') where
+      abbrev p : Lists.Pair
+      p = smaller_first_pair a b
+
+      remove_taken : remove_number h ps a b ≡ 0
+      remove_taken = sym remove_same ∙ sym on.number
+
+      there : is_held p (held_list h ps).pairs ≡ true
+      there = (taken_removable h ps a b remove_taken).held
+
+      pairs_left : laid_pairs h.m words' ≡ remove_pair p (held_list h ps).pairs ++ (freed_pair ∷ [])
+      unfolding pair_located located
+      pairs_left =
+          let after : words' ≡ delete_at h.m (place_of p (laid_pairs h.m words)) words = on.after ∙ if_taken_new 0 _ words refl in
+          rw after (laid_freed h.m p words (holds_rising h.n h.m words laid.holds) (rw (held_laid laid) there))
+          ∙ ap (λ (qs : List Lists.Pair). remove_pair p qs ++ (freed_pair ∷ [])) (held_laid laid)
+
+      pub remove_back : 12288 ≤ length words' → RoomBack (take h.m ps) words'
+      unfolding without_pair
+      remove_back long =
+          let count = agrees_count h ps laid.agreed in
+          let part : length (take h.m ps) ≡ h.m = length-take-le h.m ps count.0 in
+          record {
+            room = record { few = omega (arith, part, count); long = λ _. long };
+            fits = rw part (freed_fits (without_pair p (held_list h ps)) h.m words'
+                (remove_list (held_list h ps) p (held_is_list h ps laid.agreed) there) pairs_left);
+          }
+
+      pub remove_done : RemoveSays h ps a b (changed_of (Ok new) h) (records_in (length (take h.m ps)) words' ++ drop h.m ps)
+      unfolding removed
+      remove_done =
+          let z : remove_number h ps a b ≡ 0 = remove_taken in
+          record {
+            number = sym z;
+            head = on.head ∙ sym (if_taken_new _ _ h z);
+            list =
+                part_back ps words' h.m laid.some
+                ∙ ap (λ (qs : List Lists.Pair). as_records qs ++ drop h.m ps) pairs_left
+                ∙ freed (remove_pair p (held_list h ps).pairs) (drop h.m ps)
+                ∙ sym (if_taken_new _ _ ps z);
+          }

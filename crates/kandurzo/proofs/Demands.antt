@@ -9,9 +9,9 @@
 use mathlib.Core.Path.{◌≡◌, refl, sym, ap, ◌∙◌}
 use mathlib.Core.Bool.{Bool, true, false, not, cond}
 use mathlib.Core.List.{List, [], ◌∷◌}
-use Prim.Native.Nat.{ℕ, zero, suc, ◌≤◌}
+use Prim.Native.Nat.{ℕ, ◌≤◌}
 use native.Mathlib.Omega.{arith}
-use lib.ListN.{length, take}
+use lib.ListN.{length, take, length-take}
 use Rattle.theory.specs.Lists as Lists
 use Rattle.theory.specs.Lists.{Pairs}
 use Rattle.theory.specs.Refusals.{Cause, cause, refusal, if_taken}
@@ -19,13 +19,14 @@ use Rattle.theory.specs.Check.{check_number}
 use Rattle.theory.specs.Surplus.{surplus_number}
 use Rattle.theory.proofs.Tests.{tests}
 use Rattle.theory.proofs.Refusals.{if_taken_old}
-use Rattle.lines.specs.Outcomes.{Outcome, refused, taken}
-use Rattle.pairfile.specs.Answers.{reading_of, pairs_of}
+use Rattle.lines.specs.Outcomes.{Outcome, refused, taken, number_given}
+use Rattle.pairfile.specs.Answers.{pairs_of}
 use Rattle.verify.specs.declared.Verdict.{Verdict}
 use Rattle.records.specs.declared.Pair.{Pair}
 use Rattle.records.specs.declared.Head.{Head}
 use Rattle.records.specs.Records.{held_list, agrees}
-use Rattle.on_words.specs.Buffers.{Buffer, buffer, any_short, work_words}
+use Rattle.on_words.specs.declared.buffers.Buffer.{Buffer}
+use Rattle.on_words.specs.Buffers.{any_short}
 use Rattle.on_words.specs.Gate.{gate_number}
 use Rattle.on_words.specs.Edits.{head_of}
 use Rattle.kandurzo.specs.Listing.{as_records}
@@ -36,20 +37,18 @@ use Rattle.on_words.specs.Judging.{check_buffers, surplus_buffers}
 use Rattle.kandurzo.specs.Judging.{check_call_causes, CheckCall, surplus_call_causes}
 use Rattle.on_words.specs.Solving.{solve_buffers}
 use Rattle.kandurzo.specs.Solving.{solve_call_causes}
-use Rattle.kandurzo.specs.Promise.{Lent, LentHeld, EveryListPeeled, EveryListSolved, EveryListJudged, EveryListCompared}
-use Rattle.kandurzo.specs.Promise.{RefusalsKeep, FifteenNever}
+use Rattle.kandurzo.specs.Promise.{Lent, LentHeld, EveryListPeeled, EveryListSolved, EveryListJudged, EveryListCompared, RefusalsKeep, FifteenNever}
 use Rattle.on_words.proofs.Filling.{work_zeros, left_open}
 use Rattle.on_words.proofs.Enough.{LongEnough, all_long}
-use Rattle.kandurzo.proofs.Judgements.{check_few, gate_then}
+use Rattle.kandurzo.proofs.Gates.{gate_then}
+use Rattle.kandurzo.proofs.Judgements.{check_few}
 use Rattle.kandurzo.proofs.Taken.{as_pairs_back, length_as_records, held_is_list, length_held, held_records}
 
 -- ---- a list that is lent
 
 -- entries that can be taken are there
 pub front_long : {A : Type 0} (k : ℕ) (xs : List A) → length (take k xs) ≡ k → k ≤ length xs
-front_long zero xs e = omega arith
-front_long (suc k) [] e = absurd (omega arith)
-front_long (suc k) (x ∷ xs) e = omega (arith, front_long k xs (omega arith))
+front_long k xs e = omega (arith, length-take k xs)
 
 module _ {g : Pairs} {h : Head} {ps : List Pair} (lent : Lent g h ps) where
   abbrev m : ℕ
@@ -100,7 +99,7 @@ lent_held g h ps = (λ lent. (lent_agrees lent, lent_list lent), λ e. rw e.1 at
 -- ---- every list
 
 pub every_list_peeled : EveryListPeeled
-unfolding EveryListPeeled peel_call_causes peel_buffers buffer work_words if_taken refusal
+unfolding EveryListPeeled peel_call_causes if_taken refusal
 every_list_peeled g h ps order cores work r order' cores' work' lent o c w call =
     let z : r ≡ 0 = call.number ∙ lent_passes lent (peel_buffers h (length order) (length cores) (length work)) []
     (omega (arith, n_is lent), (omega (arith, n_is lent), w)) in
@@ -112,7 +111,7 @@ every_list_peeled g h ps order cores work r order' cores' work' lent o c w call 
     }
 
 pub every_list_solved : EveryListSolved
-unfolding EveryListSolved solve_call_causes solve_buffers buffer work_words refusal
+unfolding EveryListSolved solve_call_causes refusal
 every_list_solved g h ps members cores shares work r members' cores' shares' work' lent a c d w call =
     let z : r.number ≡ 0 = call.number.outright
     ∙ lent_passes lent (solve_buffers h (length members) (length cores) (length shares) (length work)) []
@@ -124,7 +123,7 @@ module _ {g : Pairs} {h : Head} {ps : List Pair} (lent : Lent g h ps) (members s
     (a : g.n ≤ length members) (d : length g.pairs ≤ length shares) (w : 16384 ≤ length work) {v : Verdict} {work' : List ℕ}
     (call : CheckCall h ps members shares work v work') where
   pub sheet_number : v.number ≡ check_number g (take g.n members) (take (length g.pairs) shares)
-  unfolding check_call_causes check_buffers buffer work_words check_number
+  unfolding check_call_causes check_number
   sheet_number =
       call.number ∙ lent_passes lent (check_buffers h (length members) (length shares) (length work)) _
       (omega (arith, n_is lent), (omega (arith, m_is lent), w)) ∙ rw (lent_list lent, n_is lent, m_is lent)
@@ -144,7 +143,7 @@ every_list_judged g h ps members shares work v work' lent a d w call =
     )
 
 pub every_list_compared : EveryListCompared
-unfolding EveryListCompared surplus_call_causes surplus_buffers buffer surplus_number
+unfolding EveryListCompared surplus_call_causes surplus_number
 every_list_compared g h ps t s d lent a b call =
     let number : d.number ≡ surplus_number g (take g.n t) (take g.n s) =
     call.number ∙ lent_passes lent (surplus_buffers h (length t) (length s)) _ (omega (arith, n_is lent), omega (arith, n_is lent))
@@ -158,8 +157,8 @@ every_list_compared g h ps t s d lent a b call =
 -- ---- refusals
 
 -- a refused file has no pairs
-read_refused : (o : Outcome Pairs) (ps : List Pair) → ((reading_of o).number ≡ 0 → ⊥) → records_front (pairs_of o) ps ≡ ps
-unfolding reading_of pairs_of records_front as_records
+read_refused : (o : Outcome Pairs) (ps : List Pair) → (number_given o ≡ 0 → ⊥) → records_front (pairs_of o) ps ≡ ps
+unfolding number_given pairs_of records_front as_records
 read_refused (refused k) ps n = refl
 read_refused (taken g) ps n = absurd (n refl)
 

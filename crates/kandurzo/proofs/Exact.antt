@@ -31,7 +31,7 @@ use Rattle.records.specs.declared.Pair.{Pair}
 use Rattle.records.specs.declared.Head.{Head}
 use Rattle.records.specs.Records.{held_list, agrees}
 use Rattle.on_words.specs.declared.Solved.{Solved}
-use Rattle.on_words.specs.Buffers.{buffer, any_short, in_front, work_words, work_left}
+use Rattle.on_words.specs.Buffers.{any_short, in_front, work_left}
 use Rattle.on_words.specs.Gate.{gate_number}
 use Rattle.kandurzo.specs.Peeling.{peel_call_causes, PeelCall}
 use Rattle.on_words.specs.Judging.{check_buffers}
@@ -41,8 +41,7 @@ use Rattle.kandurzo.specs.Solving.{solve_call_causes, SolveCall}
 use Rattle.kandurzo.specs.Promise.{PeelingOf, PeelExact, CheckExact, SharesAlike, SolveAlone, SolveAccepted}
 use Rattle.kandurzo.proofs.Demands.{front_long, n_is, m_is, lent_list, sheet_number}
 use Rattle.on_words.proofs.Enough.{all_long}
-use Rattle.kandurzo.proofs.Gates.{gate_open}
-use Rattle.kandurzo.proofs.Judgements.{gate_then}
+use Rattle.kandurzo.proofs.Gates.{gate_open, gate_then}
 use Rattle.kandurzo.proofs.Taken.{held_is_list, length_held}
 
 -- ---- peel
@@ -139,7 +138,7 @@ module _ (h : Head) (ps : List Pair) (members cores shares work : List ℕ) {r :
         (o.is_a_group, rw q at o.is_a_split, omega (arith, rw q at o.top_load, o.inside_count)))
 
     again_taken : v.number ≡ 0
-    unfolding check_call_causes check_buffers buffer work_words gate_number refusal cause check_number held_list
+    unfolding check_call_causes gate_number refusal cause check_number held_list
     again_taken =
         let short = any_short (check_buffers h (length members') (length shares') (length again)) in
         let gate : gate_number (agrees h ps) short ≡ 0 = rw (

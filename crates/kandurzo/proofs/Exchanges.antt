@@ -23,11 +23,11 @@ use Rattle.records.specs.declared.Pair.{Pair}
 use Rattle.records.specs.declared.Head.{Head}
 use Rattle.records.specs.Records.{held_list, agrees}
 use Rattle.on_words.specs.declared.Written.{Written}
-use Rattle.on_words.specs.Buffers.{buffer, any_short, in_front}
+use Rattle.on_words.specs.Buffers.{any_short, in_front}
 use Rattle.on_words.specs.Gate.{gate_number}
 use Rattle.kandurzo.specs.Listing.{as_records}
 use Rattle.on_words.specs.Reading.{read_outcome}
-use Rattle.on_words.specs.Writing.{text_bytes, write_buffers}
+use Rattle.on_words.specs.Writing.{write_buffers}
 use Rattle.kandurzo.specs.Writing.{write_call_causes, WriteCall}
 use Rattle.kandurzo.specs.Exchange.{EveryListWritten, WrittenRead, ReadRewritten, CommentsUnread}
 use Rattle.kandurzo.proofs.Gates.{gate_open}
@@ -60,7 +60,7 @@ module _ {h : Head} {ps : List Pair} {text : List ℕ} {w : Written} {text' : Li
   agreed = (gate_open (agrees h ps) (any_short (write_buffers (length text))) (sym call.number ∙ z)).0
 
 pub every_list_written : EveryListWritten
-unfolding EveryListWritten write_call_causes write_buffers buffer text_bytes refusal
+unfolding EveryListWritten write_call_causes refusal
 every_list_written g h ps text w text' lent long call =
     let z : w.number ≡ 0 = call.number ∙ lent_passes lent (write_buffers (length text)) [] long in
     (z, rw (lent_list lent) at (counted call z), rw (lent_list lent) at (in_text call z))
@@ -82,7 +82,7 @@ written_read h ps text w text' qs work r qs' work' call z once room long read =
         ∙ ap (λ (x : Pairs). as_records x.pairs) held ∙ held_records h ps ok
 
 pub read_rewritten : ReadRewritten
-unfolding ReadRewritten write_call_causes write_buffers buffer text_bytes refusal
+unfolding ReadRewritten write_call_causes refusal
 read_rewritten bytes ps work r ps' work' text w text' read z plain order first long call =
     let g = held_list r.head ps' in
     let same : dimacs_of g ≡ bytes = same_bytes (length ps) bytes g (read_holds reads_dimacs read z).0 plain order first in

@@ -44,8 +44,7 @@ use Rattle.records.specs.Records.{as_pair, held_list, agrees, blank}
 use Rattle.kandurzo.specs.declared.Changed.{Changed}
 use Rattle.on_words.specs.declared.Placed.{Placed}
 use Rattle.on_words.specs.Edits.{head_of}
-use Rattle.kandurzo.specs.Listing.{changed_to, started, as_records, add_number, pairs_then, added, AddSays}
-use Rattle.kandurzo.specs.Listing.{remove_number, removed, RemoveSays}
+use Rattle.kandurzo.specs.Listing.{changed_to, started, as_records, add_number, pairs_then, added, AddSays, remove_number, removed, RemoveSays}
 use Rattle.kandurzo.specs.Keeping.{pair_at, HeldOnce, EitherWayRound, AddExactly, RemoveExactly, PairAdded, AddHolds, PairRemoved, RemoveDrops}
 use Rattle.kandurzo.specs.Keeping.{SamePairsSameRecords, AddUndone}
 use Rattle.kandurzo.specs.Placing.{place_number, PlaceSays}

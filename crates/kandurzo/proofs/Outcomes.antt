@@ -1,7 +1,6 @@
 -- Add and remove by their contracts alone.
 --   Call                                   what a call's contract speaks of, at its arguments
 --   Outcome, add_outcome, remove_outcome   the one answer and the one list that a call's contract allows
---   answer                                 the answer of an edit
 -- Assumes nothing.
 use mathlib.Core.Path.{◌≡◌, refl}
 use mathlib.Core.List.{List}
@@ -10,7 +9,6 @@ use Rattle.theory.specs.Refusals.{if_taken}
 use Rattle.records.specs.declared.Pair.{Pair}
 use Rattle.records.specs.declared.Head.{Head}
 use Rattle.kandurzo.specs.declared.Changed.{Changed}
-use Rattle.on_words.specs.declared.Edit.{Edit}
 use Rattle.on_words.specs.Edits.{head_of}
 use Rattle.kandurzo.specs.Listing.{add_number, pairs_then, added, AddSays, remove_number, removed, RemoveSays}
 
@@ -40,7 +38,3 @@ remove_outcome h ps a b = record {
   says = record { number = refl; head = refl; list = refl };
   only = λ r qs e. (λ i. record { number = e.number i; head = e.head i }, e.list);
 }
-
--- the answer of an edit: its number and its head
-abbrev pub answer : Edit → Changed
-answer e = record { number = e.number; head = e.head }

@@ -11,9 +11,8 @@
 -- Assumes nothing.
 use Rattle.kandurzo.specs.Promise.{LentHeld, EveryListPeeled, EveryListSolved, EveryListJudged, EveryListCompared, RefusalsKeep, UnsplitNever}
 use Rattle.kandurzo.specs.Promise.{FifteenNever, PeelExact, CheckExact, SolveAlone, SolveAccepted, RecordsInOrder}
-use Rattle.kandurzo.specs.Keeping.{HeldOnce, EitherWayRound, AddExactly, RemoveExactly, AddHolds, RemoveDrops, ThirteenNeverFollows}
+use Rattle.kandurzo.specs.Keeping.{HeldOnce, EitherWayRound, AddExactly, RemoveExactly, AddHolds, RemoveDrops, ThirteenNeverFollows, EveryFileRead, ReadExact}
 use Rattle.kandurzo.specs.Keeping.{ArrivalTraceless, AnyOrderTaken, OneAtATime, EveryListAdded, SamePairsSameRecords, AddUndone}
-use Rattle.kandurzo.specs.Keeping.{EveryFileRead, ReadExact}
 use Rattle.kandurzo.specs.Twice.{FiveBeforeFour, OtherwiseAsBefore}
 use Rattle.kandurzo.specs.Placing.{AddPutsThere, AddRaisesThere, RemoveTakesThere, RefusedAsRemove, EveryPlaceAnswered}
 use Rattle.kandurzo.specs.Exchange.{EveryListWritten, WrittenRead, ReadRewritten, CommentsUnread, ReadDimacsExact, EveryDimacsRead}

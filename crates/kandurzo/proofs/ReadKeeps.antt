@@ -14,9 +14,9 @@ use lib.Seq.{drop_at}
 use Rattle.theory.specs.Lists as Lists
 use Rattle.theory.specs.Lists.{Pairs}
 use Rattle.pairs.proofs.Keeps.{counts_once}
-use Rattle.lines.specs.Outcomes.{Outcome, taken}
+use Rattle.lines.specs.Outcomes.{Outcome, taken, number_given}
 use Rattle.pairfile.specs.Promise.{Names, NamesStops, all_once}
-use Rattle.pairfile.specs.Answers.{reading_of, pairs_of}
+use Rattle.pairfile.specs.Answers.{pairs_of}
 use Rattle.pairfile.proofs.Accepts as File
 use Rattle.pairfile.proofs.ReadsEvery.{gathered, gathered_read, gathered_ones}
 use Rattle.dimacs.proofs.Accepts as Dimacs
@@ -40,11 +40,11 @@ module _ {read : Reader} (reads : Reads read) {bytes : List ℕ} {ps : List Pair
   -- where the list g is taken
   module _ (g : Pairs) (due : read_outcome read (length ps) (length work) bytes ≡ taken g) where
     number_is : r.number ≡ 0
-    unfolding reading_of
-    number_is = call.number ∙ ap (λ (o : Outcome Pairs). (reading_of o).number) due
+    unfolding number_given
+    number_is = call.number ∙ ap (number_given {A = Pairs}) due
 
     head_is : r.head ≡ head_of g.n (length g.pairs)
-    unfolding read_head reading_of
+    unfolding read_head
     head_is = call.head ∙ ap read_head due
 
     records_are : ps' ≡ records_front g.pairs ps
@@ -52,11 +52,11 @@ module _ {read : Reader} (reads : Reads read) {bytes : List ℕ} {ps : List Pair
     records_are = call.records ∙ ap (λ (o : Outcome Pairs). records_front (pairs_of o) ps) due
 
     held_is : held_list r.head ps' ≡ g
-    unfolding read_head reading_of pairs_of
+    unfolding read_head pairs_of
     held_is = rw (head_is, records_are) (read_held reads bytes ps (length work) g due)
 
     list_agrees : agrees r.head ps' ≡ true
-    unfolding read_head reading_of pairs_of
+    unfolding read_head pairs_of
     list_agrees = rw (head_is, records_are) (read_agrees reads bytes ps (length work) g due)
 
     past_stays : drop r.head.m ps' ≡ drop r.head.m ps

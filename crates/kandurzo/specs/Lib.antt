@@ -1,4 +1,5 @@
 -- What the public calls answer and leave behind; each file opens with what it gives.
+pub mod Laying
 pub mod Listing
 pub mod Reading
 pub mod Writing

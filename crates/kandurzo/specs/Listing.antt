@@ -1,14 +1,16 @@
 -- Document 01, "The list and its calls": what start, add and remove answer, and what they leave of the lent records. Document 02, item 4: a pair carries a
 -- stop count, and add to a held pair raises it.
---   changed_to                               a number with a head
+--   changed_to, changed_of                   a number with a head, and that of an answer
 --   started                                  start
 --   as_record, as_records                    pairs as records
 --   add_number, pairs_then, added, AddSays  add
 --   remove_number, removed, RemoveSays      remove
 -- Assumes nothing: these are definitions.
-use Rattle.std.specs.Prelude.{◌≡◌, not, cond, List, ◌∷◌, ◌++◌, map, ℕ, ◌+◌, ◌-◌, length, drop}
+use Rattle.std.specs.Prelude.{◌≡◌, not, cond, List, ◌∷◌, ◌++◌, map, ℕ, ◌+◌, ◌-◌, length, drop, Result, Ok, Err}
 use Rattle.theory.specs.Lists as Lists
 use Rattle.theory.specs.Refusals.{refusal, if_taken}
+use Rattle.refusals.specs.declared.Refusal.{Refusal}
+use Rattle.refusals.specs.Numbers.{number_of}
 use Rattle.pairs.specs.Held.{is_held, raise_pair, remove_pair, smaller_first_pair, stops_of}
 use Rattle.pairs.specs.Causes.{add_causes, remove_causes}
 use Rattle.pairfile.specs.File.{modules_causes}
@@ -21,6 +23,11 @@ use Rattle.kandurzo.specs.declared.Changed.{Changed}
 -- an answer of a number and a head: the calls on the caller's own head give the number, and leave the head
 unfoldable pub changed_to : (number : ℕ) → Head → Changed
 changed_to k h = record { number = k; head = h }
+
+-- the new head; beside a refusal's number the head before
+abbrev pub changed_of : Result Head Refusal → (before : Head) → Changed
+changed_of (Ok new) before = record { number = 0; head = new }
+changed_of (Err e) before = record { number = number_of e; head = before }
 
 -- ---- start
 

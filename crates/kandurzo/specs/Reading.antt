@@ -4,7 +4,8 @@
 -- Assumes nothing: these are definitions.
 use Rattle.std.specs.Prelude.{◌≡◌, List, ◌++◌, ℕ, length, drop}
 use Rattle.theory.specs.Lists as Lists
-use Rattle.pairfile.specs.Answers.{reading_of, pairs_of}
+use Rattle.lines.specs.Outcomes.{number_given}
+use Rattle.pairfile.specs.Answers.{pairs_of}
 use Rattle.records.specs.declared.Pair.{Pair}
 use Rattle.kandurzo.specs.declared.Changed.{Changed}
 use Rattle.kandurzo.specs.Listing.{as_records}
@@ -17,7 +18,7 @@ records_front new ps = as_records new ++ drop (length new) ps
 
 -- what read answers of the bytes, and the lent records and the work buffer after it
 pub record ReadCall (read : Reader) (bytes : List ℕ) (ps : List Pair) (work : List ℕ) (r : Changed) (ps' : List Pair) (work' : List ℕ) : Type 0 where
-  pub number : r.number ≡ (reading_of (read_outcome read (length ps) (length work) bytes)).number
+  pub number : r.number ≡ number_given (read_outcome read (length ps) (length work) bytes)
   pub head : r.head ≡ read_head (read_outcome read (length ps) (length work) bytes)
   -- the first M records are the file's pairs in rising order, the others are as before; a refused file has none and leaves the records as they were
   pub records : ps' ≡ records_front (pairs_of (read_outcome read (length ps) (length work) bytes)) ps

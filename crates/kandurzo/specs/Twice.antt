@@ -5,8 +5,7 @@
 --   FiveBeforeFour       a module paired with itself gives 5, be it one of the list's or not; two different modules give 4 where the list lacks one
 --   OtherwiseAsBefore    the numbers of add and remove, and of a line of either file, beside those of the same orders with 4 before 5
 -- A statement is a type; proofs/Promises.antt has a theorem for each, of the same name in small letters. Assumes nothing: these are definitions.
-use Rattle.std.specs.Prelude.{◌≡◌, true, ◌&&◌, not, List, [], ◌∷◌, ◌++◌, ℕ, ◌≤◌, ◌<◌, eqb, length}
-use Rattle.std.proofs.Math.Option.{some}
+use Rattle.std.specs.Prelude.{◌≡◌, true, ◌&&◌, not, List, [], ◌∷◌, ◌++◌, ℕ, ◌≤◌, ◌<◌, eqb, length, Some}
 use Rattle.theory.specs.Basics.{all}
 use Rattle.theory.specs.Lists as Lists
 use Rattle.theory.specs.Refusals.{cause, refusal}
@@ -16,7 +15,7 @@ use Rattle.pairs.specs.Twice.{FiveElseFour, four_first, unknown_twice, From4To5}
 use Rattle.lines.specs.Lines.{Line, first, second, third, line_of, filled}
 use Rattle.pairfile.specs.File.{modules_form, pairs_form, pair_form, pair_line, read_file, pair_lines}
 use Rattle.pairfile.specs.Promise.{names_two, Different}
-use Rattle.pairfile.specs.Tried.{number_given}
+use Rattle.lines.specs.Outcomes.{number_given}
 use Rattle.dimacs.specs.Edges.{problem_form, edge_form, named_pair, edge_line, read_dimacs, edge_lines}
 use Rattle.records.specs.declared.Pair.{Pair}
 use Rattle.records.specs.declared.Head.{Head}
@@ -78,12 +77,12 @@ pub record OtherwiseAsBefore : Type 0 where
       let old = refusal (cause 13 (not (agrees h ps)) ∷ (four_first 0 h.n a b ++ later)) in
       From4To5 (agrees h ps && unknown_twice 0 h.n a b) old r.number
   -- a pair line of the form due (any other gives 1), with 4 before 5: 4, 5, 18, 10
-  pub pair_line : (n : ℕ) (held : List Lists.Pair) (bytes : List ℕ) (l : Line) → line_of 4 pair_form bytes ≡ some l →
+  pub pair_line : (n : ℕ) (held : List Lists.Pair) (bytes : List ℕ) (l : Line) → line_of 4 pair_form bytes ≡ Some l →
       let later = count_causes (third l) ++ (cause 10 (is_held (smaller_first_pair (first l) (second l)) held) ∷ []) in
       let old = refusal (four_first 0 n (first l) (second l) ++ later) in
       From4To5 (unknown_twice 0 n (first l) (second l)) old (number_given (pair_line n held bytes))
   -- an `e` line (any other gives 16), whose old order is 17, 4, 5, 10
-  pub edge_line : (n left : ℕ) (held : List Lists.Pair) (bytes : List ℕ) (l : Line) → line_of 4 edge_form bytes ≡ some l →
+  pub edge_line : (n left : ℕ) (held : List Lists.Pair) (bytes : List ℕ) (l : Line) → line_of 4 edge_form bytes ≡ Some l →
       let later = cause 10 (is_held (named_pair (first l) (second l)) held) ∷ [] in
       let old = refusal (cause 17 (eqb left 0) ∷ (four_first 1 n (first l) (second l) ++ later)) in
       From4To5 (not (eqb left 0) && unknown_twice 1 n (first l) (second l)) old (number_given (edge_line n left held bytes))

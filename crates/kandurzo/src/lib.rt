@@ -1,11 +1,19 @@
 // The public calls of Kandurzo, over lent records (document 01, "The list and its calls"; document 02, items 1 to 4: DIMACS files; 5 before 4; place;
-// stop counts). An entry has crate `records` test head and list and copy the held records to words or back; the rest is done there, by crate `on_words`.
+// stop counts). An entry is one line: it turns the `Result` of the call's own function, which refuses by `?`, into what C is answered. That function takes
+// the records that are held, copies them to words (crate records), and leaves the rest to crate `on_words`. Head and list are two parameters, as C passes
+// them.
+// `as` stands where std has no `From`: from u32 to usize, and where a bound lets a number fit fewer bits.
 #![tactic(auto)]
+
+mod changes;
+mod files;
+mod laying;
+mod sheets;
 
 ghost use Rattle.std.specs.Prelude.{◌≡◌};
 ghost use Rattle.pairfile.specs.File.{read_file};
 ghost use Rattle.dimacs.specs.Edges.{read_dimacs};
-ghost use Rattle.kandurzo.specs.Listing.{started, changed_to, AddSays, RemoveSays};
+ghost use Rattle.kandurzo.specs.Listing.{started, changed_of, changed_to, AddSays, RemoveSays};
 ghost use Rattle.kandurzo.specs.Placing.{PlaceSays};
 ghost use Rattle.kandurzo.specs.Reading.{ReadCall};
 ghost use Rattle.kandurzo.specs.Writing.{WriteCall};
@@ -13,48 +21,44 @@ ghost use Rattle.kandurzo.specs.Peeling.{PeelCall};
 ghost use Rattle.kandurzo.specs.Solving.{SolveCall};
 ghost use Rattle.kandurzo.specs.Judging.{CheckCall, SurplusCall};
 
-use numbers::{greater, lesser};
-use on_words::edits::{add_on_words, records_out, remove_on_words};
-use on_words::judging::{check_gate, check_on_words, surplus_gate, surplus_on_words};
-use on_words::peeling::{peel_gate, peel_on_words};
-use on_words::placing::place_answer;
-use on_words::reading::{clear_words, read_dimacs_on_words, read_on_words};
-use on_words::solving::{solve_gate, solve_on_words};
-use on_words::writing::{write_gate, write_on_words};
+use changes::{added, begun, found, removed};
+use files::{read_as, written};
+use on_words::reading::{EdgeFile, PairFile};
 pub use on_words::{Placed, Solved, Written};
-use records::{Head, Pair, agree, copy_in, copy_out, lookup};
+use records::{Head, Pair};
+use refusals::{Refusal, number};
+use sheets::{checked, compared, peeled, solved};
 use verify::{Difference, Verdict};
 
 // What start, add, remove, read and read_dimacs answer: the refusal number or 0, and the head after the call.
 #[repr(C)]
-#[derive(Clone, Copy)]
+#[derive(Clone, Copy, Debug, PartialEq, Eq)]
 pub struct Changed {
     pub number: u32,
     pub head: Head,
 }
 
+impl Changed {
+    // The new head; beside a refusal the head that is given.
+    fn new(answer: Result<Head, Refusal>, before: Head) -> Changed
+        ensures { result ≡ changed_of answer before }
+    {
+        match answer {
+            Ok(head) => Changed { number: 0, head },
+            Err(refusal) => Changed {
+                number: u32::from(refusal),
+                head: before,
+            },
+        }
+    }
+}
+
 // A list of n modules without pairs. Refuses by 2.
 #[unsafe(no_mangle)]
-#[tactic(auto, using(crate::proofs::Starting::started_without, crate::proofs::Starting::started_beyond, crate::proofs::Starting::started_within))]
 pub extern "C" fn kandurzo_start(n: u32) -> Changed
     ensures { result ≡ started n }
 {
-    if n < 1 {
-        return Changed {
-            number: 2,
-            head: Head { n: 0, m: 0 },
-        };
-    }
-    if 512 < n {
-        return Changed {
-            number: 2,
-            head: Head { n: 0, m: 0 },
-        };
-    }
-    Changed {
-        number: 0,
-        head: Head { n, m: 0 },
-    }
+    Changed::new(begun(n), Head::default())
 }
 
 pub use kandurzo_start as start;
@@ -65,16 +69,7 @@ pub use kandurzo_start as start;
 pub extern "C" fn kandurzo_add(head: Head, list: &mut [Pair], a: u32, b: u32, w: u32) -> Changed
     ensures { AddSays head list.old a b w result list.new }
 {
-    let agreed = agree(head, list);
-    let mut words = [0u32; 12288];
-    let out = records_out(head, agreed);
-    copy_out(list, &mut words, out);
-    let edit = add_on_words(head, agreed, list.len(), &mut words, a, b, w);
-    copy_in(list, &words, edit.count);
-    Changed {
-        number: edit.number,
-        head: edit.head,
-    }
+    Changed::new(added(head, list, a, b, w), head)
 }
 
 pub use kandurzo_add as add;
@@ -84,16 +79,7 @@ pub use kandurzo_add as add;
 pub extern "C" fn kandurzo_remove(head: Head, list: &mut [Pair], a: u32, b: u32) -> Changed
     ensures { RemoveSays head list.old a b result list.new }
 {
-    let agreed = agree(head, list);
-    let mut words = [0u32; 12288];
-    let out = records_out(head, agreed);
-    copy_out(list, &mut words, out);
-    let edit = remove_on_words(head, agreed, list.len(), &mut words, a, b);
-    copy_in(list, &words, edit.count);
-    Changed {
-        number: edit.number,
-        head: edit.head,
-    }
+    Changed::new(removed(head, list, a, b), head)
 }
 
 pub use kandurzo_remove as remove;
@@ -130,12 +116,7 @@ pub use kandurzo_remove_from as remove_from;
 pub extern "C" fn kandurzo_place(head: Head, list: &[Pair], a: u32, b: u32) -> Placed
     ensures { PlaceSays head list.now a b result }
 {
-    let agreed = agree(head, list);
-    let m = records_out(head, agreed);
-    let low = lesser(a, b);
-    let high = greater(a, b);
-    let place = lookup(list, m, low, high);
-    place_answer(head, agreed, a, b, place)
+    Placed::from(found(head, list, a, b))
 }
 
 pub use kandurzo_place as place;
@@ -146,13 +127,7 @@ pub use kandurzo_place as place;
 pub extern "C" fn kandurzo_read(bytes: &[u8], list: &mut [Pair], work: &mut [u32]) -> Changed
     ensures { ReadCall read_file bytes.now list.old work.old result list.new work.new }
 {
-    let answer = read_on_words(bytes, list.len(), work);
-    copy_in(list, work, answer.count);
-    clear_words(answer.number, work);
-    Changed {
-        number: answer.number,
-        head: answer.head,
-    }
+    Changed::new(read_as::<PairFile>(bytes, list, work), Head::default())
 }
 
 pub use kandurzo_read as read;
@@ -164,13 +139,7 @@ pub use kandurzo_read as read;
 pub extern "C" fn kandurzo_read_dimacs(bytes: &[u8], list: &mut [Pair], work: &mut [u32]) -> Changed
     ensures { ReadCall read_dimacs bytes.now list.old work.old result list.new work.new }
 {
-    let answer = read_dimacs_on_words(bytes, list.len(), work);
-    copy_in(list, work, answer.count);
-    clear_words(answer.number, work);
-    Changed {
-        number: answer.number,
-        head: answer.head,
-    }
+    Changed::new(read_as::<EdgeFile>(bytes, list, work), Head::default())
 }
 
 pub use kandurzo_read_dimacs as read_dimacs;
@@ -181,11 +150,7 @@ pub use kandurzo_read_dimacs as read_dimacs;
 pub extern "C" fn kandurzo_write_dimacs(head: Head, list: &[Pair], text: &mut [u8]) -> Written
     ensures { WriteCall head list.now text.old result text.new }
 {
-    let agreed = agree(head, list);
-    let mut words = [0u32; 12288];
-    let gate = write_gate(head, agreed, text.len());
-    copy_out(list, &mut words, gate.out);
-    write_on_words(head, gate.number, text, &mut words)
+    Written::from(written(head, list, text))
 }
 
 pub use kandurzo_write_dimacs as write_dimacs;
@@ -202,11 +167,7 @@ pub extern "C" fn kandurzo_peel(
     ensures { PeelCall head list.now order.old cores.old work.old result
         order.new cores.new work.new }
 {
-    let agreed = agree(head, list);
-    let gate = peel_gate(head, agreed, order.len(), cores.len(), work.len());
-    copy_out(list, work, gate.out);
-    peel_on_words(head, gate.number, order, cores, work);
-    gate.number
+    number(peeled(head, list, order, cores, work))
 }
 
 // The largest group of greatest ratio, by member bytes; the core numbers; and a load sheet: a share for each pair, of a split at share size Q
@@ -223,17 +184,7 @@ pub extern "C" fn kandurzo_solve(
     ensures { SolveCall head list.now members.old cores.old shares.old work.old result
         members.new cores.new shares.new work.new }
 {
-    let agreed = agree(head, list);
-    let gate = solve_gate(
-        head,
-        agreed,
-        members.len(),
-        cores.len(),
-        shares.len(),
-        work.len(),
-    );
-    copy_out(list, work, gate.out);
-    solve_on_words(head, gate.number, members, cores, shares, work)
+    Solved::from(solved(head, list, members, cores, shares, work))
 }
 
 pub use kandurzo_solve as solve;
@@ -250,10 +201,7 @@ pub extern "C" fn kandurzo_check(
 ) -> Verdict
     ensures { CheckCall head list.now members.now shares.now work.old result work.new }
 {
-    let agreed = agree(head, list);
-    let gate = check_gate(head, agreed, members.len(), shares.len(), work.len());
-    copy_out(list, work, gate.out);
-    check_on_words(head, gate.number, members, shares, work)
+    Verdict::from(checked(head, list, members, shares, work))
 }
 
 pub use kandurzo_check as check;
@@ -268,11 +216,7 @@ pub extern "C" fn kandurzo_surplus(
 ) -> Difference
     ensures { SurplusCall head list.now first.now second.now result }
 {
-    let agreed = agree(head, list);
-    let mut words = [0u32; 12288];
-    let gate = surplus_gate(head, agreed, first.len(), second.len());
-    copy_out(list, &mut words, gate.out);
-    surplus_on_words(head, gate.number, first, second, &mut words)
+    Difference::from(compared(head, list, first, second))
 }
 
 pub use kandurzo_surplus as surplus;

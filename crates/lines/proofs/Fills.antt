@@ -7,7 +7,7 @@
 use mathlib.Core.Path.{◌≡◌, refl, ap, ◌∙◌}
 use mathlib.Core.Bool.{Bool, true, false, ◌&&◌, ◌||◌, not}
 use mathlib.Core.List.{List, [], ◌∷◌, ◌++◌, append_assoc}
-use mathlib.Core.Option.{Option, none, some}
+use Rattle.std.proofs.Common.{Option, None, Some}
 use Prim.Native.Nat.{ℕ, ◌^◌, ◌≤◌, ◌<◌}
 use native.Mathlib.Omega.{arith}
 use borrow.Author.Tests.{eqb-true, eq-eqb, not-true}
@@ -42,20 +42,20 @@ plain_front (d ∷ ds) ns rest h =
 
 module _ (d : ℕ) (some_digit : 1 ≤ d) (few : d ≤ 10) (c : ℕ) (cs ns rest : List ℕ) where
   place_filled : (n : ℕ) → is_place c ≡ true → starts_plain cs ≡ true → n < 10 ^ d →
-      line_of d cs (filled cs ns ++ rest) ≡ some (record { numbers = ns; rest = rest }) →
-      line_of d (c ∷ cs) (filled (c ∷ cs) (n ∷ ns) ++ rest) ≡ some (record { numbers = n ∷ ns; rest = rest })
+      line_of d cs (filled cs ns ++ rest) ≡ Some (record { numbers = ns; rest = rest }) →
+      line_of d (c ∷ cs) (filled (c ∷ cs) (n ∷ ns) ++ rest) ≡ Some (record { numbers = n ∷ ns; rest = rest })
   unfolding line_of filled with_numbers after_number
   place_filled n t p s ih =
       rw (t, append_assoc (spelled n) (filled cs ns) rest, number_spelled d n (filled cs ns ++ rest) some_digit few s (plain_front cs ns rest p), ih)
 
-  byte_filled : is_place c ≡ false → line_of d cs (filled cs ns ++ rest) ≡ some (record { numbers = ns; rest = rest }) →
-      line_of d (c ∷ cs) (filled (c ∷ cs) ns ++ rest) ≡ some (record { numbers = ns; rest = rest })
+  byte_filled : is_place c ≡ false → line_of d cs (filled cs ns ++ rest) ≡ Some (record { numbers = ns; rest = rest }) →
+      line_of d (c ∷ cs) (filled (c ∷ cs) ns ++ rest) ≡ Some (record { numbers = ns; rest = rest })
   unfolding line_of filled after_byte
   byte_filled t ih = rw (t, eq-eqb c c refl, ih)
 
 -- a line that is written is read
 pub line_filled : (d : ℕ) → 1 ≤ d → d ≤ 10 → (form ns rest : List ℕ) → parted form ≡ true → length ns ≡ places form → all (small d) ns ≡ true →
-    line_of d form (filled form ns ++ rest) ≡ some (record { numbers = ns; rest = rest })
+    line_of d form (filled form ns ++ rest) ≡ Some (record { numbers = ns; rest = rest })
 unfolding parted places mark all small line_of filled
 line_filled d u w [] [] rest p l s = refl
 line_filled d u w [] (n ∷ ns) rest p l s = absurd (omega arith)
@@ -76,15 +76,15 @@ pub record LineSpelled (d : ℕ) (form bs : List ℕ) (l : Line) : Type 0 where
   pub size : length l.numbers ≡ places form
   pub short : all (small d) l.numbers ≡ true
 
-module _ (d : ℕ) (few : d ≤ 10) (c : ℕ) (cs : List ℕ) (ih : (bs : List ℕ) (l : Line) → line_of d cs bs ≡ some l → LineSpelled d cs bs l) where
-  place_spelled : (bs : List ℕ) (l : Line) → is_place c ≡ true → after_number (number_of d bs) (line_of d cs) ≡ some l → LineSpelled d (c ∷ cs) bs l
+module _ (d : ℕ) (few : d ≤ 10) (c : ℕ) (cs : List ℕ) (ih : (bs : List ℕ) (l : Line) → line_of d cs bs ≡ Some l → LineSpelled d cs bs l) where
+  place_spelled : (bs : List ℕ) (l : Line) → is_place c ≡ true → after_number (number_of d bs) (line_of d cs) ≡ Some l → LineSpelled d (c ∷ cs) bs l
   unfolding after_number with_numbers places mark filled all small
   place_spelled bs l t e = of_number (number_of d bs) refl e
     where
-      of_line : (x : Number) → number_of d bs ≡ some x → (o : Option Line) → line_of d cs x.rest ≡ o →
-          with_numbers (x.value ∷ []) o ≡ some l → LineSpelled d (c ∷ cs) bs l
-      of_line x g none f h = absurd (none_not_some h)
-      of_line x g (some k) f h =
+      of_line : (x : Number) → number_of d bs ≡ Some x → (o : Option Line) → line_of d cs x.rest ≡ o →
+          with_numbers (x.value ∷ []) o ≡ Some l → LineSpelled d (c ∷ cs) bs l
+      of_line x g None f h = absurd (none_not_some h)
+      of_line x g (Some k) f h =
           let s = some_same h in
           let r = ih x.rest k f in
           let q = number_of_spelled d bs x few g in
@@ -94,11 +94,11 @@ module _ (d : ℕ) (few : d ≤ 10) (c : ℕ) (cs : List ℕ) (ih : (bs : List �
             short = simp tests (q.1, r.short);
           })
 
-      of_number : (o : Option Number) → number_of d bs ≡ o → after_number o (line_of d cs) ≡ some l → LineSpelled d (c ∷ cs) bs l
-      of_number none g h = absurd (none_not_some h)
-      of_number (some x) g h = of_line x g (line_of d cs x.rest) refl h
+      of_number : (o : Option Number) → number_of d bs ≡ o → after_number o (line_of d cs) ≡ Some l → LineSpelled d (c ∷ cs) bs l
+      of_number None g h = absurd (none_not_some h)
+      of_number (Some x) g h = of_line x g (line_of d cs x.rest) refl h
 
-  byte_spelled : (bs : List ℕ) (l : Line) → is_place c ≡ false → after_byte c bs (line_of d cs) ≡ some l → LineSpelled d (c ∷ cs) bs l
+  byte_spelled : (bs : List ℕ) (l : Line) → is_place c ≡ false → after_byte c bs (line_of d cs) ≡ Some l → LineSpelled d (c ∷ cs) bs l
   unfolding after_byte places mark filled
   byte_spelled [] l t e = absurd (none_not_some e)
   byte_spelled (b ∷ bs) l t e =
@@ -113,7 +113,7 @@ module _ (d : ℕ) (few : d ≤ 10) (c : ℕ) (cs : List ℕ) (ih : (bs : List �
       (λ s. absurd (none_not_some (rw s at e)))
 
 -- a line that is read was written so
-pub line_spelled : (d : ℕ) → d ≤ 10 → (form bs : List ℕ) (l : Line) → line_of d form bs ≡ some l → LineSpelled d form bs l
+pub line_spelled : (d : ℕ) → d ≤ 10 → (form bs : List ℕ) (l : Line) → line_of d form bs ≡ Some l → LineSpelled d form bs l
 unfolding line_of places filled all
 line_spelled d few [] bs l e = rw (← some_same e) (record { written = refl; size = refl; short = refl })
 line_spelled d few (c ∷ cs) bs l e =

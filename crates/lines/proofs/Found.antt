@@ -1,81 +1,62 @@
--- What the functions that read have found, and causes judged.
---   judge_refused, judge_passed                     the first cause that is met, or none
---   LineHas, malformed, line_has                    what line_at has found
---   one_missing, one_has                            what one_number_at finds
---   one_none, one_found, one_within                 and what it has found
+-- What a Reader has found, and causes judged.
+--   numbered                       a refusal's number is never 0
+--   judge_refused, judged_by       the first cause that is met, as a number or a refusal
+--   judge_passed                   no cause is met
+--   line_has                       a line in as many numbers as its form has
+--   handed_on, none_due            what `?` hands on, of a Result and of an Option that is due
 -- Assumes nothing.
-use mathlib.Core.Path.{◌≡◌, refl, ap, ◌∙◌}
-use mathlib.Core.List.{List, [], ◌∷◌}
-use mathlib.Core.Option.{none, some}
-use Prim.Native.Nat.{ℕ, zero, suc, ◌≤◌, ◌<◌}
-use native.Mathlib.Omega.{arith}
-use lib.ListN.{length, get_or, take, drop}
-use lib.Seq.{take-suc}
+use Rattle.std.proofs.Common.{◌≡◌, refl, ap, ◌∙◌, ℕ, zero, suc, List, [], ◌∷◌, length, get_or, take, Option, Some, None, Result, Err, arith, rules}
+use Rattle.std.specs.Option.{ok_or}
+use Rattle.std.specs.Result.{IsErrAnd}
+use Rattle.std.proofs.lemmas.Result.{err_from_is_err_and}
+use Rattle.theory.specs.Basics.{table}
 use Rattle.theory.specs.Refusals.{Cause, refusal}
+use Rattle.refusals.specs.declared.Refusal.{Refusal}
+use Rattle.refusals.specs.Numbers.{number_of as refusal_number}
 use Rattle.lines.specs.Lines.{places, line_of}
 use Rattle.lines.specs.Outcomes.{refused, taken, passed, judge}
-use Rattle.lines.specs.Answers.{line_in, line_end, LineFound, number_end, one_number_in, OneNumberFound}
-use Rattle.lines.specs.declared.FoundNumber.{FoundNumber}
-use Rattle.lines.specs.declared.FoundNumber.TheVariants.{Number as number, Missing}
-use Rattle.lines.specs.declared.FoundLine.{FoundLine}
-use Rattle.lines.specs.declared.FoundLine.TheVariants.{Line as line, Malformed}
+use Rattle.lines.specs.Answers.{LineFound}
+
+-- a refusal's number is never 0
+pub numbered : (r : Refusal) → refusal_number r ≡ 0 → ⊥
+numbered r e = search rules
+
+passed_numbered : (k : ℕ) → (k ≡ 0 → ⊥) → passed k ≡ refused k
+unfolding passed
+passed_numbered zero h = absurd (h refl)
+passed_numbered (suc k) h = refl
 
 -- the first cause that is met
 pub judge_refused : (cs : List Cause) → (refusal cs ≡ 0 → ⊥) → judge cs ≡ refused (refusal cs)
-unfolding judge passed
-judge_refused cs h = go (refusal cs) h
-  where
-    go : (k : ℕ) → (k ≡ 0 → ⊥) → passed k ≡ refused k
-    go zero h = absurd (h refl)
-    go (suc k) h = refl
+unfolding judge
+judge_refused cs h = passed_numbered (refusal cs) h
+
+-- as a refusal
+pub judged_by : (r : Refusal) (cs : List Cause) → refusal_number r ≡ refusal cs → judge cs ≡ refused (refusal_number r)
+judged_by r cs e = rw e (judge_refused cs (λ z. numbered r (e ∙ z)))
 
 -- no cause is met
 pub judge_passed : (cs : List Cause) → refusal cs ≡ 0 → judge cs ≡ taken tt
 unfolding judge passed
 judge_passed cs e = rw e
 
--- a line of a form from `at` to i, and its k numbers in a buffer
-pub record LineHas (d : ℕ) (form : List ℕ) (k : ℕ) (bs : List ℕ) (at : ℕ) (ns : List ℕ) (i : ℕ) : Type 0 where
-  pub found : line_of d form (drop at bs) ≡ some (record { numbers = take k ns; rest = drop i bs })
-  pub within : i ≤ length bs
+-- numbers one by one
+each_number : (k : ℕ) (ns : List ℕ) → length ns ≡ k → take k ns ≡ table k (λ i. get_or ns i 0)
+unfolding table
+each_number zero ns e = refl
+each_number (suc k) [] e = absurd (omega arith)
+each_number (suc k) (n ∷ ns) e = ap (λ (ns : List ℕ). n ∷ ns) (each_number k ns (omega arith))
 
--- what line_at has found
-module _ {d : ℕ} {form bs : List ℕ} {at : ℕ} {ms ns : List ℕ} {r : FoundLine} (f : LineFound d bs at form ms ns r) where
-  -- no line of the form
-  pub malformed : r ≡ Malformed → line_of d form (drop at bs) ≡ none
-  unfolding line_in
-  malformed e = f.found ∙ ap (line_in bs (places form) ns) e
+-- a line in as many numbers as its form has
+pub line_has : {d : ℕ} {form bs ns left : List ℕ} → LineFound (places form) d form bs (Some ns) left →
+    line_of d form bs ≡ Some (record { numbers = table (places form) (λ i. get_or ns i 0); rest = left })
+line_has {form = form} {ns = ns} f = f.found ∙ rw (each_number (places form) ns f.padded.size)
 
-  -- a line of the form
-  pub line_has : {i : ℕ} → r ≡ line i → LineHas d form (places form) bs at ns i
-  unfolding line_in line_end
-  line_has e = record { found = f.found ∙ ap (line_in bs (places form) ns) e; within = omega (arith, f.within, ap line_end e) }
+-- what `?` hands on
+pub handed_on : {B : Type 0} {x : Refusal} {r : Result B Refusal} → IsErrAnd r (λ y. y ≡ x) → r ≡ Err x
+handed_on {r = r} h = let p = err_from_is_err_and r h in p.1 ∙ ap Err p.2
 
--- what one_number_at finds
-module _ (d : ℕ) (form bs : List ℕ) (at : ℕ) where
-  -- no line of the form
-  pub one_missing : line_of d form (drop at bs) ≡ none → OneNumberFound d bs at form Missing
-  unfolding one_number_in number_end
-  one_missing e = record { found = e; within = omega arith }
-
-  -- a line of the form
-  pub one_has : {ns : List ℕ} {i : ℕ} → LineHas d form 1 bs at ns i → 0 < length ns → OneNumberFound d bs at form (number (get_or ns 0 0) i)
-  unfolding one_number_in number_end
-  one_has {ns} {i} f size = record { found = f.found ∙ rw (take-suc ns 0 0 size); within = f.within }
-
--- and what it has found
-module _ {d : ℕ} {form bs : List ℕ} {at : ℕ} {r : FoundNumber} (f : OneNumberFound d bs at form r) where
-  -- no line of the form
-  pub one_none : r ≡ Missing → line_of d form (drop at bs) ≡ none
-  unfolding one_number_in
-  one_none e = f.found ∙ ap (one_number_in bs) e
-
-  -- a line of the form
-  pub one_found : {v i : ℕ} → r ≡ number v i → line_of d form (drop at bs) ≡ some (record { numbers = v ∷ []; rest = drop i bs })
-  unfolding one_number_in
-  one_found e = f.found ∙ ap (one_number_in bs) e
-
-  -- and it ends within the bytes
-  pub one_within : {v i : ℕ} → r ≡ number v i → i ≤ length bs
-  unfolding number_end
-  one_within e = omega (arith, f.within, ap number_end e)
+-- where nothing has been found, and a refusal stands for that
+pub none_due : {A B : Type 0} {o : Option A} {e x : Refusal} {r : Result B Refusal} → IsErrAnd r (λ y. y ≡ x) → Err x ≡ ok_or o e → (r ≡ Err e) × (o ≡ None)
+none_due {o = None} {e = e} {x = x} h d = let same : x ≡ e = cc in (handed_on h ∙ ap Err same, refl)
+none_due {o = Some a} h d = cc

@@ -8,7 +8,7 @@
 use mathlib.Core.Path.{◌≡◌, refl, sym, ap, ◌∙◌}
 use mathlib.Core.Bool.{true, false, cond}
 use mathlib.Core.List.{List, [], ◌∷◌}
-use mathlib.Core.Option.{Option, none, some}
+use Rattle.std.proofs.Common.{Option, None, Some}
 use Prim.Native.Nat.{ℕ, zero, suc, ◌+◌, ◌-◌, ◌≤◌}
 use native.Mathlib.Nat.{zero-add, suc-add}
 use native.Mathlib.Omega.{arith}
@@ -40,7 +40,7 @@ digits_there : (w : ℕ) (bs : List ℕ) → length (digits bs) ≤ w → digits
 digits_there w bs h = digits_take w bs ∙ take_all w (digits bs) h
 
 -- what is no number is none in the first bytes, of which there are more than d
-number_take_none : (d w : ℕ) (bs : List ℕ) → suc d ≤ w → number_of d bs ≡ none → number_of d (take w bs) ≡ none
+number_take_none : (d w : ℕ) (bs : List ℕ) → suc d ≤ w → number_of d bs ≡ None → number_of d (take w bs) ≡ None
 unfolding number_of is_number
 number_take_none d w bs h e =
     by_test (is_number d (digits bs)) (λ t. absurd (none_not_some (sym (rw t at e))))
@@ -52,8 +52,8 @@ number_take_none d w bs h e =
     rw (fails (is_number d (digits (take w bs))) (λ k. omega (arith, (simp tests at k).0, s)))))
 
 -- and what is one is the same there; it takes up to d of them
-number_take_some : (d w : ℕ) (bs : List ℕ) → suc d ≤ w → (x : Number) → number_of d bs ≡ some x →
-    (v : ℕ) × (w ≤ v + d) × (number_of d (take w bs) ≡ some (record { value = x.value; rest = take v x.rest }))
+number_take_some : (d w : ℕ) (bs : List ℕ) → suc d ≤ w → (x : Number) → number_of d bs ≡ Some x →
+    (v : ℕ) × (w ≤ v + d) × (number_of d (take w bs) ≡ Some (record { value = x.value; rest = take v x.rest }))
 unfolding number_of is_number
 number_take_some d w bs h x e =
     by_test (is_number d (digits bs))
@@ -78,8 +78,8 @@ span_plain d (c ∷ cs) h = rw (not-true (is_place c) (simp tests at h).1) (omeg
 
 -- in the first w bytes a line is missing as it is in all of them, or is the same and what follows is trimmed
 pub data LineTrimmed (d : ℕ) (form : List ℕ) (w : ℕ) (bs : List ℕ) : Type 0 where
-  neither : line_of d form bs ≡ none → line_of d form (take w bs) ≡ none → LineTrimmed d form w bs
-  both : (l : Line) (v : ℕ) → line_of d form bs ≡ some l → line_of d form (take w bs) ≡ some (record { numbers = l.numbers; rest = take v l.rest }) →
+  neither : line_of d form bs ≡ None → line_of d form (take w bs) ≡ None → LineTrimmed d form w bs
+  both : (l : Line) (v : ℕ) → line_of d form bs ≡ Some l → line_of d form (take w bs) ≡ Some (record { numbers = l.numbers; rest = take v l.rest }) →
       w ≤ v + span d form → LineTrimmed d form w bs
 
 module _ (d : ℕ) (c : ℕ) (cs : List ℕ) (ih : (w : ℕ) (bs : List ℕ) → span d cs ≤ w → LineTrimmed d cs w bs) where
@@ -87,15 +87,15 @@ module _ (d : ℕ) (c : ℕ) (cs : List ℕ) (ih : (w : ℕ) (bs : List ℕ) →
   unfolding line_of after_number with_numbers span
   place_trimmed w bs t more h = of_number (number_of d bs) refl
     where
-      of_line : (x : Number) (u : ℕ) → number_of d bs ≡ some x → w ≤ u + d →
-          number_of d (take w bs) ≡ some (record { value = x.value; rest = take u x.rest }) → LineTrimmed d cs u x.rest → LineTrimmed d (c ∷ cs) w bs
+      of_line : (x : Number) (u : ℕ) → number_of d bs ≡ Some x → w ≤ u + d →
+          number_of d (take w bs) ≡ Some (record { value = x.value; rest = take u x.rest }) → LineTrimmed d cs u x.rest → LineTrimmed d (c ∷ cs) w bs
       of_line x u g m n (neither p q) = neither (rw (t, g, p)) (rw (t, n, q))
       of_line x u g m n (both l v p q r) =
           both (record { numbers = x.value ∷ l.numbers; rest = l.rest }) v (rw (t, g, p)) (rw (t, n, q)) (rw t (omega arith))
 
       of_number : (o : Option Number) → number_of d bs ≡ o → LineTrimmed d (c ∷ cs) w bs
-      of_number none g = neither (rw (t, g)) (rw (t, number_take_none d w bs more g))
-      of_number (some x) g =
+      of_number None g = neither (rw (t, g)) (rw (t, number_take_none d w bs more g))
+      of_number (Some x) g =
           let n = number_take_some d w bs more x g in
           of_line x n.0 g n.1 n.2 (ih n.0 x.rest (omega (arith, n.1)))
 

@@ -13,7 +13,7 @@ use mathlib.Core.Path.{◌≡◌, refl, ap, ◌∙◌}
 use mathlib.Core.Bool.{Bool, true, false, ◌||◌, not}
 use mathlib.Core.Logic.{◌≢◌}
 use mathlib.Core.List.{List, [], ◌∷◌, ◌++◌, append_assoc, append-nil}
-use mathlib.Core.Option.{none, some}
+use Rattle.std.proofs.Common.{None, Some}
 use Prim.Native.Nat.{ℕ, zero, suc, ◌+◌, ◌*◌, ◌-◌, ◌/◌, ◌%◌, ◌^◌, ◌≤◌, ◌<◌}
 use native.Mathlib.Nat.{pow-succ', pow-le-pow_right, add-zero}
 use native.Mathlib.Omega.{arith}
@@ -138,7 +138,7 @@ spelled_is_number (suc k) n h l s = rw (spelled_short k n (omega arith) s) (simp
 
 -- a number that is spelled is read
 pub number_spelled : (d n : ℕ) (rest : List ℕ) → 1 ≤ d → d ≤ 10 → n < 10 ^ d → digits rest ≡ [] →
-    number_of d (spelled n ++ rest) ≡ some (record { value = n; rest = rest })
+    number_of d (spelled n ++ rest) ≡ Some (record { value = n; rest = rest })
 unfolding number_of
 number_spelled d n rest h l s e =
     let p : 10 ^ d ≤ 10 ^ 10 = pow-le-pow_right (omega arith) l in
@@ -222,15 +222,15 @@ unfolding is_number
 is_number_short d ds e = (simp tests at e).0.1
 
 -- one thing is found
-pub some_same : {A : Type 0} {a b : A} → some a ≡ some b → a ≡ b
+pub some_same : {A : Type 0} {a b : A} → Some a ≡ Some b → a ≡ b
 some_same e = cc
 
 -- what is found is there
-pub none_not_some : {A : Type 0} {a : A} → none ≡ some a → ⊥
+pub none_not_some : {A : Type 0} {a : A} → None ≡ Some a → ⊥
 none_not_some e = let z : ◌≡◌ {A = ℕ} 0 1 = cc in omega arith
 
 -- a number that is read was spelled so, in at most d digits
-pub number_of_spelled : (d : ℕ) (bs : List ℕ) (x : Number) → d ≤ 10 → number_of d bs ≡ some x →
+pub number_of_spelled : (d : ℕ) (bs : List ℕ) (x : Number) → d ≤ 10 → number_of d bs ≡ Some x →
     (bs ≡ spelled x.value ++ x.rest) × (x.value < 10 ^ d)
 unfolding number_of value
 number_of_spelled d bs x few e =

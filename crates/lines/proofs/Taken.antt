@@ -7,7 +7,7 @@
 use mathlib.Core.Path.{◌≡◌, refl, sym}
 use mathlib.Core.Bool.{Bool, true}
 use mathlib.Core.List.{List, [], ◌∷◌}
-use mathlib.Core.Option.{Option, none, some}
+use Rattle.std.proofs.Common.{Option, None, Some}
 use Prim.Native.Nat.{ℕ, zero, suc}
 use native.Mathlib.Omega.{arith}
 use Rattle.theory.specs.Basics.{all}
@@ -33,7 +33,7 @@ bind_taken (taken a) f b e = (a, refl, e)
 -- a line of its form, none of whose causes is met
 pub record LinePassed {B : Type 0} (d : ℕ) (form bs : List ℕ) (cs : Line → List Cause) (f : Line → Outcome B) (b : B) : Type 0 where
   pub line : Line
-  pub found : line_of d form bs ≡ some line
+  pub found : line_of d form bs ≡ Some line
   pub unmet : refusal (cs line) ≡ 0
   pub then : f line ≡ taken b
 
@@ -43,13 +43,13 @@ module _ {B : Type 0} (number d : ℕ) (form bs : List ℕ) (cs : Line → List 
   unfolding line_due line_or judge passed ◌>>=◌ ◌>>◌
   line_passed f b e = of_line (line_of d form bs) refl e
     where
-      of_causes : (l : Line) → line_of d form bs ≡ some l → (k : ℕ) → refusal (cs l) ≡ k → ◌>>◌ (passed k) (f l) ≡ taken b → LinePassed d form bs cs f b
+      of_causes : (l : Line) → line_of d form bs ≡ Some l → (k : ℕ) → refusal (cs l) ≡ k → ◌>>◌ (passed k) (f l) ≡ taken b → LinePassed d form bs cs f b
       of_causes l g zero u h = record { line = l; found = g; unmet = u; then = h }
       of_causes l g (suc k) u h = absurd (refused_not_taken h)
 
       of_line : (o : Option Line) → line_of d form bs ≡ o → (do l ← line_or number o; judge (cs l); f l) ≡ taken b → LinePassed d form bs cs f b
-      of_line none g h = absurd (refused_not_taken h)
-      of_line (some l) g h = of_causes l g (refusal (cs l)) refl h
+      of_line None g h = absurd (refused_not_taken h)
+      of_line (Some l) g h = of_causes l g (refusal (cs l)) refl h
 
 -- a refusal number passes a test
 pub record Given {A : Type 0} (ok : ℕ → Bool) (o : Outcome A) : Type 0 where
@@ -93,5 +93,5 @@ module _ {ok : ℕ → Bool} where
   given_line number d form bs h = go (line_of d form bs)
     where
       go : (o : Option Line) → Given ok (line_or number o)
-      go none = given_refused number h
-      go (some l) = given_taken l
+      go None = given_refused number h
+      go (Some l) = given_taken l

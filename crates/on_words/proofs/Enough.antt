@@ -1,21 +1,30 @@
--- Where no lent buffer is short, each is as long as stated.
+-- Where head and list agree, M records are there; where no lent buffer is short, each is as long as stated.
+--   records_enough       M records are there
 --   LongEnough, none_short, all_long    no buffer is short exactly where each is as long as stated
---   peel_enough, check_enough, solve_enough, surplus_enough, write_enough    a call's buffers then
---   peel_long, check_long, solve_long    and its words, which are the work buffer's
+--   peel_enough, check_enough, solve_enough, surplus_enough, write_enough, read_enough    a call's buffers then
 -- Assumes nothing.
 use mathlib.Core.Path.{◌≡◌, refl, sym}
 use mathlib.Core.Bool.{Bool, true, false, ◌||◌}
 use mathlib.Core.List.{List, [], ◌∷◌}
 use Prim.Native.Nat.{ℕ, ◌≤◌}
-use native.Mathlib.Omega.{arith}
+use lib.ListN.{length, take}
+use lib.Seq.{length-take-le}
 use borrow.Author.Tests.{ltb-false, le-ltb}
 use Rattle.theory.proofs.Tests.{no}
 use Rattle.records.specs.declared.Head.{Head}
-use Rattle.on_words.specs.Buffers.{Buffer, buffer, any_short, work_words}
+use Rattle.records.specs.declared.Pair.{Pair}
+use Rattle.records.specs.Records.{agrees}
+use Rattle.records.proofs.Scans.{agrees_count}
+use Rattle.on_words.specs.Buffers.{Buffer, any_short}
 use Rattle.on_words.specs.Peeling.{peel_buffers}
 use Rattle.on_words.specs.Judging.{check_buffers, surplus_buffers}
 use Rattle.on_words.specs.Solving.{solve_buffers}
-use Rattle.on_words.specs.Writing.{text_bytes, write_buffers}
+use Rattle.on_words.specs.Writing.{write_buffers}
+use Rattle.on_words.specs.Reading.{read_buffers}
+
+-- where head and list agree, the first M records are M records
+pub records_enough : (h : Head) (ps : List Pair) → agrees h ps ≡ true → h.m ≡ length (take h.m ps)
+records_enough h ps e = sym (length-take-le h.m ps (agrees_count h ps e).0)
 
 -- every buffer is as long as stated
 abbrev pub LongEnough : List Buffer → Type 0
@@ -27,7 +36,7 @@ or_none : (a b : Bool) → (a || b) ≡ false → (a ≡ false) × (b ≡ false)
 or_none true b e = no (sym e)
 or_none false b e = (refl, e)
 
-pub none_short : (bs : List Buffer) → any_short bs ≡ false → LongEnough bs
+none_short : (bs : List Buffer) → any_short bs ≡ false → LongEnough bs
 unfolding any_short
 none_short [] e = tt
 none_short (b ∷ []) e = ltb-false _ _ (or_none _ _ e).0
@@ -42,34 +51,25 @@ all_long (b ∷ c ∷ bs) e = rw (le-ltb _ _ e.0) (all_long (c ∷ bs) e.1)
 
 -- ---- by call
 
-module _ (h : Head) (order cores work : ℕ) (none : any_short (peel_buffers h order cores work) ≡ false) where
+module _ (h : Head) (order cores work : ℕ) {lent : List Buffer} (is : lent ≡ peel_buffers h order cores work) (none : any_short lent ≡ false) where
   pub peel_enough : (h.n ≤ order) × (h.n ≤ cores) × (16384 ≤ work)
-  unfolding peel_buffers buffer work_words
-  peel_enough = let x = none_short _ none in (x.0, x.1.0, x.1.1)
+  peel_enough = let x = none_short _ (rw is at none) in (x.0, x.1.0, x.1.1)
 
-  pub peel_long : 12288 ≤ work
-  peel_long = omega (arith, peel_enough.2)
-
-module _ (h : Head) (members shares work : ℕ) (none : any_short (check_buffers h members shares work) ≡ false) where
+module _ (h : Head) (members shares work : ℕ) {lent : List Buffer} (is : lent ≡ check_buffers h members shares work) (none : any_short lent ≡ false) where
   pub check_enough : (h.n ≤ members) × (h.m ≤ shares) × (16384 ≤ work)
-  unfolding check_buffers buffer work_words
-  check_enough = let x = none_short _ none in (x.0, x.1.0, x.1.1)
+  check_enough = let x = none_short _ (rw is at none) in (x.0, x.1.0, x.1.1)
 
-  pub check_long : 12288 ≤ work
-  check_long = omega (arith, check_enough.2)
-
-module _ (h : Head) (members cores shares work : ℕ) (none : any_short (solve_buffers h members cores shares work) ≡ false) where
+module _ (h : Head) (members cores shares work : ℕ) {lent : List Buffer} (is : lent ≡ solve_buffers h members cores shares work)
+    (none : any_short lent ≡ false) where
   pub solve_enough : (h.n ≤ members) × (h.n ≤ cores) × (h.m ≤ shares) × (16384 ≤ work)
-  unfolding solve_buffers buffer work_words
-  solve_enough = let x = none_short _ none in (x.0, x.1.0, x.1.1.0, x.1.1.1)
+  solve_enough = let x = none_short _ (rw is at none) in (x.0, x.1.0, x.1.1.0, x.1.1.1)
 
-  pub solve_long : 12288 ≤ work
-  solve_long = omega (arith, solve_enough.3)
+pub surplus_enough : (h : Head) (first second : ℕ) {lent : List Buffer} → lent ≡ surplus_buffers h first second → any_short lent ≡ false →
+    (h.n ≤ first) × (h.n ≤ second)
+surplus_enough h first second is none = none_short _ (rw is at none)
 
-pub surplus_enough : (h : Head) (first second : ℕ) → any_short (surplus_buffers h first second) ≡ false → (h.n ≤ first) × (h.n ≤ second)
-unfolding surplus_buffers buffer
-surplus_enough h first second e = none_short _ e
+pub write_enough : (text : ℕ) {lent : List Buffer} → lent ≡ write_buffers text → any_short lent ≡ false → 65536 ≤ text
+write_enough text is none = none_short _ (rw is at none)
 
-pub write_enough : (text : ℕ) → any_short (write_buffers text) ≡ false → 65536 ≤ text
-unfolding write_buffers buffer text_bytes
-write_enough text e = none_short _ e
+pub read_enough : (work : ℕ) {lent : List Buffer} → lent ≡ read_buffers work → any_short lent ≡ false → 16384 ≤ work
+read_enough work is none = none_short _ (rw is at none)

@@ -1,6 +1,7 @@
 -- Laws behind the calls on words; each file opens with what it gives.
 pub mod Orders
 pub mod Changes
+pub mod Fits
 pub mod Filling
 pub mod Enough
 pub mod Peels

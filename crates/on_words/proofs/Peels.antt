@@ -1,37 +1,48 @@
 -- Peel on words: the leaving order narrowed to the lent buffer, the core numbers in front of theirs.
---   narrowed, narrow_long, narrow_fits    n entries in front of an array, narrowed, stand in front of the buffer
---   cores_in_front                        the first n entries are the core numbers
+--   order_front, order_enough, order_small    the first n entries, where the leaving order of a list of n modules stands in front
+--   cores_in_front                            the first n entries are the core numbers
 -- Assumes nothing.
 use mathlib.Core.Path.{◌≡◌, sym, ap, ◌∙◌}
+use mathlib.Core.Bool.{true}
 use mathlib.Core.List.{List, ◌++◌}
 use Prim.Native.Nat.{ℕ, ◌≤◌, ◌<◌}
 use native.Mathlib.Omega.{arith}
-use lib.ListN.{length, get_or, take, drop, length-append, get_or-append}
+use lib.ListN.{length, get_or, take, drop, length-append}
 use lib.Seq.{take_at}
-use Rattle.theory.specs.Lists as Lists
+use Rattle.theory.specs.Lists.{Pairs, is_list}
+use Rattle.theory.specs.Leaving.{leaving}
 use Rattle.theory.specs.Cores.{core_numbers}
+use Rattle.theory.specs.Promise.{LeavingSteps}
+use Rattle.theory.proofs.Bounds.{leaving_below}
+use Rattle.theory.proofs.Leaving.{leaving_steps}
+use Rattle.theory.proofs.Lists.{listed}
 use Rattle.theory.proofs.Tables.{length_table}
 use Rattle.on_words.specs.Buffers.{in_front}
 
--- ---- narrowing
+-- ---- the leaving order
 
-module _ (n : ℕ) (xs rest new : List ℕ) (long : length xs ≡ n) (is : new ≡ xs ++ rest) where
-  pub narrowed : (to : List ℕ) → in_front (take n new) to ≡ in_front xs to
-  narrowed to = ap (λ (ys : List ℕ). in_front (take n ys) to) is ∙ ap (λ (ys : List ℕ). in_front ys to) (take_at xs rest n long)
+order_length : (g : Pairs) → length (leaving g) ≡ g.n
+unfolding LeavingSteps
+order_length g = (leaving_steps g).0
 
-  pub narrow_long : n ≤ length new
-  narrow_long = omega (arith, ap length is, length-append xs rest)
+module _ (g : Pairs) (held : is_list g ≡ true) (rest new : List ℕ) (is : new ≡ leaving g ++ rest) where
+  pub order_front : take g.n new ≡ leaving g
+  order_front = ap (λ (ys : List ℕ). take g.n ys) is ∙ take_at (leaving g) rest g.n (order_length g)
 
-  pub narrow_fits : (b : ℕ) → ((i : ℕ) → i < n → get_or xs i 0 < b) → (i : ℕ) → i < n → get_or new i 0 < b
-  narrow_fits b h i l =
-      omega (arith, ap (λ (ys : List ℕ). get_or ys i 0) is, get_or-append xs rest 0 i (omega (arith, long)), h i l)
+  pub order_enough : g.n ≤ length new
+  order_enough = omega (arith, ap length is, length-append (leaving g) rest, order_length g)
+
+  pub order_small : (i : ℕ) → i < length (take g.n new) → get_or (take g.n new) i 0 < 65536
+  order_small i l =
+      let below : i < g.n = omega (arith, rw order_front at l, order_length g) in
+      rw order_front (omega (arith, leaving_below g i below, (listed g held).few))
 
 -- ---- core numbers
 
-numbers_length : (g : Lists.Pairs) → length (core_numbers g) ≡ g.n
+numbers_length : (g : Pairs) → length (core_numbers g) ≡ g.n
 unfolding core_numbers
 numbers_length g = length_table g.n _
 
-pub cores_in_front : (g : Lists.Pairs) (to : List ℕ) → core_numbers g ++ drop g.n to ≡ in_front (core_numbers g) to
+pub cores_in_front : (g : Pairs) (to : List ℕ) → core_numbers g ++ drop g.n to ≡ in_front (core_numbers g) to
 unfolding in_front
 cores_in_front g to = ap (λ (i : ℕ). core_numbers g ++ drop i to) (sym (numbers_length g))

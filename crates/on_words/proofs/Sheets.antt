@@ -1,4 +1,5 @@
--- What solve found, and what it hands out.
+-- What solve works on and has found, and what it hands out.
+--   front_holds, front_list    the work buffer's first 12,288 words hold the list that it holds
 --   some_modules     the found group has a module
 --   handed           with the float this is what solve hands out
 --   found_front      the found group's bytes are read back from the front
@@ -6,26 +7,39 @@
 use mathlib.Core.Path.{◌≡◌, refl, sym, ◌∙◌}
 use mathlib.Core.Bool.{true}
 use mathlib.Core.List.{List}
-use Prim.Native.Nat.{ℕ, ◌≤◌}
-use lib.ListN.{take, take-append-drop}
-use lib.Seq.{take_at}
+use Prim.Native.Nat.{ℕ, ◌≤◌, ◌<◌}
+use native.Mathlib.Omega.{arith}
+use lib.ListN.{get_or, take, take-append-drop}
+use lib.Seq.{take_at, length-take-le, get_or-take}
 use Rattle.theory.specs.Lists.{Pairs, is_list}
 use Rattle.theory.specs.Groups.{found_of}
 use Rattle.theory.specs.Splits.{is_split}
 use Rattle.theory.specs.Ratio.{float_ratio}
 use Rattle.theory.specs.Promise.{FoundAlone, FoundOutright}
+use Rattle.theory.specs.Words.{laid_list, HoldsList}
 use Rattle.theory.proofs.Tests.{tests}
 use Rattle.theory.proofs.Densest.{found_alone}
 use Rattle.theory.proofs.Best.{found_outright, found_length}
 use Rattle.densest.specs.declared.Solution.{Solution}
 use Rattle.densest.specs.Solve.{Solves}
+use Rattle.densest.proofs.Lent.{alike_list, alike_holds}
 use Rattle.on_words.specs.declared.Solved.{Solved}
 use Rattle.on_words.specs.Buffers.{in_front}
 use Rattle.on_words.specs.Solving.{Handed}
 use Rattle.on_words.proofs.Peels.{cores_in_front}
 
+module _ (n m : ℕ) (w : List ℕ) (holds : HoldsList n m w) where
+  front_same : (k : ℕ) → k < 12288 → get_or (take 12288 w) k 0 ≡ get_or w k 0
+  front_same k l = get_or-take 12288 w k 0 l
+
+  pub front_holds : HoldsList n m (take 12288 w)
+  front_holds = alike_holds n m w (take 12288 w) holds front_same (omega (arith, length-take-le 12288 w holds.long))
+
+  pub front_list : laid_list n m (take 12288 w) ≡ laid_list n m w
+  front_list = alike_list n m w (take 12288 w) holds front_same
+
 module _ (g : Pairs) (members cores shares members' cores' shares' : List ℕ) (r : Solution) (s : Solves g members cores shares members' cores' shares' r) where
-  pub some_modules : 1 ≤ r.q
+  pub some_modules : 1 ≤ r.ratio.q
   unfolding is_split
   some_modules = (simp tests at s.solved.optimal.is_a_split).0
 
@@ -39,7 +53,7 @@ module _ (g : Pairs) (held : is_list g ≡ true) (members cores shares members' 
       sym (take-append-drop g.n members') ∙ rw (same, s.members_rest, found_length g held)
 
   abbrev record_of : Solved
-  record_of = record { number = 0; p = r.p; q = r.q; k = r.k; coresize = r.core; ratio = float_ratio r.p r.q }
+  record_of = record { number = 0; p = r.ratio.p; q = r.ratio.q; k = r.k; coresize = r.core; ratio = float_ratio r.ratio.p r.ratio.q }
 
   pub handed : Handed g members cores shares record_of members' cores' shares'
   handed =

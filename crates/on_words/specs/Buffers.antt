@@ -1,25 +1,21 @@
 -- Document 01, "Buffers": lent buffers that are too short, what the calls write in them, and what they leave alone.
---   Buffer, buffer, any_short    lengths beside what is needed; 12: one of them is shorter than stated
+--   buffer, any_short    lengths beside what is needed; 12: one of them is shorter than stated
 --   in_front       new entries in front; entries past those named are never written
 --   work_words     the work buffer's 16,384 words
 --   cleared        the work buffer with 16,384 zeros in front
 --   work_left      the work buffer after a call: untouched after 12 or 13, else 16,384 zeros
 -- Assumes nothing: these are definitions.
-use Rattle.std.specs.Prelude.{Bool, false, ◌||◌, cond, List, [], ◌∷◌, ◌++◌, ℕ, eqb, ltb, length, drop, replicate}
+use Rattle.std.specs.Prelude.{Bool, ◌||◌, cond, List, ◌++◌, ℕ, eqb, ltb, length, drop, replicate}
+use Rattle.std.specs.List.{list_any}
+pub use Rattle.on_words.specs.declared.buffers.Buffer.{Buffer}
 
--- a lent buffer: the entries that it has, and those that are needed
-pub record Buffer : Type 0 where
-  pub has : ℕ
-  pub needs : ℕ
-
--- one of `has` entries, of which `needs` are needed
-unfoldable pub buffer : (has needs : ℕ) → Buffer
+-- a lent buffer of `has` entries, of which `needs` are needed
+abbrev pub buffer : (has needs : ℕ) → Buffer
 buffer a b = record { has = a; needs = b }
 
 -- one of them is shorter than stated
 unfoldable pub any_short : List Buffer → Bool
-any_short [] = false
-any_short (b ∷ bs) = ltb b.has b.needs || any_short bs
+any_short bs = list_any (λ b. ltb b.has b.needs) bs
 
 -- the new entries, and the old ones past them
 unfoldable pub in_front : (new old : List ℕ) → List ℕ

@@ -2,6 +2,7 @@
 pub mod Buffers
 pub mod Gate
 pub mod Edits
+pub mod Placing
 pub mod Reading
 pub mod Writing
 pub mod Peeling

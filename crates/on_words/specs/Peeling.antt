@@ -3,19 +3,18 @@
 --   PeelOn         the first N entries of the two buffers
 -- Assumes nothing: these are definitions.
 use Rattle.std.specs.Prelude.{◌≡◌, List, [], ◌∷◌, ℕ}
-use Rattle.theory.specs.Refusals.{if_taken}
 use Rattle.theory.specs.Leaving.{leaving}
 use Rattle.theory.specs.Cores.{core_numbers}
 use Rattle.theory.specs.Words.{laid_list}
 use Rattle.records.specs.declared.Head.{Head}
-use Rattle.on_words.specs.Buffers.{Buffer, buffer, in_front, work_words, work_left}
+use Rattle.on_words.specs.Buffers.{Buffer, buffer, in_front, cleared}
 
 -- N entries of order and of cores, 16,384 of work
-unfoldable pub peel_buffers : Head → (order cores work : ℕ) → List Buffer
-peel_buffers h o c w = buffer o h.n ∷ buffer c h.n ∷ buffer w work_words ∷ []
+abbrev pub peel_buffers : Head → (order cores work : ℕ) → List Buffer
+peel_buffers h o c w = buffer o h.n ∷ buffer c h.n ∷ buffer w 16384 ∷ []
 
--- on words: behind the gate, with the work buffer cleared
-pub record PeelOn (h : Head) (gate : ℕ) (order cores work order' cores' work' : List ℕ) : Type 0 where
-  pub order_is : order' ≡ if_taken gate (in_front (leaving (laid_list h.n h.m work)) order) order
-  pub cores_are : cores' ≡ if_taken gate (in_front (core_numbers (laid_list h.n h.m work)) cores) cores
-  pub left : work' ≡ work_left gate work
+-- on words, with the work buffer cleared
+pub record PeelOn (h : Head) (order cores work order' cores' work' : List ℕ) : Type 0 where
+  pub order_is : order' ≡ in_front (leaving (laid_list h.n h.m work)) order
+  pub cores_are : cores' ≡ in_front (core_numbers (laid_list h.n h.m work)) cores
+  pub left : work' ≡ cleared work

@@ -1,10 +1,10 @@
 -- Document 01, "Solve", on words: what is lent, and what is handed out of the list that lies in them.
 --   solve_buffers            what is lent
---   declined                 the record beside a refusal
+--   declined, solved_of      the record beside a refusal, and that of an answer
 --   Handed                   what is handed out; free are only the shares of pairs inside the core of order K
 --   SolveOn                 the record, and every buffer
 -- Assumes nothing: these are definitions.
-use Rattle.std.specs.Prelude.{◌≡◌, true, List, [], ◌∷◌, ℕ, length, take, drop}
+use Rattle.std.specs.Prelude.{◌≡◌, true, List, [], ◌∷◌, ℕ, length, take, drop, Result, Ok, Err}
 use Rattle.theory.specs.Lists.{Pairs}
 use Rattle.theory.specs.Groups.{size, Found, found_of}
 use Rattle.theory.specs.Cores.{core, core_numbers}
@@ -12,17 +12,24 @@ use Rattle.theory.specs.Splits.{rounded_up, outside_good}
 use Rattle.theory.specs.Ratio.{float_ratio}
 use Rattle.theory.specs.Promise.{Optimal}
 use Rattle.theory.specs.Words.{laid_list}
+use Rattle.refusals.specs.declared.Refusal.{Refusal}
+use Rattle.refusals.specs.Numbers.{number_of}
 use Rattle.records.specs.declared.Head.{Head}
 use Rattle.on_words.specs.declared.Solved.{Solved}
-use Rattle.on_words.specs.Buffers.{Buffer, buffer, in_front, work_words, work_left}
+use Rattle.on_words.specs.Buffers.{Buffer, buffer, in_front, cleared}
 
 -- N entries of members and of cores, M of shares, 16,384 of work
-unfoldable pub solve_buffers : Head → (members cores shares work : ℕ) → List Buffer
-solve_buffers h a c d w = buffer a h.n ∷ buffer c h.n ∷ buffer d h.m ∷ buffer w work_words ∷ []
+abbrev pub solve_buffers : Head → (members cores shares work : ℕ) → List Buffer
+solve_buffers h a c d w = buffer a h.n ∷ buffer c h.n ∷ buffer d h.m ∷ buffer w 16384 ∷ []
 
 -- beside a refusal the other fields are 0, the ratio +0.0
 unfoldable pub declined : (number : ℕ) → Solved
 declined k = record { number = k; p = 0; q = 0; k = 0; coresize = 0; ratio = float_ratio 0 1 }
+
+-- what is found, or a refusal's number
+abbrev pub solved_of : Result Solved Refusal → Solved
+solved_of (Ok s) = s
+solved_of (Err e) = declined (number_of e)
 
 -- in front of the buffers stand the found group's member bytes, the core numbers and a share for each pair; entries past them are as before
 pub record Handed (g : Pairs) (members cores shares : List ℕ) (r : Solved) (members' cores' shares' : List ℕ) : Type 0 where
@@ -41,9 +48,8 @@ pub record Handed (g : Pairs) (members cores shares : List ℕ) (r : Solved) (me
   -- P divided by Q, rounded once
   pub float : r.ratio ≡ float_ratio r.p r.q
 
--- on words: behind the gate, with the work buffer cleared
-pub record SolveOn (h : Head) (gate : ℕ) (members cores shares work : List ℕ) (r : Solved) (members' cores' shares' work' : List ℕ) : Type 0 where
-  pub number : r.number ≡ gate
-  pub handed : gate ≡ 0 → Handed (laid_list h.n h.m work) members cores shares r members' cores' shares'
-  pub refused : (gate ≡ 0 → ⊥) → (r ≡ declined gate) × (members' ≡ members) × (cores' ≡ cores) × (shares' ≡ shares)
-  pub left : work' ≡ work_left gate work
+-- on words, with the work buffer cleared
+pub record SolveOn (h : Head) (members cores shares work : List ℕ) (r : Solved) (members' cores' shares' work' : List ℕ) : Type 0 where
+  pub number : r.number ≡ 0
+  pub handed : Handed (laid_list h.n h.m work) members cores shares r members' cores' shares'
+  pub left : work' ≡ cleared work

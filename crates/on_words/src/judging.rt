@@ -1,100 +1,69 @@
-// Check and surplus on words: the gate (13, 12), then the list in words; check then clears them.
-ghost use Rattle.std.specs.Prelude.{◌≡◌, ◌+◌, ◌*◌, ◌≤◌, length, take};
-ghost use Rattle.theory.specs.Words.{laid_list, HoldsList};
-ghost use Rattle.verify.specs.Answers.{CheckSays, SurplusSays};
-ghost use Rattle.on_words.specs.Buffers.{any_short};
-ghost use Rattle.on_words.specs.Gate.{gate_of, Behind};
+// Check and surplus on words: the list in the words; check then clears them.
+ghost use Rattle.std.specs.Prelude.{◌≡◌, ◌≤◌, length};
+ghost use Rattle.theory.specs.Words.{HoldsList};
+ghost use Rattle.verify.specs.Answers.{verdict_of, difference_of};
 ghost use Rattle.on_words.specs.Judging.{check_buffers, surplus_buffers, CheckOn, SurplusOn};
 
-use crate::Gate;
-use crate::buffers::{clear, gate};
+use crate::buffers::{Buffer, clear};
+use lists::List;
+use numbers::Ratio;
 use records::Head;
-use verify::{Difference, Verdict, check_words, surplus_words};
+use refusals::Refusal;
+use verify::{check_words, surplus_words};
 
-pub fn check_gate(head: Head, agreed: bool, members: usize, shares: usize, work: usize) -> Gate
-    ensures { result ≡ gate_of head agreed (any_short (check_buffers head members shares work)) }
+// What is lent to check: N entries of members, M of shares, 16,384 of work.
+pub fn check_buffers(head: Head, members: usize, shares: usize, work: usize) -> [Buffer; 3]
+    ensures { result ≡ check_buffers head members shares work }
 {
-    let n = head.n as usize;
-    let m = head.m as usize;
-    gate(head, agreed, (members < n) | (shares < m) | (work < 16384))
+    [
+        Buffer::new(members, head.n as usize),
+        Buffer::new(shares, head.m as usize),
+        Buffer::new(work, 16384),
+    ]
 }
 
-pub fn surplus_gate(head: Head, agreed: bool, first: usize, second: usize) -> Gate
-    ensures { result ≡ gate_of head agreed (any_short (surplus_buffers head first second)) }
-{
-    let n = head.n as usize;
-    gate(head, agreed, (first < n) | (second < n))
-}
-
-// Check of the list in the words.
-fn check_in(n: usize, m: usize, work: &[u32], members: &[u8], shares: &[u32]) -> Verdict
-    requires holds_list { HoldsList n m work.now }
-    requires n_in_bounds { n ≤ length members.now }
-    requires m_in_bounds { m ≤ length shares.now }
-    ensures { CheckSays (laid_list n m work.now)
-        (take n members.now) (take m shares.now) result }
-{
-    let ends = 2 * m;
-    let weights = 8192 + m;
-    check_words(n, m, &work[0..ends], &work[8192..weights], members, shares)
-}
-
-// The work buffer is cleared in the end.
+// Check of the list in the words; refuses by 7, 8, 9.
 pub fn check_on_words(
     head: Head,
-    gate: u32,
     members: &[u8],
     shares: &[u32],
     work: &mut [u32],
-) -> Verdict
-    requires { Behind head gate work.old (check_buffers head (length members.now) (length shares.now) (length work.old)) }
-    ensures { CheckOn head gate members.now shares.now work.old result work.new }
+) -> Result<Ratio, Refusal>
+    requires holds_list { HoldsList head.n head.m work.old }
+    requires members_long { head.n ≤ length members.now }
+    requires shares_long { head.m ≤ length shares.now }
+    requires work_long { 16384 ≤ length work.old }
+    ensures { CheckOn head members.now shares.now work.old (verdict_of result) work.new }
 {
-    if gate != 0 {
-        return Verdict {
-            number: gate,
-            p: 0,
-            q: 0,
-        };
-    }
-    let n = head.n as usize;
-    let m = head.m as usize;
-    let verdict = check_in(n, m, work, members, shares);
+    let list = List::in_words(head.n as usize, head.m as usize, work);
+    let judged = check_words(list, members, shares);
     clear(work);
-    verdict
+    judged
 }
 
-// Surplus of the list in the words.
-fn surplus_in(n: usize, m: usize, words: &[u32], first: &[u8], second: &[u8]) -> Difference
-    requires holds_list { HoldsList n m words.now }
-    requires n_in_bounds { n ≤ length first.now }
-    requires n_in_bounds_2 { n ≤ length second.now }
-    ensures { SurplusSays (laid_list n m words.now)
-        (take n first.now) (take n second.now) result }
+// What is lent to surplus: N entries of each set of member bytes.
+pub fn surplus_buffers(head: Head, first: usize, second: usize) -> [Buffer; 2]
+    ensures { result ≡ surplus_buffers head first second }
 {
-    let ends = 2 * m;
-    let weights = 8192 + m;
-    surplus_words(n, m, &words[0..ends], &words[8192..weights], first, second)
+    let n = head.n as usize;
+    [Buffer::new(first, n), Buffer::new(second, n)]
 }
 
-// The words are the call's own: what they hold afterwards is free, since nobody reads them.
+// Surplus of the list in the words; refuses by 7.
 pub fn surplus_on_words(
     head: Head,
-    gate: u32,
     first: &[u8],
     second: &[u8],
-    words: &mut [u32],
-) -> Difference
-    requires { Behind head gate words.old (surplus_buffers head (length first.now) (length second.now)) }
-    ensures { SurplusOn head gate first.now second.now words.old result }
+    words: &[u32],
+) -> Result<i64, Refusal>
+    requires holds_list { HoldsList head.n head.m words.now }
+    requires first_long { head.n ≤ length first.now }
+    requires second_long { head.n ≤ length second.now }
+    ensures { SurplusOn head first.now second.now words.now (difference_of result) }
 {
-    if gate != 0 {
-        return Difference {
-            number: gate,
-            value: 0,
-        };
-    }
-    let n = head.n as usize;
-    let m = head.m as usize;
-    surplus_in(n, m, words, first, second)
+    surplus_words(
+        List::in_words(head.n as usize, head.m as usize, words),
+        first,
+        second,
+    )
 }

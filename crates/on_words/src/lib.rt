@@ -1,27 +1,34 @@
 // The calls of Kandurzo once their records lie in words (document 01, "The list and its calls"; document 02, items 1 to 4): the refusals in their order,
 // the answer, and what is left in the lent buffers.
 //
-// Whether head and list agree is the caller's to say (`agreed`, of crate records), and so is the way of the records out to words and back. A call with
-// lent buffers has its gate, 13 and then 12, which also says how many records go out; its function on words then works on the list that lies there and
-// clears the work buffer. Add and remove look the pair up in the words and shift what stands behind it; a reader leaves the file's pairs in them.
-// Each costs what the crate below it does (pairs, peel, densest, verify, pairfile, dimacs), and the 16,384 words that are cleared. They refuse by 13, 5,
-// 4, 18, 19, 11 (add), 13, 5, 4, 14 (remove), 13, 5, 4 (place), 12 and the file's numbers (both readers), 13, 12 and 7, 8, 9 (the others).
+// A call takes the records that are held (gate: 13, and 12 where a lent buffer is short) and copies them to words (crate records); its function on words
+// works on the list that lies there, and clears the work buffer. Add and remove look the pair up in the words and shift what stands behind it; a reader
+// leaves the file's pairs in them. Each costs what the crate below it does (pairs, peel, densest, verify, pairfile, dimacs), and the 16,384 words that are
+// cleared. On words add refuses by 5, 4, 18, 19, 11, remove by 5, 4, 14, check by 7, 8, 9, surplus by 7, and both readers by the file's numbers.
+// Head and words are two parameters, not a struct that keeps what the words hold: a call lays them out once and hands them to one function.
+// `as` stands where std has no `From`: from u32 to usize, and where a bound lets a number fit fewer bits.
 #![tactic(auto)]
+
+ghost use Rattle.std.specs.Prelude.{◌≡◌};
+ghost use Rattle.on_words.specs.Placing.{placed_of};
+ghost use Rattle.on_words.specs.Solving.{solved_of};
+ghost use Rattle.on_words.specs.Writing.{written_of};
 
 mod buffers;
 pub mod edits;
+pub mod gate;
 pub mod judging;
 pub mod peeling;
-pub mod placing;
 pub mod reading;
 pub mod solving;
 pub mod writing;
 
-use records::Head;
+pub use buffers::{Buffer, any_short, clear};
+use refusals::Refusal;
 
-// What place answers: the refusal number or 0; 1 where the pair is held, else 0; and its place, or where it would go. Both are 0 beside a refusal.
+// What place answers: the refusal number or 0; 1 where the pair is held, else 0; and its place, or where it would go.
 #[repr(C)]
-#[derive(Clone, Copy)]
+#[derive(Clone, Copy, Debug, PartialEq, Eq)]
 pub struct Placed {
     pub number: u32,
     pub held: u32,
@@ -31,7 +38,7 @@ pub struct Placed {
 // What solve answers: the refusal number or 0; P and Q, the found group's inside count and size; K, P/Q rounded up; the number of modules in the
 // core of order K; and P divided by Q, rounded once.
 #[repr(C)]
-#[derive(Clone, Copy)]
+#[derive(Clone, Copy, Debug, PartialEq)]
 pub struct Solved {
     pub number: u32,
     pub p: u32,
@@ -43,23 +50,64 @@ pub struct Solved {
 
 // What write_dimacs answers: the refusal number or 0, and how many bytes it has written.
 #[repr(C)]
-#[derive(Clone, Copy)]
+#[derive(Clone, Copy, Debug, PartialEq, Eq)]
 pub struct Written {
     pub number: u32,
     pub length: u32,
 }
 
-// A change of the words: the number, the head after it, and how many records come back to the list.
-#[derive(Clone, Copy)]
-pub struct Edit {
-    pub number: u32,
-    pub head: Head,
-    pub count: usize,
+impl From<Result<Result<u32, u32>, Refusal>> for Placed {
+    ghost from_gives = { λ answer placed. placed ≡ placed_of answer };
+
+    fn from(answer: Result<Result<u32, u32>, Refusal>) -> Placed {
+        match answer {
+            Ok(Ok(at)) => Placed {
+                number: 0,
+                held: 1,
+                at,
+            },
+            Ok(Err(at)) => Placed {
+                number: 0,
+                held: 0,
+                at,
+            },
+            Err(refusal) => Placed {
+                number: u32::from(refusal),
+                held: 0,
+                at: 0,
+            },
+        }
+    }
 }
 
-// What the first two refusals say: 13, 12 or 0, and how many records go out to words.
-#[derive(Clone, Copy)]
-pub struct Gate {
-    pub number: u32,
-    pub out: usize,
+impl From<Result<Solved, Refusal>> for Solved {
+    ghost from_gives = { λ answer solved. solved ≡ solved_of answer };
+
+    fn from(answer: Result<Solved, Refusal>) -> Solved {
+        match answer {
+            Ok(solved) => solved,
+            Err(refusal) => Solved {
+                number: u32::from(refusal),
+                p: 0,
+                q: 0,
+                k: 0,
+                coresize: 0,
+                ratio: 0.0,
+            },
+        }
+    }
+}
+
+impl From<Result<u32, Refusal>> for Written {
+    ghost from_gives = { λ answer written. written ≡ written_of answer };
+
+    fn from(answer: Result<u32, Refusal>) -> Written {
+        match answer {
+            Ok(length) => Written { number: 0, length },
+            Err(refusal) => Written {
+                number: u32::from(refusal),
+                length: 0,
+            },
+        }
+    }
 }

@@ -1,34 +1,28 @@
-// Write_dimacs on words: the gate (13, 12), then the file of the list in the words.
-ghost use Rattle.std.specs.Prelude.{◌≡◌, length};
-ghost use Rattle.on_words.specs.Buffers.{any_short};
-ghost use Rattle.on_words.specs.Gate.{gate_of, Behind};
+// Write_dimacs on words: the file of the list in the words.
+ghost use Rattle.std.specs.Prelude.{◌≡◌, ◌≤◌, length};
+ghost use Rattle.theory.specs.Words.{HoldsList};
 ghost use Rattle.on_words.specs.Writing.{write_buffers, WriteOn};
 
-use crate::buffers::gate;
-use crate::{Gate, Written};
+use crate::buffers::Buffer;
 use dimacs::write_words;
+use lists::List;
 use records::Head;
 
-pub fn write_gate(head: Head, agreed: bool, text: usize) -> Gate
-    ensures { result ≡ gate_of head agreed (any_short (write_buffers text)) }
+// What is lent: 65,536 bytes of text.
+pub fn write_buffers(text: usize) -> [Buffer; 1]
+    ensures { result ≡ write_buffers text }
 {
-    gate(head, agreed, text < 65536)
+    [Buffer::new(text, 65536)]
 }
 
-// The words are the call's own: what they hold afterwards is free, since nobody reads them.
-pub fn write_on_words(head: Head, gate: u32, text: &mut [u8], words: &mut [u32]) -> Written
-    requires { Behind head gate words.old (write_buffers (length text.old)) }
-    ensures { WriteOn head gate text.old words.old result text.new }
+// The file of the list in the words, in front of the text; answers its length.
+pub fn write_on_words(head: Head, text: &mut [u8], words: &[u32]) -> u32
+    requires holds_list { HoldsList head.n head.m words.now }
+    requires text_long { 65536 ≤ length text.old }
+    ensures { WriteOn head text.old words.now result text.new }
 {
-    if gate != 0 {
-        return Written {
-            number: gate,
-            length: 0,
-        };
-    }
-    let end = write_words(head.n, head.m as usize, words, text);
-    Written {
-        number: 0,
-        length: end as u32,
-    }
+    write_words(
+        List::in_words(head.n as usize, head.m as usize, words),
+        text,
+    ) as u32
 }

@@ -3,14 +3,13 @@
 --   head_given, pair_given       those of its lines
 --   head_taken                   the number of the first or second line
 --   PairTaken, pair_taken        a pair line
---   taken_new                    its pair is new
 --   modules_unmet, pairs_unmet   N and M are in their ranges
 -- Assumes nothing.
 use mathlib.Core.Path.{◌≡◌, refl, sym, ap, ◌∙◌}
 use mathlib.Core.Bool.{Bool, true, false, ◌||◌}
 use mathlib.Core.Logic.{⊎_elim}
 use mathlib.Core.List.{List, [], ◌∷◌, ◌++◌}
-use mathlib.Core.Option.{some}
+use Rattle.std.proofs.Common.{Some}
 use Prim.Native.Nat.{ℕ, ◌≤◌}
 use native.Mathlib.Omega.{arith}
 use borrow.Author.Tests.{ltb-false}
@@ -22,7 +21,6 @@ use Rattle.theory.proofs.Tests.{tests, or_cases, by_test}
 use Rattle.pairs.specs.Held.{is_held, smaller_first_pair, stops_of}
 use Rattle.pairs.specs.Causes.{pair_causes, count_causes}
 use Rattle.pairs.proofs.Causes.{refusal_split, pair_then, count_then}
-use Rattle.pairs.proofs.Ends.{stops_held}
 use Rattle.lines.specs.Text.{between}
 use Rattle.lines.specs.Lines.{Line, first, second, third, line_of}
 use Rattle.lines.specs.Outcomes.{taken, line_due}
@@ -61,17 +59,17 @@ pair_given n held bs =
 
 -- the first line or the second: its form and its number
 pub head_taken : (form bs : List ℕ) (causes : ℕ → List Cause) (l : Line) → head_line form causes bs ≡ taken l →
-    (line_of 4 form bs ≡ some l) × (refusal (causes (first l)) ≡ 0)
+    (line_of 4 form bs ≡ Some l) × (refusal (causes (first l)) ≡ 0)
 unfolding head_line
 head_taken form bs causes l e =
     let p = line_passed 1 4 form bs (λ k. causes (first k)) taken l e in
     let s = taken_same p.then in
-    (p.found ∙ ap some s, ap (λ (k : Line). refusal (causes (first k))) (sym s) ∙ p.unmet)
+    (p.found ∙ ap Some s, ap (λ (k : Line). refusal (causes (first k))) (sym s) ∙ p.unmet)
 
 -- a pair line that is not refused: the three numbers on it, and the pair is new
 pub record PairTaken (n : ℕ) (held : List Pair) (bs : List ℕ) (x : Named) : Type 0 where
   pub line : Line
-  pub found : line_of 4 pair_form bs ≡ some line
+  pub found : line_of 4 pair_form bs ≡ Some line
   pub fit : refusal (pair_causes 0 n (first line) (second line)) ≡ 0
   pub count : refusal (count_causes (third line)) ≡ 0
   pub new : is_held (smaller_first_pair (first line) (second line)) held ≡ false
@@ -109,10 +107,6 @@ pair_taken n held bs x e =
       pair = ap (λ (y : Named). y.pair) s;
       rest = ap (λ (y : Named). y.rest) s;
     }
-
--- the pair that it names is new
-pub taken_new : (n : ℕ) (held : List Pair) (bs : List ℕ) (x : Named) → PairTaken n held bs x → is_held x.pair held ≡ false
-taken_new n held bs x t = rw t.pair (stops_held (first t.line) (second t.line) (third t.line) held ∙ t.new)
 
 -- N is 1 to 512
 pub modules_unmet : (n : ℕ) → refusal (modules_causes n) ≡ 0 → (1 ≤ n) × (n ≤ 512)

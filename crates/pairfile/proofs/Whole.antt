@@ -1,41 +1,36 @@
 -- The whole file, put together from its lines.
 --   same_all, same_more                    words that have not been written, and fewer that may have been
 --   file_refused, file_taken               the answer for each outcome
---   head_ends                             the end of the first line or the second
---   first_refused, second_refused          refused on the first two lines
---   second_le                              M is at most 4,096
+--   first_malformed, first_unfit           refused on the first line: 1, 2
+--   second_malformed, second_unfit         refused on the second: 1, 3, 11
+--   pairs_few                              M is at most 4,096
 --   pairs_refused, pairs_taken             refused after them, or the list
 -- Assumes nothing.
-use mathlib.Core.Path.{◌≡◌, refl, ap, ◌∙◌}
-use mathlib.Core.List.{List, []}
-use Prim.Native.Nat.{ℕ, ◌+◌, ◌≤◌}
-use native.Mathlib.Omega.{arith}
-use lib.ListN.{length, drop}
-use Rattle.theory.specs.Basics.{table}
+use Rattle.std.proofs.Common.{◌≡◌, refl, ◌∙◌, List, [], ◌∷◌, ℕ, ◌+◌, ◌≤◌, Some, None, Ok, Err, arith}
 use Rattle.theory.specs.Lists.{Pairs}
-use Rattle.theory.specs.Words.{pairs_in, laid_pairs}
+use Rattle.theory.specs.Words.{laid_list}
+use Rattle.theory.specs.Refusals.{Cause, refusal}
 use Rattle.theory.proofs.Words.{length_laid}
+use Rattle.refusals.specs.declared.Refusal.{Refusal}
+use Rattle.refusals.specs.declared.Refusal.TheVariants.{BadLine}
+use Rattle.refusals.specs.Numbers.{number_of}
 use Rattle.pairs.proofs.General.{drop_more}
-use Rattle.lines.specs.Lines.{Line, first}
-use Rattle.lines.specs.Outcomes.{Outcome, refused, taken, ◌>>=◌}
-use Rattle.pairfile.specs.File.{pairs_form, modules_line, pairs_causes, pairs_line, read_pairs, read_file}
-use Rattle.pairfile.specs.Answers.{
-  head_in,
-  head_end,
-  HeadRead,
-  SamePast,
-  pairs_or,
-  PairsRead,
-  reading_of,
-  pairs_of,
-  pairs_used,
-  WordsRead,
-  FileRead,
+use Rattle.lines.specs.Lines.{first, line_of}
+use Rattle.lines.specs.Outcomes.{Outcome, refused, taken, ◌>>=◌, ◌>>◌, line_or, line_due, outcome_of}
+use Rattle.lines.proofs.Found.{judged_by, judge_passed}
+use Rattle.pairfile.specs.File.{
+  modules_form,
+  pairs_form,
+  head_line,
+  modules_causes,
+  modules_line,
+  pairs_causes,
+  pairs_line,
+  read_pairs,
+  read_file,
 }
-use Rattle.pairfile.specs.declared.HeadLine.{HeadLine}
-use Rattle.pairfile.specs.declared.HeadLine.TheVariants.{Refused as refused_head, Number as head}
-use Rattle.pairfile.proofs.Taken.{head_taken, pairs_unmet}
-use Rattle.pairfile.proofs.Filing.{number_or}
+use Rattle.pairfile.specs.Answers.{SamePast, PairsRead, pairs_used, WordsRead, FileRead}
+use Rattle.pairfile.proofs.Taken.{pairs_unmet}
 
 -- words that have not been written, and fewer that may have been
 pub same_all : (words : List ℕ) → SamePast 4096 words words
@@ -46,65 +41,85 @@ same_more m k old words h s =
     record { between = λ t j l. s.between t (omega arith) l; beyond = drop_more (8192 + m) (8192 + k) words old (omega arith) s.beyond }
 
 -- what any reader of words answers
-module _ (due : Outcome Pairs) (old words : List ℕ) where
+module _ {due : Outcome Pairs} {old words : List ℕ} where
   -- where a file is refused
-  pub file_refused : (k : ℕ) → due ≡ refused k → SamePast 4096 old words → WordsRead due old words (record { number = k; n = 0; m = 0 })
-  unfolding reading_of pairs_of pairs_used laid_pairs pairs_in table
-  file_refused k e p = record { reading = rw e; pairs = rw e; past = rw e p }
+  pub file_refused : (e : Refusal) → due ≡ refused (number_of e) → SamePast 4096 old words → WordsRead due old words (Err e)
+  unfolding outcome_of pairs_used
+  file_refused e d p = record { found = d; past = rw d p }
 
   -- and where one is taken
-  pub file_taken : (n m : ℕ) → due ≡ taken (record { n = n; pairs = laid_pairs m words }) → SamePast m old words →
-      WordsRead due old words (record { number = 0; n = n; m = m })
-  unfolding reading_of pairs_of pairs_used
-  file_taken n m e p =
-      let s = length_laid m words in
-      record { reading = rw (e, s); pairs = rw e; past = rw (e, s) p }
+  pub file_taken : (n m : ℕ) → due ≡ taken (laid_list n m words) → SamePast m old words → WordsRead due old words (Ok (record { n = n; m = m }))
+  unfolding outcome_of pairs_used laid_list
+  file_taken n m d p = record { found = d; past = rw (d, length_laid m words) p }
 
--- where a line with one number ends
-pub head_ends : {bs : List ℕ} {due : Outcome Line} {r : HeadLine} {v i : ℕ} → HeadRead bs due r → r ≡ head v i → i ≤ length bs
-unfolding head_end
-head_ends f e = omega (arith, f.within, ap head_end e)
+-- the first line or the second, judged by its causes
+module _ (form : List ℕ) (causes : ℕ → List Cause) (bs : List ℕ) where
+  -- no line of the form
+  head_malformed : line_of 4 form bs ≡ None → head_line form causes bs ≡ refused 1
+  unfolding head_line line_due line_or ◌>>=◌
+  head_malformed f = rw f
 
-module _ (room : ℕ) (bs old : List ℕ) {r : HeadLine} (f : HeadRead bs (modules_line bs) r) where
-  -- refused on the first line
-  pub first_refused : {k : ℕ} → r ≡ refused_head k → FileRead room bs old old (record { number = k; n = 0; m = 0 })
-  unfolding read_file head_in ◌>>=◌
-  first_refused e = file_refused (read_file room bs) old old _ (rw (f.found, e)) (same_all old)
+  module _ (v : ℕ) (left : List ℕ) (f : line_of 4 form bs ≡ Some (record { numbers = v ∷ []; rest = left })) where
+    -- a cause is met
+    head_unfit : (e : Refusal) → number_of e ≡ refusal (causes v) → head_line form causes bs ≡ refused (number_of e)
+    unfolding head_line line_due line_or first ◌>>=◌ ◌>>◌
+    head_unfit e h = rw (f, judged_by e (causes v) h)
 
-  module _ {n next : ℕ} (e : r ≡ head n next) {q : HeadLine} (g : HeadRead bs (pairs_line room (drop next bs)) q) where
-    second : read_file room bs ≡ (do
-      k ← head_in bs q
-      ps ← read_pairs n (first k) [] k.rest
-      taken (record { n = n; pairs = ps }))
-    unfolding read_file head_in first ◌>>=◌
-    second = rw (f.found, e, g.found)
+    -- none is
+    head_fit : refusal (causes v) ≡ 0 → head_line form causes bs ≡ taken (record { numbers = v ∷ []; rest = left })
+    unfolding head_line line_due line_or first ◌>>=◌ ◌>>◌
+    head_fit h = rw (f, judge_passed (causes v) h)
 
-    -- refused on the second
-    pub second_refused : {k : ℕ} → q ≡ refused_head k → FileRead room bs old old (record { number = k; n = 0; m = 0 })
-    unfolding head_in ◌>>=◌
-    second_refused d = file_refused (read_file room bs) old old _ (second ∙ rw d) (same_all old)
+module _ (room : ℕ) (bs old : List ℕ) where
+  -- 1
+  pub first_malformed : line_of 4 modules_form bs ≡ None → FileRead room bs old old (Err BadLine)
+  unfolding read_file modules_line ◌>>=◌
+  first_malformed f = file_refused BadLine (rw (head_malformed modules_form modules_causes bs f)) (same_all old)
 
-    module _ {m at : ℕ} (d : q ≡ head m at) where
-      -- M is at most 4,096
-      pub second_le : m ≤ 4096
-      unfolding pairs_line head_in first
-      second_le = (pairs_unmet room m (head_taken pairs_form (drop next bs) (pairs_causes room) _ (g.found ∙ ap (head_in bs) d)).1).0
+  module _ (n : ℕ) (after : List ℕ) (f : line_of 4 modules_form bs ≡ Some (record { numbers = n ∷ []; rest = after })) where
+    -- 2
+    pub first_unfit : (e : Refusal) → number_of e ≡ refusal (modules_causes n) → FileRead room bs old old (Err e)
+    unfolding read_file modules_line ◌>>=◌
+    first_unfit e h = file_refused e (rw (head_unfit modules_form modules_causes bs n after f e h)) (same_all old)
 
-      module _ (words : List ℕ) (k : ℕ) (p : PairsRead bs at n m old words k) where
-        third : read_file room bs ≡ (do
-          ps ← pairs_or k (laid_pairs m words)
-          taken (record { n = n; pairs = ps }))
-        unfolding head_in first ◌>>=◌
-        third = second ∙ rw (d, p.found)
+    module _ (fit : refusal (modules_causes n) ≡ 0) where
+      from_second : read_file room bs ≡ (do
+        k ← pairs_line room after
+        ps ← read_pairs n (first k) [] k.rest
+        taken (record { n = n; pairs = ps }))
+      unfolding read_file modules_line first ◌>>=◌
+      from_second = rw (head_fit modules_form modules_causes bs n after f fit)
 
-        -- refused after them
-        pub pairs_refused : (k ≡ 0 → ⊥) → FileRead room bs old words (record { number = k; n = 0; m = 0 })
-        unfolding ◌>>=◌
-        pairs_refused h =
-            file_refused (read_file room bs) old words k (third ∙ rw (number_or k (laid_pairs m words) h))
-            (same_more m 4096 old words second_le p.past)
+      -- 1
+      pub second_malformed : line_of 4 pairs_form after ≡ None → FileRead room bs old old (Err BadLine)
+      unfolding pairs_line ◌>>=◌
+      second_malformed g =
+          file_refused BadLine (from_second ∙ rw (head_malformed pairs_form (pairs_causes room) after g)) (same_all old)
 
-        -- the list
-        pub pairs_taken : k ≡ 0 → FileRead room bs old words (record { number = 0; n = n; m = m })
-        unfolding pairs_or ◌>>=◌
-        pairs_taken z = file_taken (read_file room bs) old words n m (third ∙ rw z) p.past
+      module _ (m : ℕ) (left : List ℕ) (g : line_of 4 pairs_form after ≡ Some (record { numbers = m ∷ []; rest = left })) where
+        -- 3, 11
+        pub second_unfit : (e : Refusal) → number_of e ≡ refusal (pairs_causes room m) → FileRead room bs old old (Err e)
+        unfolding pairs_line ◌>>=◌
+        second_unfit e h =
+            file_refused e (from_second ∙ rw (head_unfit pairs_form (pairs_causes room) after m left g e h)) (same_all old)
+
+        module _ (fits : refusal (pairs_causes room m) ≡ 0) where
+          -- M is at most 4,096
+          pub pairs_few : m ≤ 4096
+          pairs_few = (pairs_unmet room m fits).0
+
+          from_third : read_file room bs ≡ (do
+            ps ← read_pairs n m [] left
+            taken (record { n = n; pairs = ps }))
+          unfolding pairs_line first ◌>>=◌
+          from_third = from_second ∙ rw (head_fit pairs_form (pairs_causes room) after m left g fits)
+
+          -- refused after them
+          pub pairs_refused : {e : Refusal} {words : List ℕ} → PairsRead left n m old words (Err e) → FileRead room bs old words (Err e)
+          unfolding outcome_of ◌>>=◌
+          pairs_refused {e} {words} p = file_refused e (from_third ∙ rw p.found) (same_more m 4096 old words pairs_few p.past)
+
+          -- the list
+          pub pairs_taken : {words : List ℕ} → PairsRead left n m old words (Ok tt) → FileRead room bs old words (Ok (record { n = n; m = m }))
+          unfolding outcome_of laid_list ◌>>=◌
+          pairs_taken p = file_taken n m (from_third ∙ rw p.found) p.past

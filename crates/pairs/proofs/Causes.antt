@@ -1,27 +1,27 @@
 -- Causes in a row, and what follows where two module numbers are not refused.
 --   refusal_first    a number given by the causes in front
 --   refusal_split    where no cause is met, none of those in front is
+--   pair_number, count_number    the number that two modules give, and that a stop count gives
 --   pair_round, causes_round    2,5 is the same pair as 5,2, and refused alike
 --   pair_then        where two module numbers are not refused the causes behind decide
 --   numbers_known    both are then modules, as they are numbered, and differ
 --   pair_fit         two such numbers are not refused
 --   modules_known    numbered from 0, both are below N
---   pair_good        the pair of two such modules, smaller first, is one that a list may hold
---   count_low, count_high, count_fit    a stop count below 1, above 1,000, and neither
+--   count_fit        a stop count of 1 to 1,000 is not refused
 --   count_known, count_then             one that is not refused is 1 to 1,000, and the causes behind decide
 --   count_stays      a raised count that is not refused is at most 1,000
 --   stops_round      w stops of 2,5 are w stops of 5,2
 --   stops_good       with such a count that pair is one that a list may hold
 -- Assumes nothing.
 use mathlib.Core.Path.{◌≡◌, refl, sym, ◌∙◌}
-use mathlib.Core.Bool.{true, false, ◌&&◌, and_comm, and-false}
+use mathlib.Core.Bool.{true, false, ◌&&◌, cond, and_comm}
 use mathlib.Core.Logic.{◌≢◌}
 use mathlib.Core.List.{List, [], ◌∷◌, ◌++◌}
 use Prim.Native.Nat.{ℕ, zero, suc, ◌+◌, ◌≤◌, ◌<◌, min, max}
 use native.Mathlib.Omega.{arith}
 use lib.Dec.{leb, eqb}
-use borrow.Author.Tests.{eqb-true, eqb-false, eq-eqb, ne_eqb, le-leb, lt-leb, lt-ltb, ltb-false}
-use Rattle.theory.specs.Lists.{Pair, pair, ends_in_range, smaller_first, weight_in_range}
+use borrow.Author.Tests.{eqb-true, eqb-false, eq-eqb, ne_eqb, le-leb, lt-ltb, ltb-false}
+use Rattle.theory.specs.Lists.{Pair, ends_in_range, smaller_first, weight_in_range}
 use Rattle.theory.specs.Refusals.{Cause, cause, refusal}
 use Rattle.theory.proofs.Tests.{tests, by_test}
 use Rattle.pairs.specs.Held.{weight_of, smaller_first_pair, stops_of}
@@ -40,6 +40,15 @@ refusal_split cs ds e = go (refusal cs) refl
     go : (k : ℕ) → refusal cs ≡ k → refusal cs ≡ 0
     go zero d = d
     go (suc k) d = absurd (omega (arith, refusal_first cs ds (λ z. omega (arith, d, z)), d, e))
+
+-- the number that two modules give, and that a stop count gives
+pub pair_number : (lowest n a b : ℕ) → refusal (pair_causes lowest n a b) ≡ cond (eqb a b) 5 (cond (is_module lowest n a && is_module lowest n b) 0 4)
+unfolding pair_causes self_paired module_unknown cause refusal
+pair_number lowest n a b = by_test (is_module lowest n a && is_module lowest n b) (λ t. rw t) (λ t. rw t)
+
+pub count_number : (w : ℕ) → refusal (count_causes w) ≡ cond (leb 1 w && leb w 1000) 0 18
+unfolding count_causes count_outside cause refusal
+count_number w = by_test (leb 1 w && leb w 1000) (λ t. rw t) (λ t. rw t)
 
 -- 2,5 is the same pair as 5,2
 module _ (a b : ℕ) where
@@ -69,19 +78,19 @@ module _ (a b : ℕ) where
 
 -- two numbers that are not refused are modules, and differ; and the causes that stand behind decide
 module _ (lowest n a b : ℕ) (taken : refusal (pair_causes lowest n a b) ≡ 0) where
-  known : ((is_module lowest n a && is_module lowest n b) ≡ true) × (self_paired a b ≡ false)
-  unfolding pair_causes module_unknown cause refusal
+  known : ((is_module lowest n a && is_module lowest n b) ≡ true) × (eqb a b ≡ false)
   known =
-      by_test (is_module lowest n a && is_module lowest n b)
-      (λ t. by_test (self_paired a b) (λ u. absurd (omega (arith, simp (t, u) at taken))) (λ u. (t, u)))
-      (λ t. by_test (self_paired a b) (λ u. absurd (omega (arith, simp (t, u) at taken))) (λ u. absurd (omega (arith, simp (t, u) at taken))))
+      let none = sym (pair_number lowest n a b) ∙ taken in
+      by_test (eqb a b)
+      (λ t. absurd (omega (arith, rw t at none)))
+      (λ t. by_test (is_module lowest n a && is_module lowest n b) (λ u. (u, t)) (λ u. absurd (omega (arith, rw (t, u) at none))))
 
   pub pair_then : (cs : List Cause) → refusal (pair_causes lowest n a b ++ cs) ≡ refusal cs
-  unfolding pair_causes module_unknown cause refusal
-  pair_then cs = simp (known.0, known.1)
+  unfolding pair_causes self_paired module_unknown cause refusal
+  pair_then cs = rw (known.0, known.1)
 
   pub numbers_known : ((lowest ≤ a) × (a < lowest + n)) × ((lowest ≤ b) × (b < lowest + n)) × (a ≡ b → ⊥)
-  unfolding is_module self_paired
+  unfolding is_module
   numbers_known = let k = simp tests at known.0 in (k.0, k.1, eqb-false a b known.1)
 
 -- two modules that differ are not refused
@@ -94,25 +103,7 @@ pair_fit lowest n a b h l i m d =
 pub modules_known : (n a b : ℕ) → refusal (pair_causes 0 n a b) ≡ 0 → (a < n) × (b < n) × (a ≡ b → ⊥)
 modules_known n a b taken = let k = numbers_known 0 n a b taken in (omega (arith, k.0), omega (arith, k.1), k.2)
 
--- the pair of two modules that differ, smaller first, is one that a list may hold
-pub pair_good : (n a b : ℕ) → (a < n) × (b < n) × (a ≡ b → ⊥) →
-    let p = smaller_first_pair a b in (ends_in_range n p ≡ true) × (smaller_first p ≡ true) × (weight_in_range p ≡ true)
-unfolding smaller_first_pair pair ends_in_range smaller_first weight_in_range
-pair_good n a b t =
-    let d : a ≢ b = t.2 in
-    (simp tests (omega (arith, t.0, t.1), omega (arith, t.0, t.1)), simp tests (omega arith), refl)
-
--- 18: a stop count is below 1
-pub count_low : (w : ℕ) → w < 1 → refusal (count_causes w) ≡ 18
-unfolding count_causes count_outside cause refusal
-count_low w h = rw (lt-leb 1 w h)
-
--- 18: it is above 1,000
-pub count_high : (w : ℕ) → 1000 < w → refusal (count_causes w) ≡ 18
-unfolding count_causes count_outside cause refusal
-count_high w h = rw (lt-leb w 1000 h, and-false)
-
--- neither
+-- a stop count of 1 to 1,000 is not refused
 pub count_fit : (w : ℕ) → 1 ≤ w → w ≤ 1000 → refusal (count_causes w) ≡ 0
 unfolding count_causes count_outside cause refusal
 count_fit w h l = rw (le-leb 1 w h, le-leb w 1000 l)

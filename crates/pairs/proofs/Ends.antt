@@ -1,8 +1,8 @@
 -- What goes by a pair's ends alone: its count does not matter.
 --   after_same, held_same, weight_same, place_same    the same pair is held alike, counts alike and has the same place
 --   stops_ends                            w stops of a pair are the same pair
---   same_stops, stops_same, stops_before, before_stops    so each test of it goes as that of the pair,
---   stops_held, stops_weight, stops_place                 and so do its place in a list and its count there
+--   same_stops                            so each test of it goes as that of the pair,
+--   stops_held, stops_weight, stops_place    and so do its place in a list and its count there
 -- Assumes nothing.
 use mathlib.Core.Path.{◌≡◌, refl}
 use mathlib.Core.Bool.{true}
@@ -42,18 +42,6 @@ module _ (a b w : ℕ) where
   pub same_stops : (r : Pair) → same_ends r (stops_of a b w) ≡ same_ends r (smaller_first_pair a b)
   unfolding stops_of smaller_first_pair pair same_ends
   same_stops r = refl
-
-  pub stops_same : (r : Pair) → same_ends (stops_of a b w) r ≡ same_ends (smaller_first_pair a b) r
-  unfolding stops_of smaller_first_pair pair same_ends
-  stops_same r = refl
-
-  pub stops_before : (r : Pair) → stands_before (stops_of a b w) r ≡ stands_before (smaller_first_pair a b) r
-  unfolding stops_of smaller_first_pair pair stands_before
-  stops_before r = refl
-
-  pub before_stops : (r : Pair) → stands_before r (stops_of a b w) ≡ stands_before r (smaller_first_pair a b)
-  unfolding stops_of smaller_first_pair pair stands_before
-  before_stops r = refl
 
   pub stops_held : (ps : List Pair) → is_held (stops_of a b w) ps ≡ is_held (smaller_first_pair a b) ps
   stops_held ps = held_same (stops_of a b w) (smaller_first_pair a b) ps stops_ends

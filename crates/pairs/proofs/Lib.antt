@@ -8,10 +8,9 @@ pub mod Keeps
 pub mod Causes
 pub mod Twice
 pub mod Shifts
-pub mod Moves
 pub mod Words
-pub mod Searching
+pub mod Finding
 pub mod Counts
 pub mod Places
 pub mod Raised
-pub mod Stops
+pub mod WordCounts

@@ -1,19 +1,18 @@
 -- The order of pairs, by first and then second number, is total: of two pairs one stands before the other, or they are the same pair.
 --   before_iff, same_iff    the tests, as facts about the numbers
 --   before_trans            what stands before a pair that stands before another stands before that one
---   same_first, other_first    the test of the order by cases, as stands_before goes
 --   before_not_after, before_not_same, same_not_before    what excludes what
 --   same_refl, same_sym, same_before, same_same    the same pair behaves alike
 --   order_cases             two pairs compared, with every test decided
 -- Assumes nothing.
 use mathlib.Core.Path.{◌≡◌, refl, sym, ◌∙◌}
-use mathlib.Core.Bool.{Bool, true, false, ◌&&◌, ◌||◌, or-false}
+use mathlib.Core.Bool.{Bool, true, false, ◌&&◌, ◌||◌}
 use mathlib.Core.Logic.{◌↔◌}
 use Prim.Native.Nat.{ℕ, ◌≤◌, ◌<◌}
 use native.Mathlib.Omega.{arith}
 use lib.Dec.{ltb, eqb}
-use borrow.Author.Tests.{ltb-true, ltb-false, eqb-false, le-ltb, eq-eqb, ne_eqb}
-use Rattle.theory.specs.Lists.{Pair, pair, stands_before}
+use borrow.Author.Tests.{ltb-true, ltb-false, eqb-false}
+use Rattle.theory.specs.Lists.{Pair, stands_before}
 use Rattle.theory.proofs.Tests.{tests, no, fails}
 use Rattle.pairs.specs.Held.{same_ends}
 
@@ -58,15 +57,6 @@ before_trans p q r h k =
     let h' = simp order at h in
     let k' = simp order at k in
     simp order (omega arith, λ l. omega (arith, h'.1 (omega arith), k'.1 (omega arith)))
-
--- the test by cases: where the first numbers are the same, and where they are not
-pub same_first : (a b c d : ℕ) → a ≡ c → ltb b d ≡ stands_before (pair a b) (pair c d)
-unfolding stands_before pair
-same_first a b c d e = rw (e, le-ltb c c (omega arith), eq-eqb c c refl)
-
-pub other_first : (a b c d : ℕ) → (a ≡ c → ⊥) → ltb a c ≡ stands_before (pair a b) (pair c d)
-unfolding stands_before pair
-other_first a b c d e = rw (ne_eqb a c e) (sym (or-false (ltb a c)))
 
 -- no two pairs stand before each other
 pub before_not_after : (p r : Pair) → stands_before p r ≡ true → stands_before r p ≡ false

@@ -1,4 +1,5 @@
 -- Stops more and stops less of a pair, in words.
+--   counted                    a pair with its stops
 --   count_at, set_count        the count at a place, and the words with another there
 --   Raisable                   what raise asks
 --   raised, pairs_raised       the words after it, and how many pairs are held
@@ -7,7 +8,12 @@
 use Rattle.std.specs.Prelude.{◌≡◌, true, false, cond, List, ℕ, ◌+◌, ◌-◌, ◌≤◌, ◌<◌, leb, length, get_or, set}
 use Rattle.theory.specs.Lists.{Pair}
 use Rattle.pairs.specs.Shifts.{insert_at, delete_at}
-use Rattle.pairs.specs.declared.Place.{Place}
+use Rattle.pairs.specs.Located.{Place}
+use Rattle.pairs.specs.declared.Stops.{Stops}
+
+-- the pair with its count that stops are
+abbrev pub counted : Stops → Pair
+counted s = record { a = s.a; b = s.b; w = s.w }
 
 -- the count of the pair at a place
 unfoldable pub count_at : (at : ℕ) → (words : List ℕ) → ℕ

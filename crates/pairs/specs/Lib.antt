@@ -4,5 +4,4 @@ pub mod Causes
 pub mod Twice
 pub mod Shifts
 pub mod Located
-pub mod Searching
 pub mod Counts

@@ -1,16 +1,17 @@
 -- Degrees and joint weights by the words of the pairs.
 --   degree_ends                the degree among all modules: what the pairs weigh at a module
---   adjacency_degrees          the degrees that `slots::adjacency` leaves
---   joint_ways                 what joins two modules, by row and by chain
+--   adjacency_degrees          the degrees that `slots::Adjacency` adds up
+--   joint_row                  what joins two modules, by the neighbours of one
 -- Assumes nothing.
 use mathlib.Core.Path.{◌≡◌, refl, sym, ◌∙◌}
 use mathlib.Core.Bool.{Bool, true, false, ◌&&◌, ◌||◌, cond}
 use mathlib.Core.List.{List}
-use Prim.Native.Nat.{ℕ, zero, suc, ◌+◌, ◌*◌, ◌<◌}
+use mathlib.Core.Logic.{⊎_elim}
+use Prim.Native.Nat.{ℕ, zero, suc, ◌+◌, ◌*◌, ◌/◌, ◌<◌}
 use native.Mathlib.Omega.{arith}
 use lib.Dec.{eqb}
 use lib.ListN.{get_or}
-use borrow.Author.Tests.{eqb-true}
+use borrow.Author.Tests.{eqb-true, eq-eqb, ne_eqb}
 use Rattle.theory.specs.Basics.{table}
 use Rattle.theory.specs.Lists.{Pair, is_list}
 use Rattle.theory.specs.Groups.{everyone}
@@ -19,11 +20,13 @@ use Rattle.theory.specs.Words.{word_pair, pairs_in, list_in, HeldWords}
 use Rattle.theory.proofs.Tests.{no}
 use Rattle.theory.proofs.Groups.{in_everyone}
 use Rattle.theory.proofs.Peeling.{joint}
-use Rattle.slots.specs.Slots.{total}
-use Rattle.slots.specs.Rows.{first_end, second_end, weight_at, Adjacency}
-use Rattle.slots.proofs.Totals.{total_ext, total_first, total_sum}
+use Rattle.slots.specs.Slots.{mate, total}
+use Rattle.slots.specs.Rows.{first_end, second_end, weight_at, row}
+use Rattle.slots.proofs.Totals.{total_ext, total_first, total_pairs}
+use Rattle.slots.proofs.Choice.{eq_or_ne}
+use Rattle.slots.proofs.Mates.{mate_even, mate_odd}
 use Rattle.slots.proofs.Words.{good_pair}
-use Rattle.peel.specs.Steps.{pair_to, one_way, both_ways, Degrees}
+use Rattle.peel.specs.Steps.{joined, Degrees}
 
 -- ---- sums over pairs
 
@@ -46,6 +49,24 @@ joint_total zero f u v = refl
 joint_total (suc m) f u v =
     omega (arith, joint_total m (λ j. f (suc j)) u v, total_first m (λ j. pair_joint u v (f j)))
 
+-- ---- neighbours
+
+eqb_sym : (a b : ℕ) → eqb a b ≡ eqb b a
+eqb_sym a b = ⊎_elim (λ (e : a ≡ b). rw e refl) (λ ne. rw (ne_eqb a b ne, ne_eqb b a (λ e. ne (sym e))) refl) (eq_or_ne a b)
+
+-- what slot s counts from its module v to u
+slot_to : (ends weights : List ℕ) (v u s : ℕ) → ℕ
+slot_to es ws v u s = cond (eqb (get_or es s 0) v) (cond (eqb u (get_or es (mate s) 0)) (get_or ws (s / 2) 0) 0) 0
+
+joined_row : (ends weights : List ℕ) (v u k : ℕ) → joined (row ends weights v k) u ≡ total k (slot_to ends weights v u)
+unfolding joined row total slot_to
+joined_row es ws v u zero = refl
+joined_row es ws v u (suc k) =
+    ⊎_elim
+    (λ (e : get_or es k 0 ≡ v). rw (eq-eqb (get_or es k 0) v e) (omega (arith, joined_row es ws v u k)))
+    (λ ne. rw (ne_eqb (get_or es k 0) v ne) (omega (arith, joined_row es ws v u k)))
+    (eq_or_ne (get_or es k 0) v)
+
 -- ---- one pair, by its two ends
 
 degree_pair : (ea eb ia ib : Bool) (w : ℕ) → (ea ≡ true → eb ≡ true → ⊥) → ia ≡ true → ib ≡ true →
@@ -58,11 +79,10 @@ degree_pair false true false ib w n f h = no f
 degree_pair false false ia ib w n f h = omega arith
 
 joint_pair : (au bv bu av : Bool) (w : ℕ) → (au ≡ true → bu ≡ true → ⊥) →
-    cond ((au && bv) || (bu && av)) w 0 ≡ cond (av && bu) w 0 + cond (bv && au) w 0
-joint_pair true true true av w n = absurd (n refl refl)
+    cond ((au && bv) || (bu && av)) w 0 ≡ cond av (cond bu w 0) 0 + cond bv (cond au w 0) 0
+joint_pair true bv true av w n = absurd (n refl refl)
 joint_pair true true false true w n = omega arith
 joint_pair true true false false w n = omega arith
-joint_pair true false true av w n = absurd (n refl refl)
 joint_pair true false false true w n = omega arith
 joint_pair true false false false w n = omega arith
 joint_pair false true true true w n = omega arith
@@ -92,13 +112,15 @@ module _ (n m : ℕ) (ends weights : List ℕ) (h : is_list (list_in n m ends we
       (in_everyone (list_in n m ends weights) a (omega (arith, g.below, g.first))) (in_everyone (list_in n m ends weights) b g.below)
 
   joint_two : (u v j : ℕ) → j < m →
-      pair_joint u v (word_pair ends weights j)
-      ≡ pair_to (first_end ends) (second_end ends) weights v u j + pair_to (second_end ends) (first_end ends) weights v u j
-  unfolding pair_joint pair_to word_pair first_end second_end
+      pair_joint u v (word_pair ends weights j) ≡ slot_to ends weights v u (2 * j) + slot_to ends weights v u (2 * j + 1)
+  unfolding pair_joint slot_to word_pair
   joint_two u v j l =
       let a : ℕ = get_or ends (2 * j) 0 in
       let b : ℕ = get_or ends (2 * j + 1) 0 in
-      joint_pair (eqb a u) (eqb b v) (eqb b u) (eqb a v) (get_or weights j 0) (differ j l u)
+      let e : 2 * j / 2 ≡ j = omega arith in
+      let f : (2 * j + 1) / 2 ≡ j = omega arith in
+      rw (mate_even, mate_odd, e, f, eqb_sym u b, eqb_sym u a)
+      (joint_pair (eqb a u) (eqb b v) (eqb b u) (eqb a v) (get_or weights j 0) (differ j l u))
 
   -- the degree of v among all modules
   pub degree_ends : (v : ℕ) → degree (list_in n m ends weights) (everyone (list_in n m ends weights)) v ≡ weight_at ends weights m v
@@ -108,14 +130,15 @@ module _ (n m : ℕ) (ends weights : List ℕ) (h : is_list (list_in n m ends we
       ∙ total_ext m _ _ (degree_two v)
 
   -- what joins u and v
-  pub joint_ways : (u v : ℕ) → joint (pairs_in m ends weights) u v ≡ both_ways ends weights v m u
-  unfolding both_ways one_way pairs_in
-  joint_ways u v =
+  pub joint_row : (u v : ℕ) → joint (pairs_in m ends weights) u v ≡ joined (row ends weights v (2 * m)) u
+  unfolding pairs_in
+  joint_row u v =
       joint_total m (word_pair ends weights) u v
       ∙ total_ext m _ _ (joint_two u v)
-      ∙ total_sum m (pair_to (first_end ends) (second_end ends) weights v u) (pair_to (second_end ends) (first_end ends) weights v u)
+      ∙ sym (total_pairs m (slot_to ends weights v u))
+      ∙ sym (joined_row ends weights v u (2 * m))
 
-pub adjacency_degrees : {n m : ℕ} {ends weights rows first next degrees : List ℕ} → HeldWords n m ends weights →
-    Adjacency n m ends weights rows first next degrees → Degrees n (list_in n m ends weights) degrees
-unfolding Degrees
-adjacency_degrees {n} {m} {ends} {weights} h d v l = d.degrees_are v l ∙ sym (degree_ends n m ends weights h.listed v)
+pub adjacency_degrees : {n m : ℕ} {ends weights : List ℕ} (degrees : List ℕ) → HeldWords n m ends weights →
+    ((v : ℕ) → v < n → get_or degrees v 0 ≡ weight_at ends weights m v) → Degrees (list_in n m ends weights) degrees
+unfolding Degrees list_in
+adjacency_degrees {n} {m} {ends} {weights} degrees h d v l = d v l ∙ sym (degree_ends n m ends weights h.listed v)

@@ -1,5 +1,5 @@
 -- Core numbers and places, entry by entry.
---   numbered_none, numbered_next    of the first i modules of an order
+--   numbered_next    of the first i modules of an order
 -- Assumes nothing.
 use mathlib.Core.Path.{◌≡◌, refl, ◌∙◌}
 use mathlib.Core.Bool.{Bool, true, false}
@@ -14,17 +14,6 @@ use Rattle.theory.specs.Basics.{greatest}
 use Rattle.slots.specs.Buffers.{entry}
 use Rattle.peel.specs.Steps.{Numberable, Numbered}
 
-pub numbered_none : (n : ℕ) (order finals cores place : List ℕ) → Numbered 0 n order finals cores place cores place
-numbered_none n order finals cores place =
-    record {
-      cores_long = refl;
-      place_long = refl;
-      cores_are = λ j h. absurd (omega arith);
-      places_are = λ j h. absurd (omega arith);
-      cores_rest = λ u h. refl;
-      places_rest = λ u h. refl;
-    }
-
 -- the modules of an order are different, so writing at one leaves the others alone
 write_next : (n i : ℕ) (order xs : List ℕ) (f : ℕ → ℕ) (x : ℕ) → i < n → get_or order i 0 < length xs →
     ((j : ℕ) → j < n → get_or order j 0 ≡ get_or order i 0 → j ≡ i) → x ≡ f i →
@@ -37,21 +26,21 @@ write_next n i order xs f x h room apart e all j l = go (eqb j i) refl
         let ne : j ≡ i → ⊥ = eqb-false j i w in
         get_or-set_other xs (get_or order i 0) (get_or order j 0) x 0 (λ y. ne (apart j (omega arith) y)) ∙ all j (omega arith)
 
-module _ (n : ℕ) (order finals cores place : List ℕ) (b : Numberable n order finals cores place) (i : ℕ) (h : i < n)
-    (cores' place' : List ℕ) (d : Numbered i n order finals cores place cores' place') where
+module _ (order finals cores place : List ℕ) (b : Numberable order finals cores place) (i : ℕ) (h : i < length order)
+    (cores' place' : List ℕ) (d : Numbered i order finals cores place cores' place') where
   pub numbered_next : (v top : ℕ) → v ≡ get_or order i 0 → top ≡ greatest (suc i) (entry finals) →
-      Numbered (i + 1) n order finals cores place (set cores' v top) (set place' v i)
+      Numbered (i + 1) order finals cores place (set cores' v top) (set place' v i)
   numbered_next v top at e =
-      let low : get_or order i 0 < n = b.below i h in
+      let low : get_or order i 0 < length order = b.below i h in
       rw at
       (record {
         cores_long = length-set cores' (get_or order i 0) top ∙ d.cores_long;
         place_long = length-set place' (get_or order i 0) i ∙ d.place_long;
         cores_are =
-            write_next n i order cores' (λ j. greatest (suc j) (entry finals)) top h (omega (arith, d.cores_long, b.cores_long))
+            write_next (length order) i order cores' (λ j. greatest (suc j) (entry finals)) top h (omega (arith, d.cores_long, b.cores_long))
             (λ j l. b.apart j i l h) e d.cores_are;
         places_are =
-            write_next n i order place' (λ j. j) i h (omega (arith, d.place_long, b.place_long)) (λ j l. b.apart j i l h) refl
+            write_next (length order) i order place' (λ j. j) i h (omega (arith, d.place_long, b.place_long)) (λ j l. b.apart j i l h) refl
             d.places_are;
         cores_rest = λ u l. get_or-set_other cores' (get_or order i 0) u top 0 (λ w. omega arith) ∙ d.cores_rest u l;
         places_rest = λ u l. get_or-set_other place' (get_or order i 0) u i 0 (λ w. omega arith) ∙ d.places_rest u l;

@@ -1,8 +1,7 @@
 -- The densest remainder, by the final degrees and by the list itself.
---   cross_fits                          a cross product fits 32 bits
---   remaining_start, remaining_next, remaining_fits, remaining_le    what is left inside, turn by turn
---   best_start, best_next, best_light   the densest so far
---   inside_finals, finals_all, remaining_inside    what is left inside is the remainder's inside count
+--   remaining_total                     what is left inside, and the final degrees of those that have left
+--   best_next                           the densest so far
+--   inside_finals, finals_inside, remaining_inside    what is left inside is the remainder's inside count
 --   all_light                           it is at most 4,096,000
 --   denser_by_is, densest_by_is         the densest by the final degrees is the densest remainder
 --   densest_best, densest_larger        no remainder of as many modules is denser, and none as dense is larger
@@ -14,10 +13,12 @@ use mathlib.Core.Logic.{⊎_elim}
 use Prim.Native.Nat.{ℕ, zero, suc, ◌+◌, ◌*◌, ◌-◌, ◌≤◌, ◌<◌}
 use native.Mathlib.Omega.{arith}
 use native.Mathlib.Numerals.{add-one}
-use native.Mathlib.Nat.{mul-le-mul_right}
 use lib.Dec.{leb}
 use borrow.Author.Tests.{leb-true, leb-false, le-leb}
-use lib.ListN.{get_or}
+use lib.ListN.{length, get_or}
+use Rattle.std.specs.List.{sum}
+use Rattle.std.proofs.Math.Seq.{drop-length}
+use Rattle.std.proofs.lemmas.List.Sums.{sum_by-drop_more}
 use Rattle.theory.specs.Lists.{Pairs, is_list}
 use Rattle.theory.specs.Groups.{size, everyone, holds_pair, inside, at_most}
 use Rattle.theory.specs.Leaving.{degree, leaving, left_behind, remainder, leaving_degree}
@@ -28,7 +29,7 @@ use Rattle.theory.proofs.Groups.{inside_none}
 use Rattle.theory.proofs.Densest.{at_most_trans, at_most_or}
 use Rattle.theory.proofs.Cores.{inside_leave}
 use Rattle.slots.specs.Slots.{total}
-use Rattle.slots.proofs.Totals.{total_next, total_ext, total_const, total_upto}
+use Rattle.slots.proofs.Totals.{total_ext, total_const}
 use Rattle.slots.proofs.Held.{cond_most}
 use Rattle.slots.proofs.Words.{few_pairs, good_pair, inside_total}
 use Rattle.peel.specs.declared.Remainder.{Remainder}
@@ -37,54 +38,34 @@ use Rattle.slots.specs.Buffers.{entry}
 use Rattle.peel.specs.Steps.{remaining, denser_by, densest_by, RemainderAt, denser}
 use Rattle.peel.proofs.Leavers.{leaver_in, remainder_size, remainder_group}
 
-pub cross_fits : (p q : ℕ) → p ≤ 4096000 → q ≤ 512 → p * q ≤ 2097152000
-cross_fits p q h k = omega (arith, mul-le-mul_right q h)
-
 -- ---- by the final degrees
 
-module _ (n : ℕ) (finals : List ℕ) where
-  pub remaining_fits : (i : ℕ) → i < n → get_or finals i 0 ≤ remaining n finals i
-  unfolding remaining entry
-  remaining_fits i l = omega (arith, total_next i (entry finals), total_upto (i + 1) n (entry finals) (omega arith))
+module _ (finals : List ℕ) where
+  -- those up to i, and those from then on
+  pub remaining_total : (i : ℕ) → i ≤ length finals → remaining finals i + total i (entry finals) ≡ sum finals
+  unfolding total entry
+  remaining_total zero l = omega arith
+  remaining_total (suc i) l = omega (arith, remaining_total i (omega arith), rw add-one at (sum_by-drop_more (λ x. x) finals i 0 (omega arith)))
 
-  pub remaining_next : (i : ℕ) → remaining n finals (i + 1) ≡ remaining n finals i - get_or finals i 0
-  unfolding remaining entry
-  remaining_next i = omega (arith, total_next i (entry finals))
-
-  pub remaining_le : (i : ℕ) → remaining n finals i ≤ total n (entry finals)
-  unfolding remaining
-  remaining_le i = omega arith
-
-  pub remaining_start : (x : ℕ) → x ≡ total n (entry finals) → x ≡ remaining n finals 0
-  unfolding remaining total
-  remaining_start x e = omega arith
-
-  -- what is compared fits
-  pub best_light : total n (entry finals) ≤ 4096000 → n ≤ 512 → (i : ℕ) (r : Remainder) → RemainderAt n finals i r → (r.p ≤ 4096000) × (r.q ≤ 512)
-  best_light h k i r l = (omega (arith, l.p_is, remaining_le i), omega (arith, l.q_is))
-
-  pub best_start : (r : Remainder) → r.p ≡ total n (entry finals) → r.q ≡ n → r.at ≡ 0 → RemainderAt n finals (densest_by n (remaining n finals) 0) r
-  unfolding densest_by remaining total
-  best_start r p q a = record { at_is = a; p_is = omega arith; q_is = omega arith }
-
-  either : (t : Bool) (i j : ℕ) (a b : Remainder) → RemainderAt n finals i a → RemainderAt n finals j b →
-      RemainderAt n finals (cond t i j) (cond t a b)
+  either : (t : Bool) (i j : ℕ) (a b : Remainder) → RemainderAt finals i a → RemainderAt finals j b → RemainderAt finals (cond t i j) (cond t a b)
   either true i j a b l k = l
   either false i j a b l k = k
 
-  best_of_two : (i j : ℕ) (a b : Remainder) → RemainderAt n finals i a → RemainderAt n finals j b →
-      RemainderAt n finals (denser_by n (remaining n finals) i j) (denser a b)
+  best_of_two : (i j : ℕ) (a b : Remainder) → RemainderAt finals i a → RemainderAt finals j b →
+      RemainderAt finals (denser_by (length finals) (remaining finals) i j) (denser a b)
   unfolding denser_by denser
   best_of_two i j a b l k =
-      let same : leb (b.p * a.q) (a.p * b.q) ≡ leb (remaining n finals j * (n - i)) (remaining n finals i * (n - j)) =
+      let same :
+      leb (b.ratio.p * a.ratio.q) (a.ratio.p * b.ratio.q)
+      ≡ leb (remaining finals j * (length finals - i)) (remaining finals i * (length finals - j)) =
       cc (l.p_is, l.q_is, k.p_is, k.q_is) in
-      rw (← same) (either (leb (b.p * a.q) (a.p * b.q)) i j a b l k)
+      rw (← same) (either (leb (b.ratio.p * a.ratio.q) (a.ratio.p * b.ratio.q)) i j a b l k)
 
   -- the next one, or still the densest so far
-  pub best_next : (i : ℕ) (a b : Remainder) → RemainderAt n finals (densest_by n (remaining n finals) i) a → RemainderAt n finals (i + 1) b →
-      RemainderAt n finals (densest_by n (remaining n finals) (i + 1)) (denser a b)
+  pub best_next : (i : ℕ) (a b : Remainder) → RemainderAt finals (densest_by (length finals) (remaining finals) i) a → RemainderAt finals (i + 1) b →
+      RemainderAt finals (densest_by (length finals) (remaining finals) (i + 1)) (denser a b)
   unfolding densest_by
-  best_next i a b l k = rw add-one (best_of_two (densest_by n (remaining n finals) i) (suc i) a b l (rw add-one at k))
+  best_next i a b l k = rw add-one (best_of_two (densest_by (length finals) (remaining finals) i) (suc i) a b l (rw add-one at k))
 
 -- the densest of the first i is one of them
 pub densest_le : (g : Pairs) (i : ℕ) → densest_upto g i ≤ i
@@ -126,26 +107,36 @@ module _ (g : Pairs) (h : is_list g ≡ true) where
   unfolding inside
   inside_end = inside_none g.pairs (remainder g g.n) (omega (arith, remainder_size g g.n (omega arith)))
 
-  module _ (finals : List ℕ) (f : (i : ℕ) → i < g.n → get_or finals i 0 ≡ leaving_degree g i) where
+  module _ (finals : List ℕ) (all : length finals ≡ g.n) (f : (i : ℕ) → i < g.n → get_or finals i 0 ≡ leaving_degree g i) where
     finals_first : (i : ℕ) → i ≤ g.n → total i (entry finals) ≡ total i (leaving_degree g)
     unfolding entry
     finals_first i l = total_ext i (entry finals) (leaving_degree g) (λ j k. f j (omega arith))
 
-    pub finals_all : total g.n (entry finals) ≡ inside g (everyone g)
-    finals_all = omega (arith, finals_first g.n (omega arith), inside_finals g.n (omega arith), inside_end)
+    none_left : remaining finals g.n ≡ 0
+    none_left = rw (← all) (rw drop-length refl)
 
-    pub remaining_inside : (i : ℕ) → i ≤ g.n → remaining g.n finals i ≡ inside g (remainder g i)
-    unfolding remaining
-    remaining_inside i l = omega (arith, finals_all, finals_first i l, inside_finals i l)
+    pub finals_inside : sum finals ≡ inside g (everyone g)
+    finals_inside =
+        omega (
+          arith,
+          remaining_total finals g.n (omega (arith, all)),
+          none_left,
+          finals_first g.n (omega arith),
+          inside_finals g.n (omega arith),
+          inside_end,
+        )
 
-    pub denser_by_is : (i j : ℕ) → i ≤ g.n → j ≤ g.n → denser_by g.n (remaining g.n finals) i j ≡ denser_of g i j
+    pub remaining_inside : (i : ℕ) → i ≤ g.n → remaining finals i ≡ inside g (remainder g i)
+    remaining_inside i l = omega (arith, finals_inside, remaining_total finals i (omega (arith, all)), finals_first i l, inside_finals i l)
+
+    pub denser_by_is : (i j : ℕ) → i ≤ g.n → j ≤ g.n → denser_by g.n (remaining finals) i j ≡ denser_of g i j
     unfolding denser_by denser_of at_most
     denser_by_is i j l k =
         let si : g.n - i ≡ size (remainder g i) = omega (arith, remainder_size g i l) in
         let sj : g.n - j ≡ size (remainder g j) = omega (arith, remainder_size g j k) in
         rw (remaining_inside i l, remaining_inside j k, si, sj)
 
-    pub densest_by_is : (i : ℕ) → i ≤ g.n → densest_by g.n (remaining g.n finals) i ≡ densest_upto g i
+    pub densest_by_is : (i : ℕ) → i ≤ g.n → densest_by g.n (remaining finals) i ≡ densest_upto g i
     unfolding densest_by densest_upto
     densest_by_is zero l = refl
     densest_by_is (suc i) l =

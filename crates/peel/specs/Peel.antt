@@ -27,5 +27,5 @@ pub record Peels (g : Pairs) (least : ℕ) (order cores place order' cores' plac
   pub places_are : place' ≡ places g ++ drop g.n place
   -- the densest remainder of at least so many modules, its inside count and its size
   pub at_is : r.at ≡ densest_remainder g least
-  pub p_is : r.p ≡ inside g (remainder g r.at)
-  pub q_is : r.q ≡ size (remainder g r.at)
+  pub p_is : r.ratio.p ≡ inside g (remainder g r.at)
+  pub q_is : r.ratio.q ≡ size (remainder g r.at)

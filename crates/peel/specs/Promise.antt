@@ -25,9 +25,9 @@ pub record PeelPromise (g : Pairs) (least : ℕ) (order' cores' place' : List �
   -- a module is in a remainder exactly if its place is not below the number of those that have left
   pub member : (i v : ℕ) → v < g.n → is_in (remainder g i) v ≡ leb i (get_or place' v 0)
   -- those that have left and those of the remainder returned are N together
-  pub rest : r.q + r.at ≡ g.n
+  pub rest : r.ratio.q + r.at ≡ g.n
   -- the remainder returned has at least so many modules; of those that have, none has a higher ratio, and none of as high a ratio is larger
-  pub enough : least ≤ r.q
+  pub enough : least ≤ r.ratio.q
   pub densest : (i : ℕ) → i + least ≤ g.n → at_most g (remainder g i) (remainder g r.at) ≡ true
   pub larger : (i : ℕ) → i + least ≤ g.n → at_most g (remainder g r.at) (remainder g i) ≡ true → r.at ≤ i
 

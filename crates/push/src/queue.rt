@@ -1,57 +1,52 @@
 // Queues of modules. Their places are limited: who finds none is left out, since how well loads are balanced is free.
-ghost use Rattle.std.specs.Prelude.{◌<◌, ◌≤◌, length};
+ghost use Rattle.std.specs.Prelude.{ℕ, ◌<◌, ◌≤◌, length, get_or};
 
-use crate::labels::count_label;
-use slots::wide;
-
-// v joins a queue of `tail` entries where `joins` is 1 and there is a place left; the queue's new length. What the queue holds is free.
-pub(crate) fn enqueue(v: usize, joins: usize, tail: usize, queue: &mut [u32]) -> usize
-    requires v_bound { v < 512 }
-    requires joins_bound { joins ≤ 1 }
-    requires tail_in_bounds { tail ≤ length queue.old }
-    ensures { result ≤ length queue.old }
-{
-    if tail < queue.len() {
-        queue[tail] = v as u32;
-        return tail + joins;
-    }
-    tail
+// Modules in the order in which they joined, in the first `tail` places.
+#[derive(Drop)]
+pub(crate) struct Queue<'a> {
+    places: &'a mut [u16],
+    tail: usize,
+    ghost within: { tail ≤ length places.now },
+    ghost below: { (i : ℕ) → i < length places.now → get_or places.now i 0 < 512 },
 }
 
-// 1 where a module becomes active: loaded y, above p, where it was loaded x, at most p; else 0.
-pub(crate) fn rises(p: u32, x: u32, y: u32) -> usize
-    ensures { result ≤ 1 }
-{
-    if x <= p {
-        if p < y {
-            return 1;
+impl<'a> Queue<'a> {
+    ghost use Rattle.std.specs.Prelude.{◌<◌, IfSome};
+
+    // A queue that nobody has joined, over places that are cleared.
+    pub(crate) fn new(places: &'a mut [u16]) -> Queue<'a> {
+        places.fill(0);
+        Queue { places, tail: 0 }
+    }
+
+    // How many may join.
+    pub(crate) fn room(&self) -> usize {
+        self.places.len()
+    }
+
+    // v joins where `joins` says so and a place is left. (The next place is written either way, which is free: so there is no jump.)
+    pub(crate) fn join(&mut self, v: usize, joins: bool)
+        requires { v < 512 }
+    {
+        if self.tail < self.places.len() {
+            self.places[self.tail] = v as u16;
+            self.tail += usize::from(joins);
         }
     }
-    0
-}
 
-// Of those reached, the active ones are queued, the farthest first; and `sizes` counts all of them by their labels.
-pub(crate) fn queue_active(
-    p: u32,
-    count: usize,
-    reached: &[u32],
-    load: &[u32],
-    label: &[u32],
-    sizes: &mut [u32],
-    queue: &mut [u32],
-) -> usize
-    requires count_in_bounds { count ≤ length reached.now }
-    requires in_bounds { (512 ≤ length load.now) × (512 ≤ length label.now) }
-    requires in_bounds_2 { 512 < length sizes.old }
-    ensures { result ≤ length queue.old }
-{
-    let mut tail = 0;
-    let mut i = count;
-    while i > 0 {
-        i = i - 1;
-        let v = wide(reached[i] % 512);
-        count_label(label[v], sizes);
-        tail = enqueue(v, rises(p, 0, load[v]), tail, queue);
+    // How many have joined.
+    pub(crate) fn len(&self) -> usize {
+        self.tail
     }
-    tail
+
+    // Who joined as number i, from 0.
+    pub(crate) fn get(&self, i: usize) -> Option<usize>
+        ensures { IfSome result (λ v. v < 512) }
+    {
+        if i < self.tail {
+            Some(usize::from(self.places[i]))
+        } else {
+            None
+        }
+    }
 }

@@ -1,4 +1,4 @@
--- What `build`, `lower` and `take` leave is what their contracts say.
+-- What `new`, `lower` and `take` leave is a ranking, and is what their contracts say.
 --   key_has           a word below `gone` is a module present
 --   built             keys and both levels
 --   wraps             the least of what is taken and the next number, which wraps to 0 past `gone`
@@ -17,7 +17,7 @@ use lib.Dec.{ltb, eqb}
 use lib.ListN.{length, get_or, set}
 use borrow.Author.Tests.{eqb-true, eqb-false, ltb-true, ltb-false}
 use Rattle.theory.proofs.Tests.{tests, no, fails}
-use Rattle.ranking.specs.Ranking.{key, module_of, gone, has, carries, least, Ranking, SomePresent, Buildable, Built, Lowered, Taken}
+use Rattle.ranking.specs.Ranking.{key, module_of, gone, has, carries, least, Ranked, SomePresent, Buildable, Built, Lowered, Taken}
 use Rattle.ranking.specs.Words.{Keyed, Levelled}
 use Rattle.ranking.proofs.Order.{has_below, key_low, key_parts, module_below}
 use Rattle.ranking.proofs.Levels.{level_ext}
@@ -53,8 +53,8 @@ module _ (work : List ℕ) (m x y z u : ℕ) (ne : u ≡ m → ⊥) where
   unfolding carries
   put_carries k = ap (λ (w : ℕ). w / 512) (put_other work m x y z u k ne)
 
-put_ranking : (work : List ℕ) (m x y z : ℕ) → m < 512 → Ranking work → y ≡ least 7 (8 * (m / 8)) (set work m x) →
-    z ≡ least 7 (512 + 8 * (m / 64)) (set (set work m x) (512 + m / 8) y) → (x < gone → x ≡ key (x / 512) m) → Ranking (put work m x y z)
+put_ranking : (work : List ℕ) (m x y z : ℕ) → m < 512 → Ranked work → y ≡ least 7 (8 * (m / 8)) (set work m x) →
+    z ≡ least 7 (512 + 8 * (m / 64)) (set (set work m x) (512 + m / 8) y) → (x < gone → x ≡ key (x / 512) m) → Ranked (put work m x y z)
 unfolding carries
 put_ranking work m x y z h r ys zs fits =
     record {
@@ -85,7 +85,7 @@ wraps k by small l = go (ltb k gone) refl
     go true e = let i : k < gone = ltb-true k gone e in omega (arith, l i)
     go false e = let i : gone ≤ k = ltb-false k gone e in omega arith
 
-module _ (work : List ℕ) (m by : ℕ) (h : m < 512) (r : Ranking work) (l : has work m ≡ true → by ≤ carries work m) where
+module _ (work : List ℕ) (m by : ℕ) (h : m < 512) (r : Ranked work) (l : has work m ≡ true → by ≤ carries work m) where
   -- a module present has in its key what is taken from it
   lower_le : has work m ≡ true → 512 * by ≤ get_or work m 0
   unfolding carries
@@ -115,16 +115,17 @@ module _ (work : List ℕ) (m by : ℕ) (h : m < 512) (r : Ranking work) (l : ha
       (λ e i. unfold key carries in omega (arith, r.keyed m e, lower_le e)) (λ g i. absurd (omega arith))
 
   pub lowered : (x y z : ℕ) → x ≡ get_or work m 0 - decrease → y ≡ min (get_or work (512 + m / 8) 0) x → z ≡ min (get_or work (576 + m / 64) 0) y →
-      Lowered m by work (put work m x y z)
+      Ranked (put work m x y z) × Lowered m by work (put work m x y z)
   lowered x y z xe ye ze =
       let le : x ≤ get_or work m 0 = omega arith in
       let ys : y ≡ least 7 (8 * (m / 8)) (set work m x) = ye ∙ lower_eight work m x h r le in
-      let zs : z ≡ least 7 (512 + 8 * (m / 64)) (set (set work m x) (512 + m / 8) y) = ze ∙ lower_sixty_four work m x h r le y ye in
-      record {
-        ranking = put_ranking work m x y z h r ys zs (λ i. rw xe (lower_key (omega arith)));
-        present = λ u. same u (eqb u m) refl;
-        carried = λ u i. less u i (eqb u m) refl;
-      }
+      let zs : z ≡ least 7 (512 + 8 * (m / 64)) (set (set work m x) (512 + m / 8) y) = ze ∙ lower_sixty_four work m x h r le y ye in (
+        put_ranking work m x y z h r ys zs (λ i. rw xe (lower_key (omega arith))),
+        record {
+          present = λ u. same u (eqb u m) refl;
+          carried = λ u i. less u i (eqb u m) refl;
+        },
+      )
     where
       new : List ℕ
       new = put work m x y z
@@ -156,7 +157,7 @@ module _ (work : List ℕ) (m by : ℕ) (h : m < 512) (r : Ranking work) (l : ha
 -- ---- take
 
 -- k is the root
-module _ (work : List ℕ) (r : Ranking work) (some : SomePresent work) (k : ℕ) (root : k ≡ least 7 576 work) where
+module _ (work : List ℕ) (r : Ranked work) (some : SomePresent work) (k : ℕ) (root : k ≡ least 7 576 work) where
   root_low : k < gone
   unfolding SomePresent
   root_low = omega (arith, root_le work r some.0 (has_below work some.0 some.1), has_key work some.0 some.1)
@@ -173,18 +174,19 @@ module _ (work : List ℕ) (r : Ranking work) (some : SomePresent work) (k : ℕ
 
   pub taken : (m y z : ℕ) → m ≡ module_of k → y ≡ least 7 (8 * (m / 8)) (set work m gone) →
       z ≡ least 7 (512 + 8 * (m / 64)) (set (set work m gone) (512 + m / 8) y) →
-      Taken work (put work m gone y z) (record { number = m; carried = k / 512 })
+      Ranked (put work m gone y z) × Taken work (put work m gone y z) (record { number = m; carried = k / 512 })
   taken m y z e ys zs =
       let f = root_first m e in
-      let h : m < 512 = has_below work m f.0 in
-      record {
-        there = f.0;
-        degree = f.1;
-        first = λ u i. omega (arith, f.2, root, root_le work r u (has_below work u i), r.keyed u i);
-        ranking = put_ranking work m gone y z h r ys zs (λ w. absurd (omega arith));
-        present = λ u. left u (eqb u m) refl;
-        carried = λ u i. stays u i (eqb u m) refl;
-      }
+      let h : m < 512 = has_below work m f.0 in (
+        put_ranking work m gone y z h r ys zs (λ w. absurd (omega arith)),
+        record {
+          there = f.0;
+          degree = f.1;
+          first = λ u i. omega (arith, f.2, root, root_le work r u (has_below work u i), r.keyed u i);
+          present = λ u. left u (eqb u m) refl;
+          carried = λ u i. stays u i (eqb u m) refl;
+        },
+      )
     where
       new : List ℕ
       new = put work m gone y z
@@ -200,45 +202,42 @@ module _ (work : List ℕ) (r : Ranking work) (some : SomePresent work) (k : ℕ
       stays u i true w = let at : u ≡ m = eqb-true u m w in no (sym out ∙ (rw at at i))
       stays u i false w = put_carries work m gone y z u (eqb-false u m w) (has_below new u i)
 
--- ---- build
+-- ---- new
 
 -- from the keys to the words with both levels
-module _ (n : ℕ) (degrees keys eights all : List ℕ) (b : Buildable n degrees) (long : length keys ≡ 1024)
-    (ks : (m : ℕ) → m < 512 → Keyed n degrees m (get_or keys m 0)) (l : Levelled 0 512 64 keys eights) (p : Levelled 512 576 8 eights all) where
+module _ (degrees keys eights all : List ℕ) (b : Buildable degrees) (long : length keys ≡ 584)
+    (ks : (m : ℕ) → m < 512 → Keyed degrees m (get_or keys m 0)) (l : Levelled 0 512 64 keys eights) (p : Levelled 512 576 8 eights all) where
   word : (m : ℕ) → m < 512 → get_or all m 0 ≡ get_or keys m 0
   word m h = p.before m (omega arith) ∙ l.before m h
 
-  known : (m : ℕ) → m < n → get_or all m 0 ≡ key (get_or degrees m 0) m
+  known : (m : ℕ) → m < length degrees → get_or all m 0 ≡ key (get_or degrees m 0) m
   known m h = word m (omega (arith, b.few)) ∙ (ks m (omega (arith, b.few))).known h
 
-  all_has : (m : ℕ) → has all m ≡ ltb m n
-  all_has m = go (ltb m n) refl
+  all_has : (m : ℕ) → has all m ≡ ltb m (length degrees)
+  all_has m = go (ltb m (length degrees)) refl
     where
-      go : (t : Bool) → ltb m n ≡ t → has all m ≡ t
+      go : (t : Bool) → ltb m (length degrees) ≡ t → has all m ≡ t
       go true e =
-          let h : m < n = ltb-true m n e in
+          let h : m < length degrees = ltb-true m (length degrees) e in
           key_has all m (omega (arith, b.few)) (omega (arith, known m h, key_low (get_or degrees m 0) m (b.light m h) (omega (arith, b.few))))
       go false e =
-          let h : n ≤ m = ltb-false m n e in
+          let h : length degrees ≤ m = ltb-false m (length degrees) e in
           fails (has all m)
           (λ i. omega (arith, has_key all m i, word m (has_below all m i), (ks m (has_below all m i)).none h))
 
-  all_carries : (m : ℕ) → m < n → carries all m ≡ get_or degrees m 0
+  all_carries : (m : ℕ) → m < length degrees → carries all m ≡ get_or degrees m 0
   unfolding carries
   all_carries m h = ap (λ (w : ℕ). w / 512) (known m h) ∙ (key_parts (get_or degrees m 0) m (omega (arith, b.few))).0
 
-  pub built : Built n degrees all
-  built =
-      record {
-        ranking =
-            record {
-              long = p.long ∙ l.long ∙ long;
-              keyed = λ m e.
-                  let h : m < n = ltb-true m n (sym (all_has m) ∙ e) in
-                  known m h ∙ ap (λ (d : ℕ). key d m) (sym (all_carries m h));
-              eights = level_ext 0 512 64 eights all (omega arith) (λ i h. p.before i h) l.level;
-              sixty_fours = p.level;
-            };
-        present = all_has;
-        carried = all_carries;
-      }
+  pub built : Ranked all × Built degrees all
+  built = (
+    record {
+      long = p.long ∙ l.long ∙ long;
+      keyed = λ m e.
+          let h : m < length degrees = ltb-true m (length degrees) (sym (all_has m) ∙ e) in
+          known m h ∙ ap (λ (d : ℕ). key d m) (sym (all_carries m h));
+      eights = level_ext 0 512 64 eights all (omega arith) (λ i h. p.before i h) l.level;
+      sixty_fours = p.level;
+    },
+    record { present = all_has; carried = all_carries },
+  )

@@ -3,7 +3,7 @@
 --   least_ext                words that agree there have the same least
 --   least_lower              one of them is lowered
 --   least_join               of two runs, one after the other
---   least_four, least_eight  as the functions take them
+--   least_eight              as the function takes them, by pairs
 -- Assumes nothing.
 use mathlib.Core.Path.{◌≡◌, refl}
 use mathlib.Core.Bool.{Bool, true, false}
@@ -66,7 +66,7 @@ least_lower (suc k) b xs p x h l i s = go (leb p b) refl (least_lower k (suc b) 
     go false e ih =
         omega (arith, ih (leb-false p b e) (omega arith) i s, get_or-set_other xs p b x 0 (λ z. omega (arith, leb-false p b e)))
 
--- ---- four and eight
+-- ---- by pairs
 
 least_join : (j k b : ℕ) (xs : List ℕ) → least (suc (j + k)) b xs ≡ min (least j b xs) (least k (suc (b + j)) xs)
 unfolding least
@@ -75,16 +75,21 @@ least_join (suc j) k b xs =
     let e : suc (suc b + j) ≡ suc (b + suc j) = omega arith in
     rw (suc-add, ← e) (omega (arith, least_join j k (suc b) xs))
 
-least_two : (b : ℕ) (xs : List ℕ) → least 1 b xs ≡ min (get_or xs b 0) (get_or xs (b + 1) 0)
+-- the lesser of the words at i and i + 1
+abbrev pair : (xs : List ℕ) → (i : ℕ) → ℕ
+pair xs i = min (get_or xs i 0) (get_or xs (i + 1) 0)
+
+least_two : (b : ℕ) (xs : List ℕ) → least 1 b xs ≡ pair xs b
 unfolding least
 least_two b xs = rw add-one
 
-pub least_four : (b : ℕ) (xs : List ℕ) →
-    least 3 b xs ≡ min (min (get_or xs b 0) (get_or xs (b + 1) 0)) (min (get_or xs (b + 2) 0) (get_or xs (b + 3) 0))
+least_four : (b : ℕ) (xs : List ℕ) → least 3 b xs ≡ min (pair xs b) (pair xs (b + 2))
 least_four b xs =
     let e : suc (b + 1) ≡ b + 2 = omega arith in
-    let f : b + 3 ≡ b + 2 + 1 = omega arith in
-    rw f (omega (arith, (rw e at (least_join 1 1 b xs)), least_two b xs, least_two (b + 2) xs))
+    omega (arith, (rw e at (least_join 1 1 b xs)), least_two b xs, least_two (b + 2) xs)
 
-pub least_eight : (b : ℕ) (xs : List ℕ) → least 7 b xs ≡ min (least 3 b xs) (least 3 (b + 4) xs)
-least_eight b xs = let e : suc (b + 3) ≡ b + 4 = omega arith in rw e at (least_join 3 3 b xs)
+pub least_eight : (b : ℕ) (xs : List ℕ) → least 7 b xs ≡ min (min (pair xs (b + 0)) (pair xs (b + 2))) (min (pair xs (b + 4)) (pair xs (b + 6)))
+least_eight b xs =
+    let e : suc (b + 3) ≡ b + 4 = omega arith in
+    let f : b + 4 + 2 ≡ b + 6 = omega arith in
+    rw add-zero (omega (arith, (rw e at (least_join 3 3 b xs)), least_four b xs, (rw f at (least_four (b + 4) xs))))

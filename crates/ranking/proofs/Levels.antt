@@ -2,7 +2,7 @@
 --   level_ext      words that agree
 --   level_apart    a word that belongs to neither level is set
 --   level_renew    a word below is set, and the least of its eight anew
---   levelled_none, levelled_next    a level is made from its first word on
+--   levelled_next  a level is made from its first word on: one word more
 -- Assumes nothing.
 use mathlib.Core.Path.{◌≡◌, refl, sym, ◌∙◌}
 use mathlib.Core.Bool.{Bool, true, false}
@@ -20,7 +20,6 @@ use Rattle.ranking.proofs.Least.{least_ext, least_set}
 -- words that agree up to the level's end
 pub level_ext : (from to count : ℕ) (xs ys : List ℕ) → from + 8 * count ≤ to → ((i : ℕ) → i < to + count → get_or ys i 0 ≡ get_or xs i 0) →
     Level from to count xs → Level from to count ys
-unfolding Level
 level_ext from to count xs ys below e l c h =
     e (to + c) (omega arith) ∙ l c h ∙ least_ext 7 (from + 8 * c) xs ys (λ q i j. sym (e q (omega arith)))
 
@@ -28,7 +27,6 @@ level_ext from to count xs ys below e l c h =
 pub level_apart : (from to count : ℕ) (xs : List ℕ) (p x : ℕ) →
     ((q : ℕ) → from ≤ q → q < from + 8 * count → q ≡ p → ⊥) → ((c : ℕ) → c < count → to + c ≡ p → ⊥) →
     Level from to count xs → Level from to count (set xs p x)
-unfolding Level
 level_apart from to count xs p x below above l c h =
     get_or-set_other xs p (to + c) x 0 (above c h)
     ∙ l c h
@@ -38,7 +36,6 @@ module _ (from to count : ℕ) (below : from + 8 * count ≤ to) (xs : List ℕ)
   -- the leasts of the eights but number e are right, and that one is written
   level_one : (e z : ℕ) → e < count → z ≡ least 7 (from + 8 * e) xs →
       ((c : ℕ) → c < count → (c ≡ e → ⊥) → get_or xs (to + c) 0 ≡ least 7 (from + 8 * c) xs) → Level from to count (set xs (to + e) z)
-  unfolding Level
   level_one e z i s rest c h = go (eqb c e) refl
     where
       still : least 7 (from + 8 * c) (set xs (to + e) z) ≡ least 7 (from + 8 * c) xs
@@ -54,7 +51,6 @@ module _ (from to count : ℕ) (below : from + 8 * count ≤ to) (xs : List ℕ)
 pub level_renew : (from to count : ℕ) (xs : List ℕ) (p x e z : ℕ) → from + 8 * count ≤ to → to + count ≤ length xs → e < count →
     from + 8 * e ≤ p → p < from + 8 * e + 8 → z ≡ least 7 (from + 8 * e) (set xs p x) →
     Level from to count xs → Level from to count (set (set xs p x) (to + e) z)
-unfolding Level
 level_renew from to count xs p x e z below room i h k s l =
     level_one from to count below (set xs p x) (rw (length-set xs p x) room) e z i s
     (λ c j ne.
@@ -64,13 +60,8 @@ level_renew from to count xs p x e z below room i h k s l =
 
 -- ---- a level is made from its first word on
 
-pub levelled_none : (from to : ℕ) (xs : List ℕ) → Levelled from to 0 xs xs
-unfolding Level
-levelled_none from to xs = record { long = refl; level = λ c h. absurd (omega arith); before = λ i h. refl; after = λ i h. refl }
-
 pub levelled_next : (from to count all : ℕ) (old xs : List ℕ) (z : ℕ) → from + 8 * all ≤ to → to + all ≤ length old → count < all →
     z ≡ least 7 (from + 8 * count) xs → Levelled from to count old xs → Levelled from to (count + 1) old (set xs (to + count) z)
-unfolding Level
 levelled_next from to count all old xs z below room h s l =
     record {
       long = length-set xs (to + count) z ∙ l.long;

@@ -1,275 +1,165 @@
-// Lists drawn into the model's table, and written as files: the pairs in the order drawn, either module first. A pair file has their counts, a DIMACS file
+// Lists drawn into the model, and written as files: the pairs in the order drawn, either module first. A pair file has their counts, a DIMACS file
 // comments before some lines.
-use crate::{desk, model, reads};
-
-// How lists are drawn and read: modules, records of the list, draws, pairs at most, the greatest count, and whether they are DIMACS files; in how many ways
-// they are read; and what is altered before it is compared (1 the number, 2 the number of pairs, 3 the records, 4 the work buffer, 5 the first count due; 0
-// nothing).
-#[derive(Clone, Copy)]
-pub(crate) struct Plan {
-    pub(crate) n: u32,
-    pub(crate) len: u32,
-    pub(crate) draws: u32,
-    pub(crate) most: u32,
-    pub(crate) top: u32,
-    pub(crate) dimacs: bool,
-    pub(crate) ways: u32,
-    pub(crate) altered: u32,
-}
-
-// Two modules, and the random state after the draw.
-#[derive(Clone, Copy)]
-struct Two {
-    a: u32,
-    b: u32,
-    state: u32,
-}
-
-// Two modules and a count.
-#[derive(Clone, Copy)]
-struct Stops {
-    a: u32,
-    b: u32,
-    w: u32,
-}
-
-// A file's length so far, how many comments it has, and the pair of its last line.
-#[derive(Clone, Copy)]
-pub(crate) struct Text {
-    pub(crate) end: usize,
-    pub(crate) comments: u32,
-    a: u32,
-    b: u32,
-}
-
-// ---- the list
+use crate::plans::{Form, Plan};
+use crate::reads;
+use crate::ways::Way;
+use model::{Random, Stops, after, below};
+use std::alloc::{AllocError, Global};
 
 // Two modules of n by chance, or one of them twice.
-fn drawn(n: u32, state: u32) -> Two {
-    let first = desk::next(state);
-    let second = desk::next(first);
-    Two {
-        a: desk::below(first, n),
-        b: desk::below(second, n),
-        state: second,
-    }
+fn drawn(n: u32, random: &mut Random) -> (u32, u32) {
+    let a = below(random.draw(), n);
+    let b = below(random.draw(), n);
+    (a, b)
 }
 
-// Whether a draw is a pair that the table has not, and there are fewer than the most.
-fn is_new(plan: Plan, two: Two, count: u32, desk: &[u32]) -> bool {
-    if two.a == two.b {
-        return false;
-    }
-    if count == plan.most {
-        return false;
-    }
-    model::count(desk, two.a, two.b) == 0
+// Whether a draw is a pair that the model has not, and there are fewer than the most.
+fn is_new(plan: Plan, a: u32, b: u32, stops: &Stops) -> bool {
+    a != b && stops.pairs() != plan.most && stops.count(a, b) == 0
 }
 
-// Puts such a pair into the table; how many there are then.
-fn put_drawn(plan: Plan, two: Two, count: u32, desk: &mut [u32]) -> u32 {
-    if !is_new(plan, two, count, desk) {
-        return count;
+// The list of all draws.
+pub(crate) fn fill(plan: Plan, seed: Random, alloc: Global) -> Result<Stops, AllocError> {
+    let mut stops = Stops::new(alloc);
+    let mut random = seed;
+    for _ in 0..plan.draws {
+        let (a, b) = drawn(plan.n, &mut random);
+        if is_new(plan, a, b, &stops) {
+            let w = below(after(random.last), plan.top).saturating_add(1);
+            stops.put(a, b, w)?;
+        }
     }
-    let w = desk::count(two.state, plan.top);
-    model::put_pair(desk, two.a, two.b, w);
-    std::num::wrapping_add_u32(count, 1)
+    Ok(stops)
 }
 
-// All draws; how many pairs the table has then.
-pub(crate) fn fill(plan: Plan, state: u32, desk: &mut [u32]) -> u32 {
-    let mut count = 0;
-    let mut now = state;
-    let mut i = 0;
-    while i < plan.draws {
-        let two = drawn(plan.n, now);
-        count = put_drawn(plan, two, count, desk);
-        now = two.state;
-        i += 1;
-    }
-    count
+// A file that is made: its text, how many comments it has, and the pair of its last line.
+#[derive(Drop)]
+pub(crate) struct File {
+    form: Form,
+    pub(crate) text: String,
+    pub(crate) comments: u32,
+    last: (u32, u32),
 }
 
-// ---- its file
-
-// A comment of one of four kinds.
-fn put_kind(file: &mut [u8], at: usize, kind: u32) -> usize {
-    match kind {
-        0 => reads::put_text(file, at, b"c\n"),
-        1 => reads::put_text(file, at, b"c \n"),
-        2 => reads::put_text(file, at, b"c e 1 2\r\n"),
-        _ => reads::put_text(file, at, b"c p edge 1 0\n"),
+// In a DIMACS file, a comment of one of four kinds one time in four.
+fn put_comment(file: &mut File, drawn: u32) -> Result<(), AllocError> {
+    if file.form != Form::Dimacs {
+        return Ok(());
     }
-}
-
-// In a DIMACS file, a comment one time in four.
-fn put_comment(plan: Plan, file: &mut [u8], text: Text, state: u32) -> Text {
-    let kind = state / 4096 % 16;
-    if 3 < kind {
-        return text;
-    }
-    if !plan.dimacs {
-        return text;
-    }
-    Text {
-        end: put_kind(file, text.end, kind),
-        comments: std::num::wrapping_add_u32(text.comments, 1),
-        ..text
-    }
-}
-
-// The line of two modules, numbered from 1, in a DIMACS file.
-fn put_edge(file: &mut [u8], at: usize, a: u32, b: u32) -> usize {
-    let first = reads::put_field(file, at, b"e ", std::num::wrapping_add_u32(a, 1));
-    let second = reads::put_field(file, first, b" ", std::num::wrapping_add_u32(b, 1));
-    reads::put_text(file, second, b"\n")
-}
-
-// The line of two modules and their count, in a file of the plan.
-fn put_stops(plan: Plan, file: &mut [u8], at: usize, a: u32, b: u32, w: u32) -> usize {
-    if plan.dimacs {
-        return put_edge(file, at, a, b);
-    }
-    reads::put_counted(file, at, a, b, w)
-}
-
-// The line of a draw, where the pair is in the table still; it is taken out.
-fn put_line(plan: Plan, file: &mut [u8], text: Text, two: Two, desk: &mut [u32]) -> Text {
-    let w = model::count(desk, two.a, two.b);
-    if w == 0 {
-        return text;
-    }
-    model::put_pair(desk, two.a, two.b, 0);
-    let after = put_comment(plan, file, text, two.state);
-    Text {
-        end: put_stops(plan, file, after.end, two.a, two.b, w),
-        comments: after.comments,
-        a: two.a,
-        b: two.b,
-    }
-}
-
-// The lines of all draws.
-fn put_lines(plan: Plan, state: u32, file: &mut [u8], text: Text, desk: &mut [u32]) -> Text {
-    let mut put = text;
-    let mut now = state;
-    let mut i = 0;
-    while i < plan.draws {
-        let two = drawn(plan.n, now);
-        put = put_line(plan, file, put, two, desk);
-        now = two.state;
-        i += 1;
-    }
-    put
-}
-
-// N in the file: 513 in way 5, and in way 11, where nothing of the file counts.
-fn modules(plan: Plan, way: u32) -> u32 {
-    if way == 5 || way == 11 { 513 } else { plan.n }
-}
-
-// M in the file: one more than there are in ways 1, 7, 8, 9 and from 12 on, too many in way 6, one more than there is room for in way 10.
-fn pairs(plan: Plan, way: u32, count: u32) -> u32 {
-    match way {
-        0 | 2 | 3 | 4 | 5 | 11 => count,
-        6 => 4097,
-        10 => std::num::wrapping_add_u32(plan.len, 1),
-        _ => std::num::wrapping_add_u32(count, 1),
-    }
-}
-
-// A module that no list has: 0 in a DIMACS file, where they are numbered from 1.
-fn unknown(plan: Plan) -> u32 {
-    if plan.dimacs { 4294967295 } else { 512 }
-}
-
-// A line that is damaged or too many: a module unknown twice in ways 2 and 12, once in way 7, a module twice in way 8, the last pair again, turned, in way 9; a
-// count outside 1 to 1,000 in ways 13 to 15, of five digits in way 16, and outside beside a module unknown, a module twice, and the last pair again, turned, in
-// ways 20 to 22.
-fn last_line(plan: Plan, text: Text, way: u32) -> Stops {
-    let u = unknown(plan);
-    let s = Stops { a: 0, b: 1, w: 1 };
-    match way {
-        2 | 12 => Stops { a: u, b: u, ..s },
-        7 => Stops { a: u, ..s },
-        8 => Stops { b: 0, ..s },
-        9 => Stops {
-            a: text.b,
-            b: text.a,
-            w: 1000,
-        },
-        13 => Stops { w: 0, ..s },
-        14 => Stops { w: 1001, ..s },
-        15 => Stops { w: 9999, ..s },
-        16 => Stops { w: 10000, ..s },
-        20 => Stops { b: u, w: 0, ..s },
-        21 => Stops { b: 0, w: 1001, ..s },
-        22 => Stops {
-            a: text.b,
-            b: text.a,
-            w: 1001,
-        },
-        _ => s,
-    }
-}
-
-// What stands behind the lines: in way 3 no line of the file's form and no comment, in way 4 the last LF is missing; in a pair file a count with a leading zero
-// in way 17, none in ways 18 and 19; another line in ways 2, 7 to 9, 12 to 16 and from 20 on. The file's length then.
-fn put_end(plan: Plan, file: &mut [u8], text: Text, way: u32) -> usize {
-    let end = text.end;
-    let line = last_line(plan, text, way);
-    match way {
-        0 | 1 | 5 | 6 | 10 | 11 => end,
-        3 => reads::put_text(file, end, b"cx\n"),
-        4 => std::num::wrapping_sub_usize(end, 1),
-        17 => reads::put_text(file, end, b"0,1,01\n"),
-        18 => reads::put_text(file, end, b"pair=0,1\n"),
-        19 => reads::put_text(file, end, b"0,1\n"),
-        _ => put_stops(plan, file, end, line.a, line.b, line.w),
-    }
-}
-
-// N and M in front of the lines.
-fn put_numbers(plan: Plan, file: &mut [u8], at: usize, n: u32, m: u32) -> usize {
-    if plan.dimacs {
-        let end = reads::put_field(file, at, b"p edge ", n);
-        return reads::put_field(file, end, b" ", m);
-    }
-    let end = reads::put_field(file, at, b"modules=", n);
-    reads::put_field(file, end, b"\npairs=", m)
-}
-
-// The file's head, in a DIMACS file behind a comment or none.
-fn put_head(plan: Plan, way: u32, count: u32, state: u32, file: &mut [u8]) -> Text {
-    let empty = Text {
-        end: 0,
-        comments: 0,
-        a: 0,
-        b: 0,
+    let comment = match drawn / 4096 % 16 {
+        0 => "c\n",
+        1 => "c \n",
+        2 => "c e 1 2\r\n",
+        3 => "c p edge 1 0\n",
+        _ => return Ok(()),
     };
-    let start = put_comment(plan, file, empty, state);
-    let m = pairs(plan, way, count);
-    let end = put_numbers(plan, file, start.end, modules(plan, way), m);
-    Text {
-        end: reads::put_text(file, end, b"\n"),
-        ..start
+    file.comments = file.comments.saturating_add(1);
+    file.text.push_str(comment)
+}
+
+// The line of two modules and their count. They are numbered from 1 in a DIMACS file, which has no counts.
+fn put_stops(file: &mut File, a: u32, b: u32, w: u32) -> Result<(), AllocError> {
+    match file.form {
+        Form::Counted => reads::put_counted(&mut file.text, a, b, w),
+        Form::Dimacs => {
+            let (a, b) = (a.wrapping_add(1), b.wrapping_add(1));
+            writeln!(&mut file.text, "e {a} {b}")
+        }
     }
 }
 
-// The whole file.
-pub(crate) fn put_file(
+// The lines of all draws whose pair is in the model still, from which it is taken.
+fn put_lines(
     plan: Plan,
-    way: u32,
-    count: u32,
-    state: u32,
-    file: &mut [u8],
-    desk: &mut [u32],
-) -> Text {
-    let head = put_head(plan, way, count, state, file);
-    let lines = put_lines(plan, state, file, head, desk);
-    let last = put_comment(plan, file, lines, desk::next(state));
-    Text {
-        end: put_end(plan, file, last, way),
-        ..last
+    seed: Random,
+    file: &mut File,
+    stops: &mut Stops,
+) -> Result<(), AllocError> {
+    let mut random = seed;
+    for _ in 0..plan.draws {
+        let (a, b) = drawn(plan.n, &mut random);
+        if let Some(w) = stops.take(a, b) {
+            put_comment(file, random.last)?;
+            put_stops(file, a, b, w)?;
+            file.last = (a, b);
+        }
     }
+    Ok(())
+}
+
+// The line that is damaged or too many.
+fn last_line(file: &File, way: Way) -> (u32, u32, u32) {
+    let unknown = match file.form {
+        Form::Counted => 512,
+        Form::Dimacs => u32::MAX,
+    };
+    let (a, b) = file.last;
+    match way {
+        Way::ExtraLine | Way::UnknownTwice => (unknown, unknown, 1),
+        Way::UnknownOnce => (unknown, 1, 1),
+        Way::SameModule => (0, 0, 1),
+        Way::TurnedAgain => (b, a, 1000),
+        Way::NoStops => (0, 1, 0),
+        Way::TooManyStops => (0, 1, 1001),
+        Way::FourDigits => (0, 1, 9999),
+        Way::FiveDigits => (0, 1, 10000),
+        Way::UnknownNoStops => (0, unknown, 0),
+        Way::SameTooManyStops => (0, 0, 1001),
+        Way::TurnedTooManyStops => (b, a, 1001),
+        _ => (0, 1, 1),
+    }
+}
+
+// What stands behind the lines.
+fn put_end(file: &mut File, way: Way) -> Result<(), AllocError> {
+    match way {
+        Way::Sound
+        | Way::TooFewLines
+        | Way::TooManyModules
+        | Way::TooManyPairs
+        | Way::MoreThanRecords
+        | Way::ShortWork => Ok(()),
+        Way::NoLastEnd => {
+            file.text.pop();
+            Ok(())
+        }
+        Way::NoLine => file.text.push_str("cx\n"),
+        Way::LeadingZero => file.text.push_str("0,1,01\n"),
+        Way::OldLine => file.text.push_str("pair=0,1\n"),
+        Way::NoCount => file.text.push_str("0,1\n"),
+        _ => {
+            let (a, b, w) = last_line(file, way);
+            put_stops(file, a, b, w)
+        }
+    }
+}
+
+// The line or lines of N and M in front.
+fn put_head(file: &mut File, n: u32, m: u32) -> Result<(), AllocError> {
+    match file.form {
+        Form::Counted => writeln!(&mut file.text, "modules={n}\npairs={m}"),
+        Form::Dimacs => writeln!(&mut file.text, "p edge {n} {m}"),
+    }
+}
+
+// The file of a list, whose pairs are taken out of it; in a DIMACS file the head is behind a comment or none, and so is the end.
+pub(crate) fn make(
+    plan: Plan,
+    way: Way,
+    seed: Random,
+    stops: &mut Stops,
+    alloc: Global,
+) -> Result<File, AllocError> {
+    let mut file = File {
+        form: plan.form,
+        text: String::new(alloc),
+        comments: 0,
+        last: (0, 0),
+    };
+    put_comment(&mut file, seed.last)?;
+    put_head(&mut file, way.modules(plan), way.pairs(plan, stops.pairs()))?;
+    put_lines(plan, seed, &mut file, stops)?;
+    put_comment(&mut file, after(seed.last))?;
+    put_end(&mut file, way)?;
+    Ok(file)
 }

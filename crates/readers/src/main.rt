@@ -2,15 +2,16 @@
 // plain model.
 #![tactic(auto)]
 
-mod desk;
 mod draws;
 mod edges;
-mod lent;
-mod model;
-mod print;
+mod plans;
 mod reads;
+mod tally;
+mod ways;
 
-fn main() {
-    reads::run();
-    edges::run();
+use std::io;
+
+fn main(rt: HostRuntime) -> io::Result<()> {
+    reads::run(&rt, rt.alloc())?;
+    edges::run(&rt, rt.alloc())
 }

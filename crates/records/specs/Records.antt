@@ -5,17 +5,16 @@
 --   agrees                  head and list agree: number 13 is given where they do not
 --   blank                   the record 0,0,0
 --   ends_of, weights_of     the module numbers of records as words, and their counts
---   copied_record, copied_out     a buffer of words after one record, and after the first records, were copied to it
+--   copied_record, copied_out     a buffer of words after one record, and after some records, were copied to it
 --   word_record, records_in records read from words
---   put_back                a list after the first records were copied back to it
+--   put_back                a list after its first records were copied back to it
 --   RoomAt, FitsAt        words have a place for a record, and what lies there fits one; FitsRecords: so at the first places
 --   RoomOut, RoomBack     what the copies ask
---   RisingRecords          what lookup asks
 -- Assumes nothing: these are definitions.
-use Rattle.std.specs.Prelude.{◌≡◌, Bool, true, ◌&&◌, List, [], ◌∷◌, ◌++◌, map, ℕ, ◌+◌, ◌*◌, ◌≤◌, ◌<◌, leb, length, get_or, set, take, drop}
+use Rattle.std.specs.Prelude.{Bool, ◌&&◌, List, [], ◌∷◌, ◌++◌, map, ℕ, ◌+◌, ◌*◌, ◌≤◌, ◌<◌, leb, length, get_or, set, take, drop}
 use Rattle.theory.specs.Basics.{table}
 use Rattle.theory.specs.Lists as Lists
-use Rattle.theory.specs.Lists.{Pairs, rising, is_list}
+use Rattle.theory.specs.Lists.{Pairs, is_list}
 use Rattle.theory.specs.Words.{put_at}
 use Rattle.records.specs.declared.Pair.{Pair}
 use Rattle.records.specs.declared.Head.{Head}
@@ -53,9 +52,9 @@ weights_of ps = map (λ p. p.w) ps
 unfoldable pub copied_record : List ℕ → ℕ → Pair → List ℕ
 copied_record ws i p = set (set (set ws (2 * i) p.a) (2 * i + 1) p.b) (8192 + i) p.w
 
--- the words after the first m records were copied to them: the module numbers from word 0 on, the counts from word 8,192 on
-unfoldable pub copied_out : List Pair → List ℕ → ℕ → List ℕ
-copied_out ps ws m = put_at 8192 (weights_of (take m ps)) (put_at 0 (ends_of (take m ps)) ws)
+-- the words after some records were copied to them: the module numbers from word 0 on, the counts from word 8,192 on
+unfoldable pub copied_out : List Pair → List ℕ → List ℕ
+copied_out ps ws = put_at 8192 (weights_of ps) (put_at 0 (ends_of ps) ws)
 
 -- the record that lies in words at place j
 abbrev pub word_record : List ℕ → ℕ → Pair
@@ -65,7 +64,7 @@ word_record ws j = record { a = get_or ws (2 * j) 0; b = get_or ws (2 * j + 1) 0
 unfoldable pub records_in : ℕ → List ℕ → List Pair
 records_in m ws = table m (word_record ws)
 
--- the list after the first m records were copied back to it
+-- a list after its first m records were copied back to it
 unfoldable pub put_back : List Pair → List ℕ → ℕ → List Pair
 put_back ps ws m = records_in m ws ++ drop m ps
 
@@ -78,23 +77,16 @@ pub record RoomAt (i : ℕ) (words : List ℕ) : Type 0 where
 abbrev pub FitsAt : ℕ → List ℕ → Type 0
 FitsAt i ws = (get_or ws (2 * i) 0 < 65536) × (get_or ws (2 * i + 1) 0 < 65536) × (get_or ws (8192 + i) 0 < 65536)
 
--- m records are there, and the words have places for them; where m is 0 any words do
-pub record RoomOut (list : List Pair) (words : List ℕ) (m : ℕ) : Type 0 where
-  pub enough : m ≤ length list
-  pub few : m ≤ 4096
-  pub long : 0 < m → 12288 ≤ length words
+-- the words have places for some records; where there are none any words do
+pub record RoomOut (records : List Pair) (words : List ℕ) : Type 0 where
+  pub few : length records ≤ 4096
+  pub long : 0 < length records → 12288 ≤ length words
 
 -- what lies at the first m places fits
 unfoldable pub FitsRecords : ℕ → List ℕ → Type 0
 FitsRecords m ws = (j : ℕ) → j < m → FitsAt j ws
 
--- there is room for m records, and those in the words fit
-pub record RoomBack (list : List Pair) (words : List ℕ) (m : ℕ) : Type 0 where
-  pub room : RoomOut list words m
-  pub fits : FitsRecords m words
-
--- m records are there, 4,096 at most, and they rise
-pub record RisingRecords (m : ℕ) (list : List Pair) : Type 0 where
-  pub enough : m ≤ length list
-  pub few : m ≤ 4096
-  pub rises : rising (as_pairs (take m list)) ≡ true
+-- the words have places for as many records as there are, and what lies there fits
+pub record RoomBack (records : List Pair) (words : List ℕ) : Type 0 where
+  pub room : RoomOut records words
+  pub fits : FitsRecords (length records) words

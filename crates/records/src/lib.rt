@@ -3,23 +3,23 @@
 //   copy_out   records to words: the numbers of record j to words 2j and 2j + 1, and its count to word 8,192 + j
 //   copy_in    words to records
 //   agree      whether head and list agree (document 01, number 13)
-//   lookup     whether a pair is held, and its place (document 02, item 3): the search of crate pairs, on the records where they lie
-// Each but the last is one pass over the records that it names, and all are blind to what is in a record: lay, record_at, rises, step and look_at know that.
+//   lookup     where a pair is held (document 02, item 3): the search of crate pairs, on the records where they lie
+// Each but the last is one pass over the records that it names, and all are blind to what is in a record: the methods of Pair, lay and record_at know that.
+// `as` stands where std has no `From`: from u32 to usize, and where a bound lets a number fit fewer bits.
 #![tactic(auto)]
 
-ghost use Rattle.std.specs.Prelude.{◌≡◌, take};
-ghost use Rattle.theory.specs.Lists.{pair, stands_before};
-ghost use Rattle.pairs.specs.Located.{located};
-ghost use Rattle.pairs.specs.Searching.{narrowed, Looks};
-ghost use Rattle.records.specs.Records.{copied_record, word_record, copied_out, put_back, RoomAt, FitsAt, RoomOut, RoomBack, agrees};
-ghost use Rattle.records.specs.Records.{as_pair, as_pairs, RisingRecords};
-ghost use Rattle.records.specs.Scan.{begin_of, tested_of, step_of};
+ghost use Rattle.std.specs.Prelude.{◌≡◌, true, ◌&&◌, ◌+◌, ◌*◌, leb, length};
+ghost use Rattle.theory.specs.Lists.{pair, stands_before, rising};
+ghost use Rattle.pairs.specs.Located.{place_in, located};
+ghost use Rattle.records.specs.Records.{copied_record, word_record, copied_out, records_in, RoomAt, FitsAt, RoomOut, RoomBack, agrees};
+ghost use Rattle.records.specs.Records.{as_pair, as_pairs, blank};
+ghost use Rattle.records.specs.Scan.{may_follow, good_after};
 
-use pairs::{Place, Search, begin_search, found, narrow};
+use pairs::search;
 
 // A record: two module numbers, the smaller first, and the pair's stop count.
 #[repr(C)]
-#[derive(Clone, Copy)]
+#[derive(Clone, Copy, Debug, Default, PartialEq, Eq)]
 pub struct Pair {
     pub a: u16,
     pub b: u16,
@@ -28,10 +28,48 @@ pub struct Pair {
 
 // A head: the number of modules, and of pairs held.
 #[repr(C)]
-#[derive(Clone, Copy)]
+#[derive(Clone, Copy, Debug, Default, PartialEq, Eq)]
 pub struct Head {
     pub n: u32,
     pub m: u32,
+}
+
+impl Pair {
+    // Its module numbers.
+    fn ends(self) -> (u32, u32)
+        ensures first { result.0 ≡ self.a }
+        ensures second { result.1 ≡ self.b }
+    {
+        (u32::from(self.a), u32::from(self.b))
+    }
+
+    // Whether it stands before another. The two numbers of each are compared as one, so that no branch goes by chance.
+    fn stands_before(self, other: Pair) -> bool
+        ensures { result ≡ stands_before (as_pair self) (as_pair other) }
+    {
+        65536 * u32::from(self.a) + u32::from(self.b)
+            < 65536 * u32::from(other.a) + u32::from(other.b)
+    }
+
+    // Whether a list of n modules may hold it behind `last`: it is of two of them, the smaller first, counts 1 to 1,000 times, and rises.
+    #[tactic(auto, unfolding(crate::specs::Scan::may_follow, crate::specs::Records::as_pair, theory::specs::Lists::weight_in_range))]
+    fn may_follow(self, last: Pair, n: u32) -> bool
+        ensures { result ≡ may_follow n last self }
+    {
+        u32::from(self.b) < n
+            && self.a < self.b
+            && (1..=1000).contains(&self.w)
+            && last.stands_before(self)
+    }
+}
+
+impl Head {
+    // Whether it is of 1 to 512 modules and at most 4,096 pairs.
+    fn in_range(self) -> bool
+        ensures { result ≡ ((leb 1 self.n && leb self.n 512) && leb self.m 4096) }
+    {
+        (1..=512).contains(&self.n) && self.m <= 4096
+    }
 }
 
 // One record's numbers to words 2i and 2i + 1, and its count to word 8,192 + i.
@@ -40,14 +78,15 @@ fn lay(words: &mut [u32], i: usize, p: Pair)
     requires { RoomAt i words.old }
     ensures { words.new ≡ copied_record words.old i p }
 {
-    words[2 * i] = p.a as u32;
-    words[2 * i + 1] = p.b as u32;
-    words[8192 + i] = p.w as u32;
+    words[2 * i] = u32::from(p.a);
+    words[2 * i + 1] = u32::from(p.b);
+    words[8192 + i] = u32::from(p.w);
 }
 
 // One record from words.
 fn record_at(words: &[u32], i: usize) -> Pair
-    requires { RoomAt i words.now × FitsAt i words.now }
+    requires room { RoomAt i words.now }
+    requires fits { FitsAt i words.now }
     ensures { result ≡ word_record words.now i }
 {
     Pair {
@@ -57,143 +96,58 @@ fn record_at(words: &[u32], i: usize) -> Pair
     }
 }
 
-// The first m records to words. The other words stay.
-pub fn copy_out(list: &[Pair], words: &mut [u32], m: usize)
-    requires { RoomOut list.now words.old m }
-    ensures { words.new ≡ copied_out list.now words.old m }
+// Records to words. The other words stay.
+#[tactic(auto, using(crate::proofs::Copies::copied_out_none, crate::proofs::Copies::copied_out_more))]
+pub fn copy_out(records: &[Pair], words: &mut [u32])
+    requires { RoomOut records.now words.old }
+    ensures { words.new ≡ copied_out records.now words.old }
 {
-    let mut i = 0;
-    while i < m {
-        lay(words, i, list[i]);
-        i += 1;
+    for (i, p) in records.iter().enumerate() {
+        lay(words, i, *p);
     }
 }
 
-// The first m records from words. The records after them stay.
-pub fn copy_in(list: &mut [Pair], words: &[u32], m: usize)
-    requires { RoomBack list.old words.now m }
-    ensures { list.new ≡ put_back list.old words.now m }
+// Records from words.
+#[tactic(auto, using(crate::proofs::Copies::put_backs), unfolding(crate::specs::Records::FitsRecords))]
+pub fn copy_in(records: &mut [Pair], words: &[u32])
+    requires { RoomBack records.old words.now }
+    ensures { records.new ≡ records_in (length records.old) words.now }
 {
-    let mut i = 0;
-    while i < m {
-        list[i] = record_at(words, i);
-        i += 1;
+    for (i, p) in records.iter_mut().enumerate() {
+        *p = record_at(words, i);
     }
 }
 
-// What the test of the records keeps: whether all so far are good, and the last one.
-#[derive(Clone, Copy)]
-struct Seen {
-    ok: bool,
-    last: Pair,
-}
-
-// What head and length show before the first record.
-#[tactic(auto, unfolding(crate::specs::Scan::begin_of, crate::specs::Scan::fits))]
-fn begin(head: Head, len: usize) -> Seen
-    ensures { result ≡ begin_of head len }
+// Whether records are good, and rise.
+#[tactic(auto, using(crate::proofs::Scans::good_next, crate::proofs::Scans::good_fails, crate::proofs::Scans::good_done))]
+fn all_good(n: u32, records: &[Pair]) -> bool
+    ensures { result ≡ good_after n blank records.now }
 {
-    let m = head.m as usize;
-    let none = Pair { a: 0, b: 0, w: 0 };
-    if head.n < 1 {
-        return Seen {
-            ok: false,
-            last: none,
-        };
+    let mut last = Pair::default();
+    for p in records {
+        if !p.may_follow(last, n) {
+            return false;
+        }
+        last = *p;
     }
-    if 512 < head.n {
-        return Seen {
-            ok: false,
-            last: none,
-        };
-    }
-    if 4096 < m {
-        return Seen {
-            ok: false,
-            last: none,
-        };
-    }
-    Seen {
-        ok: m <= len,
-        last: none,
-    }
-}
-
-// How many records are tested.
-fn tested(head: Head, ok: bool) -> usize
-    ensures { result ≡ tested_of head ok }
-{
-    if ok {
-        return head.m as usize;
-    }
-    0
-}
-
-// Whether the record before stands before p. The two numbers of each are compared as one, so that no branch goes by chance.
-fn rises(last: Pair, p: Pair) -> bool
-    ensures { result ≡ stands_before (as_pair last) (as_pair p) }
-{
-    65536 * (last.a as u32) + (last.b as u32) < 65536 * (p.a as u32) + (p.b as u32)
-}
-
-// One record more.
-#[tactic(auto, unfolding(crate::specs::Scan::step_of, crate::specs::Records::as_pair, theory::specs::Lists::weight_in_range))]
-fn step(n: u32, seen: Seen, p: Pair) -> Seen
-    ensures { result ≡ step_of n seen p }
-{
-    if !seen.ok {
-        return Seen { ok: false, last: p };
-    }
-    if n <= p.b as u32 {
-        return Seen { ok: false, last: p };
-    }
-    if p.b <= p.a {
-        return Seen { ok: false, last: p };
-    }
-    if p.w < 1 {
-        return Seen { ok: false, last: p };
-    }
-    if 1000 < p.w {
-        return Seen { ok: false, last: p };
-    }
-    Seen {
-        ok: rises(seen.last, p),
-        last: p,
-    }
+    true
 }
 
 // Whether head and list agree. The records are read where they lie.
+#[tactic(auto, using(crate::proofs::Scans::agrees_short))]
 pub fn agree(head: Head, list: &[Pair]) -> bool
     ensures { result ≡ agrees head list.now }
 {
-    let n = head.n;
-    let mut seen = begin(head, list.len());
-    let k = tested(head, seen.ok);
-    let mut i = 0;
-    while i < k {
-        seen = step(n, seen, list[i]);
-        i += 1;
-    }
-    seen.ok
+    let Some(records) = list.get(..head.m as usize) else {
+        return false;
+    };
+    head.in_range() && all_good(head.n, records)
 }
 
-// A search for the pair a,b after the record p was looked at.
-fn look_at(search: Search, p: Pair, a: u32, b: u32) -> Search
-    requires { Looks search }
-    ensures { result ≡ narrowed search (as_pair p) (pair a b) }
+// Where the pair a,b is held among records, or else where it would go. The records are read where they lie.
+pub fn lookup(records: &[Pair], a: u32, b: u32) -> Result<usize, usize>
+    requires { rising (as_pairs records.now) ≡ true }
+    ensures { place_in result ≡ located (pair a b) (as_pairs records.now) }
 {
-    narrow(search, p.a as u32, p.b as u32, a, b)
-}
-
-// Whether the pair a,b is held among the first m records, and its place. The records are read where they lie.
-pub fn lookup(list: &[Pair], m: usize, a: u32, b: u32) -> Place
-    requires { RisingRecords m list.now }
-    ensures { result ≡ located (pair a b) (as_pairs (take m list.now)) }
-{
-    let mut search = begin_search(m);
-    while search.low < search.high {
-        let narrowed = look_at(search, list[search.next], a, b);
-        search = narrowed;
-    }
-    found(search)
+    search(records, |p| p.ends().cmp(&(a, b)))
 }

@@ -2,7 +2,8 @@
 --   inside_most, inside_all  the units of the pairs inside a set are at most q times its inside count; all of that, for a set inside the scope
 --   split_kept, split_room   a split whose units moved is a split; a split has room
 --   has_units_in                  a pair with units has its ends in the scope
---   own_none                 no own loads
+--   none_own                 no own load, of a module
+--   own_none, no_own         of a set of modules that have none, whatever has the own loads; where nobody has one
 -- Assumes nothing.
 use Rattle.std.proofs.Common.{◌≡◌, ℕ, suc, ◌+◌, ◌*◌, ◌<◌, ◌≤◌, Bool, true, false, cond, List, [], ◌∷◌, length, get_or, sym, refl, ap, ◌∙◌, mul-le-mul_right, mul-le-mul_left, arith}
 use Rattle.theory.specs.Groups.{is_in, holds_pair, inside}
@@ -12,10 +13,12 @@ use Rattle.theory.proofs.Tests.{tests, no}
 use Rattle.slots.specs.Slots.{own_of, held_inside, Room, SameUnits}
 use Rattle.slots.specs.Split.{scope_units, Weights, Split}
 use Rattle.slots.proofs.Totals.{total_le, total_scale}
+use Rattle.slots.proofs.Held.{zero_at}
 use Rattle.slots.proofs.Mates.{mate_even, by_pair}
 use Rattle.slots.proofs.Words.{inside_total}
 use Rattle.groups.specs.Pairs.{inner_at}
 use Rattle.flow.specs.Flow.{Sub, HasUnits}
+use Rattle.rounds.specs.Search.{no_load}
 
 -- b: both ends in the set, c: both in the scope
 units_most : (b c : Bool) (x w q : ℕ) → x ≡ cond c (w * q) 0 → cond b x 0 ≤ cond b w 0 * q
@@ -84,9 +87,20 @@ module _ (n m q : ℕ) (ends weights scope hold : List ℕ) (sp : Split m q ends
       ((λ p. (both p).0), λ p. (both (omega arith)).1))
       b.slot b.low b.units
 
--- no own loads
+-- ---- no own loads
+
+-- nobody has one
+pub none_own : (v : ℕ) → get_or no_load v 0 ≡ 0
+unfolding no_load
+none_own v = zero_at 512 v
+
+-- nor a set of modules that have none
 pub own_none : (own t : List ℕ) → ((v : ℕ) → v < length t → get_or own v 0 ≡ 0) → own_of own t ≡ 0
 unfolding own_of
 own_none own [] h = refl
 own_none [] (x ∷ xs) h = refl
 own_none (o ∷ os) (x ∷ xs) h = omega (arith, ap (λ (z : ℕ). x * z) (h 0 (omega arith)), own_none os xs (λ v l. h (suc v) (omega arith)))
+
+-- where nobody has one
+pub no_own : (t : List ℕ) → own_of no_load t ≡ 0
+no_own t = own_none no_load t (λ v _. none_own v)

@@ -3,20 +3,27 @@
 // A round asks for a split at a group's size with no load above its inside count, inside the core of the group's ratio rounded up. Where there is none, it
 // hands over a denser group, and the next round starts from that (`search`: the Dinkelbach iteration for the maximal densest subgraph); where there is one,
 // what does not drain is the found group. The split search (crate `flow`) decides, and of it only the promise is known; of what balances units before it
-// (crate `push`), that they move within pairs (`round`). The caller has the core numbers, and a ratio that some group reaches.
+// (crate `push`), that they move within pairs (`round`). The caller has the core numbers, and a ratio that some group reaches (`Known`).
 // Cost: a few rounds, each some passes over the pairs and what its searches cost; ratios rise from round to round, so the rounds end. Nothing is refused.
+// That a graph has at most 512 modules, and how long a lent buffer is, are clauses where an array of 512 is indexed: a graph may have more, and an array in the
+// place of a slice would ask for more.
 #![tactic(auto)]
 
+mod hints;
+mod known;
+mod reached;
 mod round;
 mod search;
 
-pub use search::{Ratio, find};
+pub use known::Known;
+pub use reached::Reached;
+pub use search::find;
 
 // At most so many push phases before the searches of a round: enough to leave these next to nothing to do.
 pub const PHASES: usize = 64;
 
 // What goes before the searches to make them short: at most so many push phases, and arcs of at most so many pairs.
-#[derive(Clone, Copy)]
+#[derive(Clone, Copy, Debug, PartialEq, Eq)]
 pub struct Effort {
     pub phases: usize,
     pub arcs: usize,

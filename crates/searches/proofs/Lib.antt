@@ -1,2 +1,2 @@
 -- The laws that functions' proofs cite.
-pub mod Held
+pub mod Sizes

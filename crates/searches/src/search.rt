@@ -1,58 +1,73 @@
 // Peel and solve of a list beside the plain computations: solve with push phases and arcs, with arcs alone, and with neither.
-ghost use Rattle.theory.specs.Words.{HoldsList};
-
-use crate::calls;
-use crate::peels::{alter_peel, peel_plainly, same_peel};
-use crate::sets::{Best, densest_set};
-use crate::solves::{alter_solve, same_solve, solve_right};
+use crate::altered::Altered;
+use crate::solves::Due;
 use crate::tally::Tally;
-use pairfile::Reading;
+use crate::trials::Tried;
+use densest::{Effort, PHASES};
+use std::alloc::{AllocError, Global};
 
-// Solve with neither phases nor arcs, of up to 40 modules: each slot of a chain is found by a pass over all pairs.
-fn try_bare(list: Reading, words: &[u32], best: Best, cores: &[u32], seen: Tally) -> Tally
-    requires { HoldsList list.n list.m words.now }
-{
-    if 40 < list.n {
-        return seen;
+// Push phases before the searches, and arcs of all pairs.
+pub(crate) const PUSHED: Effort = Effort {
+    phases: PHASES,
+    arcs: 4096,
+};
+
+// Arcs alone.
+const EXACT: Effort = Effort {
+    phases: 0,
+    arcs: 4096,
+};
+
+// Neither: each slot of a chain is found by a pass over all pairs.
+const BARE: Effort = Effort { phases: 0, arcs: 0 };
+
+// Solve with neither, of up to 40 modules.
+fn try_bare(tried: &Tried, due: Due, alloc: Global, tally: &mut Tally) -> Result<(), AllocError> {
+    if tried.plain.n <= 40 {
+        let bare = tried.held.solve(BARE, alloc)?;
+        tally.note(bare.is_right(tried, due));
+        tally.scanned(bare.record.searches);
     }
-    let bare = calls::solve(list, 0, 0, words);
-    let record = bare.record;
-    seen.compared(solve_right(list, words, bare, best, cores))
-        .scanned(record.searches)
+    Ok(())
 }
 
 // Solve beside the plain computations, with one thing altered where push phases went before the searches; and what the searches without them did.
 fn try_solve(
-    thing: u32,
-    list: Reading,
-    words: &[u32],
-    best: Best,
-    cores: &[u32],
-    seen: Tally,
-) -> Tally
-    requires { HoldsList list.n list.m words.now }
-{
-    let pushed = alter_solve(
-        thing,
-        words,
-        calls::solve(list, densest::PHASES, 4096, words),
-    );
-    let exact = calls::solve(list, 0, 4096, words);
-    let record = exact.record;
-    seen.compared(solve_right(list, words, pushed, best, cores))
-        .compared(solve_right(list, words, exact, best, cores))
-        .compared(same_solve(list.n, pushed, exact))
-        .searched(record.searches)
+    thing: Option<Altered>,
+    tried: &Tried,
+    due: Due,
+    alloc: Global,
+    tally: &mut Tally,
+) -> Result<(), AllocError> {
+    let mut pushed = tried.held.solve(PUSHED, alloc)?;
+    let exact = tried.held.solve(EXACT, alloc)?;
+    if let Some(thing) = thing {
+        pushed.alter(thing, tried.plain.stops(0));
+    }
+    tally.note(pushed.is_right(tried, due));
+    tally.note(exact.is_right(tried, due));
+    tally.note(pushed.names_same(&exact));
+    tally.searched(exact.record.searches);
+    Ok(())
 }
 
 // Peel and solve, with one thing altered.
-pub(crate) fn search(thing: u32, list: Reading, words: &[u32], seen: Tally) -> Tally
-    requires { HoldsList list.n list.m words.now }
-{
-    let plain = peel_plainly(list, words);
-    let peeled = alter_peel(thing, calls::peel(list, words));
-    let after = seen.compared(same_peel(list.n, peeled, plain));
-    let best = densest_set(list, words);
-    let solved = try_solve(thing, list, words, best, &plain.cores, after);
-    try_bare(list, words, best, &plain.cores, solved)
+pub(crate) fn search(
+    thing: Option<Altered>,
+    tried: &Tried,
+    alloc: Global,
+    tally: &mut Tally,
+) -> Result<(), AllocError> {
+    let plain = tried.plain.peel(alloc)?;
+    let mut peeled = tried.held.peel(alloc)?;
+    if let Some(thing) = thing {
+        peeled.alter(thing);
+    }
+    tally.note(peeled == plain);
+    let due = Due {
+        best: tried.plain.densest_set(),
+        cores: &plain.cores,
+    };
+    try_solve(thing, tried, due, alloc, tally)?;
+    try_bare(tried, due, alloc, tally)
 }

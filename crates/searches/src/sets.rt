@@ -1,92 +1,52 @@
 // The found group as document 01 defines it and as plainly as can be: every set of modules is counted. Module v is in the set of a mask where bit v is 1.
-use crate::entries::{Pair, byte_at, pair_at};
-use crate::lists::bit;
-use crate::plain::product;
-use pairfile::Reading;
-use std::num::wrapping_add_u32;
+use crate::plain::{Plain, product};
+use numbers::Ratio;
 
-// The densest set so far: its mask, its inside count and its size.
+// A set: its mask, and its inside count over its size.
 #[derive(Clone, Copy)]
-pub struct Best {
-    pub mask: u32,
-    pub p: u32,
-    pub q: u32,
+pub(crate) struct Set {
+    mask: u32,
+    pub(crate) ratio: Ratio,
 }
 
-// The stops of a pair whose ends are both in the set, else 0.
-fn both(mask: u32, pair: Pair) -> u32 {
-    if !bit(mask, pair.a) {
-        return 0;
+// Whether module v is in the set of a mask.
+fn has(mask: u32, v: u32) -> bool {
+    v < 32 && (mask >> v) & 1 == 1
+}
+
+impl Set {
+    // Whether member bytes are those of the set.
+    pub(crate) fn is_of(self, members: &[u8]) -> bool {
+        (0u32..)
+            .zip(members.iter())
+            .all(|(v, &byte)| has(self.mask, v) == (byte == 1))
     }
-    if bit(mask, pair.b) { pair.w } else { 0 }
-}
 
-// The inside count of a set.
-fn inside(mask: u32, m: u32, words: &[u32]) -> u32 {
-    let mut count = 0;
-    let mut j = 0;
-    while j < m {
-        count = wrapping_add_u32(count, both(mask, pair_at(words, j)));
-        j += 1;
-    }
-    count
-}
-
-// Whether p inside q modules is a higher ratio than the best, or the same one in more modules.
-fn better(p: u32, q: u32, best: Best) -> bool {
-    let mine = product(best.q, p);
-    let other = product(q, best.p);
-    if mine == other {
-        best.q < q
-    } else {
-        other < mine
+    // This one, unless the other has a higher ratio, or the same one in more modules.
+    fn denser(self, other: Set) -> Set {
+        let mine = (product(self.ratio.p, other.ratio.q), self.ratio.q);
+        let others = (product(other.ratio.p, self.ratio.q), other.ratio.q);
+        if mine < others { other } else { self }
     }
 }
 
-// The better of the best and the set of a mask.
-fn look(mask: u32, m: u32, words: &[u32], best: Best) -> Best {
-    let p = inside(mask, m, words);
-    let q = u32::count_ones(mask);
-    if better(p, q, best) {
-        Best { mask, p, q }
-    } else {
-        best
+impl Plain {
+    // The set of a mask.
+    fn set(&self, mask: u32) -> Set {
+        let ratio = Ratio {
+            p: self.inside(|v| has(mask, v)),
+            q: mask.count_ones(),
+        };
+        Set { mask, ratio }
     }
-}
 
-// The densest of the sets of masks 1 to `count` - 1, of equals the largest.
-fn try_sets(count: u32, m: u32, words: &[u32]) -> Best {
-    let mut best = Best {
-        mask: 0,
-        p: 0,
-        q: 0,
-    };
-    let mut mask = 1;
-    while mask < count {
-        best = look(mask, m, words, best);
-        mask += 1;
-    }
-    best
-}
-
-// The densest set of a list of at most 12 modules, of equals the largest; no set of a larger list.
-pub(crate) fn densest_set(list: Reading, words: &[u32]) -> Best {
-    let n = list.n;
-    if n < 13 {
-        try_sets(1 << n, list.m, words)
-    } else {
-        try_sets(0, 0, words)
-    }
-}
-
-// Whether the first n member bytes are those of the set of a mask.
-pub(crate) fn same_set(n: u32, mask: u32, members: &[u8]) -> bool {
-    let mut v = 0;
-    while v < n {
-        if bit(mask, v) != (byte_at(members, v) == 1) {
-            return false;
+    // The densest set of a list of at most 12 modules, of equals the largest.
+    pub(crate) fn densest_set(&self) -> Option<Set> {
+        if 12 < self.n {
+            return None;
         }
-        v += 1;
+        (1..1u32 << self.n)
+            .map(|mask| self.set(mask))
+            .reduce(|first, second| first.denser(second))
     }
-    true
 }

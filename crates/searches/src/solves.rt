@@ -1,147 +1,98 @@
 // Solve's answer beside the plain computations, its sheet put to check, and one answer beside another.
-ghost use Rattle.theory.specs.Words.{HoldsList};
-
-use crate::altered;
-use crate::altered::{chosen, raised};
-use crate::calls::{Solved, check};
-use crate::entries::{more, pair_at, same_bytes, same_words, times};
-use crate::plain::core_size;
-use crate::sets::{Best, same_set};
-use crate::verdicts::same_verdict;
+use crate::altered::Altered;
+use crate::changes::Sheet;
+use crate::entries::{add, put};
+use crate::sets::Set;
+use crate::trials::Tried;
+use crate::verdicts::units;
 use densest::Solution;
-use pairfile::Reading;
-use std::num::wrapping_add_u32;
-use verify::Verdict;
 
-// A record with one number altered.
-fn alter_record(thing: u32, record: Solution) -> Solution {
-    let mut now = record;
-    now.p = raised(thing, altered::INSIDE, record.p);
-    now.q = raised(thing, altered::SIZE, record.q);
-    now.k = raised(thing, altered::K, record.k);
-    now.core = raised(thing, altered::CORE_SIZE, record.core);
-    now
+// The found group's member bytes, core numbers, shares, and the record.
+#[derive(Drop)]
+pub(crate) struct Solved {
+    pub(crate) members: Vec<u8>,
+    pub(crate) cores: Vec<u32>,
+    pub(crate) shares: Vec<u32>,
+    pub(crate) record: Solution,
 }
 
-fn other_byte(thing: u32, x: u8) -> u8 {
-    if thing == altered::MEMBER {
-        if x == 0 { 1 } else { 0 }
-    } else {
-        x
-    }
-}
-
-// Solve's answer with one thing altered.
-pub(crate) fn alter_solve(thing: u32, words: &[u32], solved: Solved) -> Solved {
-    let first = pair_at(words, 0);
-    let mut members = solved.members;
-    let mut cores = solved.cores;
-    let mut shares = solved.shares;
-    let record = solved.record;
-    members[0] = other_byte(thing, members[0]);
-    cores[0] = raised(thing, altered::CORE_NUMBER, cores[0]);
-    shares[0] = chosen(
-        thing,
-        altered::SHARE,
-        shares[0],
-        more(times(first.w, record.q)),
-    );
-    Solved {
-        members,
-        cores,
-        shares,
-        record: alter_record(thing, record),
-    }
-}
-
-// Whether the group is the densest of all sets, of equals the largest, with its inside count and size. Sets are tried of up to 12 modules; check counts
-// the inside count and the size of any group.
-fn group_right(n: u32, solved: Solved, best: Best) -> bool {
-    let record = solved.record;
-    if 12 < n {
-        return true;
-    }
-    if record.p != best.p {
-        return false;
-    }
-    if record.q != best.q {
-        return false;
-    }
-    same_set(n, best.mask, &solved.members)
+// What it is compared with: the densest set, where all are counted, and the core numbers.
+#[derive(Clone, Copy)]
+pub(crate) struct Due<'a> {
+    pub(crate) best: Option<Set>,
+    pub(crate) cores: &'a [u32],
 }
 
 // p over q, rounded up.
 fn rounded_up(p: u32, q: u32) -> u32 {
-    if q == 0 {
-        0
-    } else {
-        wrapping_add_u32(p, q - 1) / q
+    if q == 0 { 0 } else { p.div_ceil(q) }
+}
+
+// How many core numbers are as large as an order or larger: the size of the core of that order.
+fn core_size(order: u32, cores: &[u32]) -> usize {
+    cores.iter().filter(|&&core| order <= core).count()
+}
+
+// The first byte becomes 1 where it is 0, else 0.
+fn other_byte(members: &mut [u8]) {
+    if let Some(byte) = members.first_mut() {
+        *byte = u8::from(*byte == 0);
     }
 }
 
-// Whether the core numbers are the plain ones, K is P over Q rounded up, and the core's size that of the core of order K.
-fn cores_right(n: u32, solved: Solved, cores: &[u32]) -> bool {
-    let record = solved.record;
-    if !same_words(n, &solved.cores, cores) {
-        return false;
+impl Solved {
+    // The sheet.
+    pub(crate) fn sheet(&self) -> Sheet<'_> {
+        Sheet {
+            members: &self.members,
+            shares: &self.shares,
+        }
     }
-    if record.k != rounded_up(record.p, record.q) {
-        return false;
-    }
-    record.core == core_size(record.k, n, cores)
-}
 
-// Whether check accepts the sheet, and counts the same P and Q.
-fn sheet_right(list: Reading, words: &[u32], solved: Solved) -> bool
-    requires { HoldsList list.n list.m words.now }
-{
-    let record = solved.record;
-    let shares = solved.shares;
-    let verdict = check(list, words, &solved.members, &shares);
-    let due = Verdict {
-        number: 0,
-        p: record.p,
-        q: record.q,
-    };
-    same_verdict(verdict, due)
-}
+    // One thing altered; a pair that counts w times comes first.
+    pub(crate) fn alter(&mut self, thing: Altered, w: u32) {
+        let q = self.record.ratio.q;
+        match thing {
+            Altered::Member => other_byte(&mut self.members),
+            Altered::Inside => self.record.ratio.p = self.record.ratio.p.saturating_add(1),
+            Altered::Size => self.record.ratio.q = q.saturating_add(1),
+            Altered::K => self.record.k = self.record.k.saturating_add(1),
+            Altered::CoreSize => self.record.core = self.record.core.saturating_add(1),
+            Altered::CoreNumber => add(&mut self.cores, 0, 1),
+            Altered::Share => put(&mut self.shares, 0, units(w, q).saturating_add(1)),
+            _ => {}
+        }
+    }
 
-// Whether solve's answer is right, beside the densest set and the core numbers.
-pub(crate) fn solve_right(
-    list: Reading,
-    words: &[u32],
-    solved: Solved,
-    best: Best,
-    cores: &[u32],
-) -> bool
-    requires { HoldsList list.n list.m words.now }
-{
-    if !group_right(list.n, solved, best) {
-        return false;
+    // Whether the group is the densest of all sets, of equals the largest, with its inside count and size. Sets are counted of up to 12 modules; check counts
+    // the inside count and the size of any group.
+    fn group_is_right(&self, due: Due) -> bool {
+        match due.best {
+            Some(best) => self.record.ratio == best.ratio && best.is_of(&self.members),
+            None => true,
+        }
     }
-    if !cores_right(list.n, solved, cores) {
-        return false;
-    }
-    sheet_right(list, words, solved)
-}
 
-fn same_record(x: Solution, y: Solution) -> bool {
-    if x.p != y.p {
-        return false;
+    // Whether the core numbers are the plain ones, K is P over Q rounded up, and the core's size that of the core of order K.
+    fn cores_are_right(&self, due: Due) -> bool {
+        let Solution { ratio, k, core, .. } = self.record;
+        self.cores.as_slice() == due.cores
+            && k == rounded_up(ratio.p, ratio.q)
+            && core as usize == core_size(k, due.cores)
     }
-    if x.q != y.q {
-        return false;
-    }
-    if x.k != y.k {
-        return false;
-    }
-    x.core == y.core
-}
 
-// Whether two answers for n modules name the same group and record; their sheets may differ.
-pub(crate) fn same_solve(n: u32, x: Solved, y: Solved) -> bool {
-    if !same_bytes(n, &x.members, &y.members) {
-        return false;
+    // Whether the answer is right: group and core numbers, and check accepts the sheet and counts the same P and Q.
+    pub(crate) fn is_right(&self, tried: &Tried, due: Due) -> bool {
+        self.group_is_right(due)
+            && self.cores_are_right(due)
+            && tried.held.check(self.sheet()) == Ok(self.record.ratio)
     }
-    same_record(x.record, y.record)
+
+    // Whether another answer names the same group and record; their sheets may differ.
+    pub(crate) fn names_same(&self, other: &Solved) -> bool {
+        let mine = self.record;
+        let others = other.record;
+        self.members == other.members
+            && (mine.ratio, mine.k, mine.core) == (others.ratio, others.k, others.core)
+    }
 }

@@ -1,55 +1,48 @@
 // Surplus by both computations: of two sets of bytes of a small list, and of large groups around equal ratios.
-ghost use Rattle.theory.specs.Words.{HoldsList};
-
-use crate::calls::surplus;
 use crate::checks::spell_bytes;
-use crate::entries::mark;
 use crate::tally::Tally;
-use crate::verdicts::surplus_right;
-use pairfile::Reading;
-use verify::Difference;
+use crate::trials::Tried;
+use model::front_mut;
+use refusals::Refusal;
+use std::cmp::Ordering;
 
 // The answers are counted as above zero, zero, below zero, refused by 7.
-fn answer(difference: Difference) -> usize {
-    if difference.number != 0 {
-        return 3;
+fn kind(answer: Result<i64, Refusal>) -> usize {
+    match answer.map(|value| value.cmp(&0)) {
+        Ok(Ordering::Greater) => 0,
+        Ok(Ordering::Equal) => 1,
+        Ok(Ordering::Less) => 2,
+        Err(_) => 3,
     }
-    if difference.value == 0 {
-        return 1;
-    }
-    if difference.value < 0 { 2 } else { 0 }
 }
 
 // Surplus of two sets, by both.
-fn weigh(list: Reading, words: &[u32], first: &[u8], second: &[u8], seen: Tally) -> Tally
-    requires { HoldsList list.n list.m words.now }
-{
-    let difference = surplus(list, words, first, second);
-    seen.compared(surplus_right(list, words, first, second, difference))
-        .answered(answer(difference))
+fn weigh(tried: &Tried, first: &[u8], second: &[u8], tally: &mut Tally) {
+    let answer = tried.held.surplus(first, second);
+    tally.note(answer == tried.plain.surplus(first, second));
+    tally.answered(kind(answer));
 }
 
-// The two sets of bytes of a number below 6,561: 81 for each set.
-pub(crate) fn try_sets(code: u32, list: Reading, words: &[u32], seen: Tally) -> Tally
-    requires { HoldsList list.n list.m words.now }
-{
-    let first = spell_bytes(code % 81);
-    let second = spell_bytes(code / 81);
-    weigh(list, words, &first, &second, seen)
+// Every two sets of four bytes of 0 to 2: 81 for each set.
+pub(crate) fn try_sets(tried: &Tried, tally: &mut Tally) {
+    for code in 0..6561 {
+        let first = spell_bytes(code % 81);
+        let second = spell_bytes(code / 81);
+        weigh(tried, &first, &second, tally);
+    }
 }
 
-// How many modules the group of a number below 67 has: 224 to 289, and all.
-fn size_of(code: u32) -> u32 {
-    if code < 66 { 224 + code } else { 512 }
+// The member bytes of the first so many modules.
+fn first_modules(count: usize) -> [u8; 512] {
+    let mut members = [0; 512];
+    front_mut(&mut members, count).fill(1);
+    members
 }
 
-// The group of a number against the first `second` modules.
-pub(crate) fn try_firsts(code: u32, second: u32, list: Reading, words: &[u32], seen: Tally) -> Tally
-    requires { HoldsList list.n list.m words.now }
-{
-    let mut one = [0u8; 512];
-    let mut other = [0u8; 512];
-    mark(size_of(code), 1, &mut one);
-    mark(second, 1, &mut other);
-    weigh(list, words, &one, &other, seen)
+// The groups of the first 224 to 289 modules and of all, each against the first `count`.
+pub(crate) fn try_firsts(count: u32, tried: &Tried, tally: &mut Tally) {
+    let second = first_modules(count as usize);
+    for size in (224..290).chain([512]) {
+        weigh(tried, &first_modules(size), &second, tally);
+    }
 }

@@ -1,88 +1,57 @@
-// The table of what is tried, a row a line: nine numbers with a space between them (struct `Row`, in its order), and behind a space, where a line of the
-// output ends with the row, its name. The sixth says which stop counts are drawn: 1 all are 1; k, up to 1,000, they are 1 to k; 0 all are 1,000; 1,001
-// they are 1 or 1,000; 1,002 the pair 0,1 has 1,000 and the others have 1.
-ghost use Rattle.std.specs.Prelude.{◌≤◌, length};
-
-use crate::entries::{more, put_word, word_at};
-use crate::lists::Row;
+// The table of what is tried, a row a line: nine numbers with a space between them, and behind a space, where a line of the output ends with the row, its
+// name. The numbers are what is asked and with what (module `trials`), the kind of the lists and its two numbers, which stop counts their pairs have (module
+// `kinds`), how many modules the first list has, how many lists there are of each number of modules, and how many in all.
+use crate::draws::Lists;
+use crate::kinds::{Counts, Kind};
 use crate::tally::Tally;
-use crate::trials::go_on;
+use crate::trials::{Asked, try_lists};
+use std::alloc::Global;
+use std::io;
 
-// The place of the first line end from `from` on, or the end.
-fn line_end(text: &[u8], from: usize) -> usize
-    requires { from ≤ length text.now }
-    ensures { (from ≤ result) × (result ≤ length text.now) }
-{
-    let mut i = from;
-    while i < text.len() {
-        if text[i] == b'\n' {
-            return i;
+// A row: what is asked, of which lists, and the name of the line that ends with it.
+#[derive(Clone, Copy)]
+struct Row<'a> {
+    asked: Asked,
+    lists: Lists,
+    name: Option<&'a str>,
+}
+
+// The nine numbers of a line, and what stands behind them.
+fn numbers(line: &str) -> Option<([u32; 9], Option<&str>)> {
+    let mut words = line.splitn(10, ' ');
+    let mut numbers = [0; 9];
+    for number in numbers.iter_mut() {
+        *number = words.next()?.parse().ok()?;
+    }
+    Some((numbers, words.next()))
+}
+
+// The row of a line.
+fn row_of(line: &str) -> Option<Row<'_>> {
+    let ([asked, with, kind, x, y, counts, least, each, count], name) = numbers(line)?;
+    let lists = Lists {
+        kind: Kind::numbered(kind, x, y)?,
+        counts: Counts::numbered(counts)?,
+        least,
+        each,
+        count,
+    };
+    let asked = Asked::numbered(asked, with)?;
+    Some(Row { asked, lists, name })
+}
+
+// Tries every row, and prints the line that ends with it.
+pub(crate) fn try_rows(rt: &impl Print, alloc: Global, table: &str) -> io::Result<()> {
+    let mut tally = Tally::new();
+    for line in table.lines() {
+        let Some(row) = row_of(line) else {
+            return Err(io::Error::other("a row of the table is not as it should be"));
+        };
+        try_lists(row.asked, row.lists, alloc, &mut tally)?;
+        if let Some(name) = row.name {
+            tally.print(rt, matches!(row.asked, Asked::Search(_)), name)?;
+            tally = Tally::new();
         }
-        i += 1;
     }
-    i
-}
-
-// A byte more of number `at`: a digit, or the space behind it. The number that the next byte belongs to.
-fn put_digit(numbers: &mut [u32], at: u32, byte: u8) -> u32 {
-    if byte == b' ' {
-        return more(at);
-    }
-    let value = word_at(numbers, at);
-    put_word(numbers, at, value % 100000 * 10 + (byte % 16) as u32);
-    at
-}
-
-// The nine numbers of a row; where its name begins.
-fn read_numbers(line: &[u8], numbers: &mut [u32]) -> usize
-    ensures { result ≤ length line.now }
-{
-    let mut at = 0;
-    let mut i = 0;
-    while i < line.len() {
-        if 8 < at {
-            return i;
-        }
-        at = put_digit(numbers, at, line[i]);
-        i += 1;
-    }
-    i
-}
-
-fn row_of(numbers: [u32; 9]) -> Row {
-    Row {
-        asked: numbers[0],
-        with: numbers[1],
-        kind: numbers[2],
-        x: numbers[3],
-        y: numbers[4],
-        counts: numbers[5],
-        least: numbers[6],
-        each: numbers[7],
-        count: numbers[8],
-    }
-}
-
-// Tries a row, and prints the line that ends with it; what was seen since the last line.
-fn try_row(line: &[u8], seen: Tally) -> Tally {
-    let mut numbers = [0u32; 9];
-    let named = read_numbers(line, &mut numbers);
-    let row = row_of(numbers);
-    let now = go_on(row.count, row, seen);
-    if named == line.len() {
-        return now;
-    }
-    now.print(row.asked, &line[named..]);
-    Tally::new()
-}
-
-// Tries every row.
-pub(crate) fn try_rows(text: &[u8]) {
-    let mut seen = Tally::new();
-    let mut at = 0;
-    while at < text.len() {
-        let end = line_end(text, at);
-        seen = try_row(&text[at..end], seen);
-        at = end + 1;
-    }
+    Ok(())
 }

@@ -1,31 +1,30 @@
-// What was seen: lists, their pairs and the stops of these, lists that were not read as they were written, comparisons that differ, how often each of four
-// answers was given, what the searches for chains did, and the random state.
-use crate::entries::more;
+// What was seen.
 use flow::Searches;
-use numbers::greater;
-use std::num::wrapping_add_u32;
+use model::Random;
+use std::io;
 
+// Lists, their pairs and the stops of these, lists that were not read as they were written, comparisons that differ, how often each of four answers was given,
+// what the searches with arcs did, along how many chains units moved without, and the random numbers.
 #[derive(Clone, Copy)]
-pub struct Tally {
-    pub lists: u32,
-    pub pairs: u32,
-    pub stops: u32,
-    pub unread: u32,
-    pub differ: u32,
-    pub answers: [u32; 4],
-    pub chains: u32,
-    pub longest: u32,
-    pub none: u32,
-    pub scanned: u32,
-    pub state: u32,
+pub(crate) struct Tally {
+    lists: u32,
+    pairs: u32,
+    stops: u32,
+    unread: u32,
+    differ: u32,
+    answers: [u32; 4],
+    searches: Searches,
+    scanned: u32,
+    pub(crate) random: Random,
 }
 
-fn field(label: &[u8], value: u32) {
-    io::write_all(1, label);
-    io::print_decimal(1, value as u64);
+// So many more.
+fn add(count: &mut u32, more: u32) {
+    *count = count.saturating_add(more);
 }
 
 impl Tally {
+    // Nothing yet.
     pub(crate) fn new() -> Tally {
         Tally {
             lists: 0,
@@ -34,103 +33,76 @@ impl Tally {
             unread: 0,
             differ: 0,
             answers: [0; 4],
-            chains: 0,
-            longest: 0,
-            none: 0,
+            searches: Searches::default(),
             scanned: 0,
-            state: 2463534242,
+            random: Random { last: 2463534242 },
         }
     }
 
-    // One list more, of m pairs and so many stops, with the random state after it.
-    pub(crate) fn made(mut self, m: u32, stops: u32, state: u32) -> Tally {
-        self.lists = more(self.lists);
-        self.pairs = wrapping_add_u32(self.pairs, m);
-        self.stops = wrapping_add_u32(self.stops, stops);
-        self.state = state;
-        self
+    // A list of so many pairs and stops.
+    pub(crate) fn list(&mut self, pairs: u32, stops: u32) {
+        add(&mut self.lists, 1);
+        add(&mut self.pairs, pairs);
+        add(&mut self.stops, stops);
     }
 
-    pub(crate) fn not_read(mut self) -> Tally {
-        self.unread = more(self.unread);
-        self
+    // A list that was not read as it was written.
+    pub(crate) fn unread(&mut self) {
+        add(&mut self.unread, 1);
     }
 
-    // One comparison more.
-    pub(crate) fn compared(mut self, same: bool) -> Tally {
+    // Something compared, which is the same or not.
+    pub(crate) fn note(&mut self, same: bool) {
         if !same {
-            self.differ = more(self.differ);
+            add(&mut self.differ, 1);
         }
-        self
     }
 
-    // One answer more of one of the four kinds.
-    pub(crate) fn answered(mut self, kind: usize) -> Tally {
-        let mut answers = self.answers;
-        if kind < 4 {
-            answers[kind] = more(answers[kind]);
+    // An answer of one of the four kinds.
+    pub(crate) fn answered(&mut self, kind: usize) {
+        if let Some(count) = self.answers.get_mut(kind) {
+            add(count, 1);
         }
-        self.answers = answers;
-        self
     }
 
     // What searches did that had no arcs.
-    pub(crate) fn scanned(mut self, searches: Searches) -> Tally {
-        self.scanned = wrapping_add_u32(self.scanned, searches.chains);
-        self
+    pub(crate) fn scanned(&mut self, searches: Searches) {
+        add(&mut self.scanned, searches.chains);
     }
 
     // What searches did that had arcs.
-    pub(crate) fn searched(mut self, searches: Searches) -> Tally {
-        self.chains = wrapping_add_u32(self.chains, searches.chains);
-        self.longest = greater(self.longest, searches.longest);
-        self.none = wrapping_add_u32(self.none, searches.none);
-        self
+    pub(crate) fn searched(&mut self, searches: Searches) {
+        self.searches = self.searches.together(searches);
     }
 
-    // What ends a line: lists that were not read as they were written, and comparisons that differ.
-    fn print_faults(self) {
-        field(b" unread=", self.unread);
-        field(b" differ=", self.differ);
-        io::write_all(1, b"\n");
-    }
-
-    // The stops, where they are not as many as the pairs.
-    fn print_stops(self) {
+    // The lists, and what the searches did; the stops, where they are not as many as the pairs.
+    fn print_searches(&self, rt: &impl Print, name: &str) -> io::Result<()> {
+        let Searches {
+            chains,
+            longest,
+            none,
+        } = self.searches;
+        print!(rt; "{name}: lists={} pairs={}", self.lists, self.pairs)?;
         if self.stops != self.pairs {
-            field(b" stops=", self.stops);
+            print!(rt; " stops={}", self.stops)?;
         }
-    }
-
-    fn print_searches(self, name: &[u8]) {
-        io::write_all(1, name);
-        field(b": lists=", self.lists);
-        field(b" pairs=", self.pairs);
-        self.print_stops();
-        field(b" chains=", self.chains);
-        field(b" longest=", self.longest);
-        field(b" none=", self.none);
-        field(b" scanned=", self.scanned);
-        self.print_faults();
+        print!(rt; " chains={chains} longest={longest} none={none}")?;
+        print!(rt; " scanned={}", self.scanned)
     }
 
     // How often each of the four answers was given, which the name says.
-    fn print_answers(self, name: &[u8]) {
-        let answers = self.answers;
-        io::write_all(1, name);
-        field(b" ", answers[0]);
-        field(b" ", answers[1]);
-        field(b" ", answers[2]);
-        field(b" ", answers[3]);
-        self.print_faults();
+    fn print_answers(&self, rt: &impl Print, name: &str) -> io::Result<()> {
+        let [first, second, third, fourth] = self.answers;
+        print!(rt; "{name} {first} {second} {third} {fourth}")
     }
 
     // A line: of what the searches did where peel and solve were asked, else of the answers.
-    pub(crate) fn print(self, asked: u32, name: &[u8]) {
-        if asked == 0 {
-            self.print_searches(name);
+    pub(crate) fn print(&self, rt: &impl Print, searched: bool, name: &str) -> io::Result<()> {
+        if searched {
+            self.print_searches(rt, name)?;
         } else {
-            self.print_answers(name);
+            self.print_answers(rt, name)?;
         }
+        println!(rt; " unread={} differ={}", self.unread, self.differ)
     }
 }

@@ -1,90 +1,97 @@
-// Trials: lists are made, read and asked for something, one after the other.
-ghost use Rattle.theory.specs.Words.{HoldsList};
-
-use crate::checks::{places, sheet_codes, try_place, try_sheet};
-use crate::files::put_file;
-use crate::lists::{Listed, Row, list_at};
-use crate::plain::inside;
+// Trials: lists are drawn, read and asked for something, one after the other.
+use crate::altered::Altered;
+use crate::changes::Change;
+use crate::checks::{try_changes, try_sheets};
+use crate::draws::{Lists, Plan};
+use crate::held::Held;
+use crate::plain::Plain;
 use crate::search::search;
 use crate::surpluses::{try_firsts, try_sets};
 use crate::tally::Tally;
-use pairfile::{Reading, read_words};
+use std::alloc::{AllocError, Global};
 
-// How often a list is asked, once for each number below a count. By what is asked: 0 peel and solve, with the thing of number `with` altered; 1 check of
-// solve's sheet, with the change of number `with` in one place; 2 check of every sheet of up to 4 modules: member bytes of 0 to 2, and shares below
-// `with`, where those are no more than 110,000; 3 surplus of every two sets of 4 bytes of 0 to 2; 4 surplus of groups of 512 modules against the first
-// `with`.
-fn codes(row: Row, list: Reading) -> u32 {
-    let asked = row.asked;
-    match asked {
-        0 => 1,
-        1 => places(row.with, list.n, list.m),
-        2 => sheet_codes(row.with, list.m),
-        3 => 6561,
-        _ => 67,
+// What a list is asked for.
+#[derive(Clone, Copy)]
+pub(crate) enum Asked {
+    // Peel and solve, with one thing altered.
+    Search(Option<Altered>),
+    // Check of solve's sheet, with one change in one place.
+    Changed(Change),
+    // Check of every sheet of up to 4 modules: member bytes of 0 to 2, and shares below this, where those are no more than 110,000.
+    Sheets(u32),
+    // Surplus of every two sets of 4 bytes of 0 to 2.
+    Sets,
+    // Surplus of groups of 512 modules against the first so many.
+    Firsts(u32),
+}
+
+impl Asked {
+    // What a number asks, and with what.
+    pub(crate) fn numbered(asked: u32, with: u32) -> Option<Asked> {
+        match asked {
+            0 => Some(Asked::Search(Altered::numbered(with))),
+            1 => Some(Asked::Changed(Change::numbered(with)?)),
+            2 => Some(Asked::Sheets(with)),
+            3 => Some(Asked::Sets),
+            4 => Some(Asked::Firsts(with)),
+            _ => None,
+        }
+    }
+
+    // Asks it of a list.
+    fn ask(self, tried: &Tried, alloc: Global, tally: &mut Tally) -> Result<(), AllocError> {
+        match self {
+            Asked::Search(thing) => search(thing, tried, alloc, tally)?,
+            Asked::Changed(change) => try_changes(change, tried, alloc, tally)?,
+            Asked::Sheets(base) => try_sheets(base, tried, tally),
+            Asked::Sets => try_sets(tried, tally),
+            Asked::Firsts(count) => try_firsts(count, tried, tally),
+        }
+        Ok(())
     }
 }
 
-// What is asked, for one number.
-fn ask(row: Row, code: u32, list: Reading, words: &[u32], seen: Tally) -> Tally
-    requires { HoldsList list.n list.m words.now }
-{
-    let asked = row.asked;
-    match asked {
-        0 => search(row.with, list, words, seen),
-        1 => try_place(row.with, code, list, words, seen),
-        2 => try_sheet(row.with, code, list, words, seen),
-        3 => try_sets(code, list, words, seen),
-        _ => try_firsts(code, row.with, list, words, seen),
+// A list that is tried, as the product and as the plain computations have it.
+#[derive(Drop)]
+pub(crate) struct Tried {
+    pub(crate) held: Held,
+    pub(crate) plain: Plain,
+}
+
+// The list of a pair file, where the reader takes it, with so many stops.
+fn read(file: &[u8], stops: u32, alloc: Global) -> Result<Option<Tried>, AllocError> {
+    let Ok(held) = Held::read(file) else {
+        return Ok(None);
+    };
+    let plain = held.plain(alloc)?;
+    if plain.inside(|_| true) == stops {
+        Ok(Some(Tried { held, plain }))
+    } else {
+        Ok(None)
     }
 }
 
-// What is asked, for every number.
-fn ask_all(row: Row, list: Reading, words: &[u32], seen: Tally) -> Tally
-    requires { HoldsList list.n list.m words.now }
-{
-    let count = codes(row, list);
-    let mut now = seen;
-    let mut code = 0;
-    while code < count {
-        now = ask(row, code, list, words, now);
-        code += 1;
+// Draws a list, reads its file, and asks.
+fn try_list(asked: Asked, plan: Plan, alloc: Global, tally: &mut Tally) -> Result<(), AllocError> {
+    let drawn = plan.draw(&mut tally.random, alloc)?;
+    let stops = drawn.inside(|_| true);
+    tally.list(drawn.pair_count(), stops);
+    match read(drawn.file(alloc)?.as_bytes(), stops, alloc)? {
+        Some(tried) => asked.ask(&tried, alloc, tally)?,
+        None => tally.unread(),
     }
-    now
+    Ok(())
 }
 
-// Reads a list's file, the first `end` bytes of a text, which has so many stops.
-fn read_list(row: Row, text: &[u8], end: u32, stops: u32, seen: Tally) -> Tally {
-    let mut words = [0u32; 12288];
-    let size = end as usize;
-    if text.len() < size {
-        return seen.not_read();
+// All lists of a row.
+pub(crate) fn try_lists(
+    asked: Asked,
+    lists: Lists,
+    alloc: Global,
+    tally: &mut Tally,
+) -> Result<(), AllocError> {
+    for i in 0..lists.count {
+        try_list(asked, lists.plan(i), alloc, tally)?;
     }
-    let list = read_words(&text[..size], 4096, &mut words);
-    if list.number != 0 {
-        return seen.not_read();
-    }
-    if inside(0, list.m, &words, &words) != stops {
-        return seen.not_read();
-    }
-    ask_all(row, list, &words, seen)
-}
-
-// Makes a list, and reads it.
-fn try_list(row: Row, list: Listed, seen: Tally) -> Tally {
-    let mut text = [0u8; 65536];
-    let file = put_file(list, seen.state, &mut text);
-    let now = seen.made(file.taken, file.stops, file.state);
-    read_list(row, &text, file.end, file.stops, now)
-}
-
-// The first `count` lists of a row, after what was seen before.
-pub(crate) fn go_on(count: u32, row: Row, seen: Tally) -> Tally {
-    let mut now = seen;
-    let mut i = 0;
-    while i < count {
-        now = try_list(row, list_at(row, i), now);
-        i += 1;
-    }
-    now
+    Ok(())
 }

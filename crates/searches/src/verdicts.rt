@@ -1,139 +1,76 @@
 // Check and surplus as document 01 states them and as plainly as can be: a pass over the bytes for the size, one over the pairs for the inside count,
 // and one over the pairs for each module's load.
-use crate::calls::refused;
-use crate::entries::{Pair, pair_at, read_set, times, word_at};
-use crate::plain::{inside, product};
-use pairfile::Reading;
-use std::num::{nearest_i64_to_f64, wrapping_add_u32, wrapping_sub_u32};
-use verify::{Difference, Verdict};
+use crate::changes::Sheet;
+use crate::plain::Plain;
+use model::front;
+use numbers::Ratio;
+use pairs::Stops;
+use refusals::Refusal;
 
-// A group: its size and its inside count; both 0 where the set is no group.
-#[derive(Clone, Copy)]
-pub struct Group {
-    pub size: u32,
-    pub inside: u32,
-}
-
-// The group of member bytes.
-fn read_group(list: Reading, words: &[u32], members: &[u8]) -> Group {
-    let mut set = [0u32; 512];
-    let size = read_set(list.n, members, &mut set);
-    if size == 0 {
-        return Group { size, inside: 0 };
-    }
-    let inside = inside(1, list.m, words, &set);
-    Group { size, inside }
-}
-
-// Whether share j is above the units of its pair at share size q.
-fn passes(q: u32, j: u32, words: &[u32], shares: &[u32]) -> bool {
-    let pair = pair_at(words, j);
-    times(pair.w, q) < word_at(shares, j)
-}
-
-// Whether one of the first m shares is above the units of its pair.
-fn past(m: u32, q: u32, words: &[u32], shares: &[u32]) -> bool {
-    let mut j = 0;
-    while j < m {
-        if passes(q, j, words, shares) {
-            return true;
-        }
-        j += 1;
-    }
-    false
+// How many units a pair of stop count w has at share size q.
+pub(crate) fn units(w: u32, q: u32) -> u32 {
+    w.saturating_mul(q)
 }
 
 // What module v receives of a pair, whose smaller end receives x of its units.
-fn part(q: u32, v: u32, pair: Pair, x: u32) -> u32 {
+fn part(v: u32, pair: &Stops, x: u32, q: u32) -> u32 {
     if v == pair.a {
-        return x;
-    }
-    if v == pair.b {
-        wrapping_sub_u32(times(pair.w, q), x)
+        x
+    } else if v == pair.b {
+        units(pair.w, q).saturating_sub(x)
     } else {
         0
     }
 }
 
-// The load of module v: the sum over all pairs.
-fn load(q: u32, v: u32, m: u32, words: &[u32], shares: &[u32]) -> u32 {
-    let mut sum = 0;
-    let mut j = 0;
-    while j < m {
-        sum = wrapping_add_u32(sum, part(q, v, pair_at(words, j), word_at(shares, j)));
-        j += 1;
-    }
-    sum
-}
-
-// Whether one of the loads is above the group's inside count.
-fn overloaded(group: Group, list: Reading, words: &[u32], shares: &[u32]) -> bool {
-    let mut v = 0;
-    while v < list.n {
-        if group.inside < load(group.size, v, list.m, words, shares) {
-            return true;
+impl Plain {
+    // The inside count and the size of the group of member bytes, where they are one.
+    fn group(&self, members: &[u8]) -> Result<Ratio, Refusal> {
+        let members = front(members, self.n as usize);
+        let q = members
+            .iter()
+            .fold(0u32, |sum, &byte| sum.saturating_add(u32::from(byte)));
+        if q == 0 || members.iter().any(|&byte| 1 < byte) {
+            return Err(Refusal::NoGroup);
         }
-        v += 1;
+        let p = self.inside(|v| members.get(v as usize).copied() == Some(1));
+        Ok(Ratio { p, q })
     }
-    false
-}
 
-// Check's answer: refused by 7, 8, 9, or accepted.
-pub(crate) fn check_plainly(
-    list: Reading,
-    words: &[u32],
-    members: &[u8],
-    shares: &[u32],
-) -> Verdict {
-    let group = read_group(list, words, members);
-    if group.size == 0 {
-        return refused(7);
+    // Whether one of the shares is above the units of its pair.
+    fn passes(&self, shares: &[u32], q: u32) -> bool {
+        self.pairs
+            .iter()
+            .zip(shares.iter())
+            .any(|(pair, &x)| units(pair.w, q) < x)
     }
-    if past(list.m, group.size, words, shares) {
-        return refused(8);
-    }
-    if overloaded(group, list, words, shares) {
-        return refused(9);
-    }
-    Verdict {
-        number: 0,
-        p: group.inside,
-        q: group.size,
-    }
-}
 
-pub(crate) fn same_verdict(x: Verdict, y: Verdict) -> bool {
-    if x.number != y.number {
-        return false;
+    // The load of module v: the sum over all pairs.
+    fn load(&self, v: u32, shares: &[u32], q: u32) -> u32 {
+        self.pairs.iter().zip(shares.iter()).fold(
+            0u32,
+            |sum, (pair, &x)| sum.saturating_add(part(v, pair, x, q)),
+        )
     }
-    if x.p != y.p {
-        return false;
-    }
-    x.q == y.q
-}
 
-// Surplus is refused by 7 where one of the sets is no group.
-fn surplus_number(one: Group, other: Group) -> u32 {
-    if one.size == 0 {
-        return 7;
+    // Check: refused by 7, by 8 where a share is above the units of its pair, and by 9 where a load is above the inside count.
+    pub(crate) fn check(&self, sheet: Sheet) -> Result<Ratio, Refusal> {
+        let ratio = self.group(sheet.members)?;
+        if self.passes(sheet.shares, ratio.q) {
+            return Err(Refusal::ShareTooLarge);
+        }
+        if (0..self.n).any(|v| ratio.p < self.load(v, sheet.shares, ratio.q)) {
+            return Err(Refusal::LoadTooLarge);
+        }
+        Ok(ratio)
     }
-    if other.size == 0 { 7 } else { 0 }
-}
 
-// Whether surplus's answer is right: modules of the second group times inside count of the first, minus inside count of the second times modules of the
-// first; a set that is no group counts as 0 in both.
-pub(crate) fn surplus_right(
-    list: Reading,
-    words: &[u32],
-    first: &[u8],
-    second: &[u8],
-    difference: Difference,
-) -> bool {
-    let one = read_group(list, words, first);
-    let other = read_group(list, words, second);
-    let value = product(other.size, one.inside) - product(one.size, other.inside);
-    if difference.number != surplus_number(one, other) {
-        return false;
+    // Surplus: modules of the second group times inside count of the first, minus inside count of the second times modules of the first; refused by 7 where one
+    // of the sets is no group.
+    pub(crate) fn surplus(&self, first: &[u8], second: &[u8]) -> Result<i64, Refusal> {
+        let first = self.group(first)?;
+        let second = self.group(second)?;
+        let product = |p: u32, q: u32| i64::from(p).wrapping_mul(i64::from(q));
+        Ok(product(first.p, second.q).wrapping_sub(product(second.p, first.q)))
     }
-    nearest_i64_to_f64(difference.value) == value
 }

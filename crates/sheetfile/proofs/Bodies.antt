@@ -1,30 +1,21 @@
--- The parts of a sheet put together: what each way through read_body and read_sheet gives.
---   members_refused, numbers_refused, shares_refused, bytes_follow, body_whole       read_body
---   head_none, head_small, head_unfit, head_read                                     read_sheet
+-- The parts of a sheet put together: what each way through read_sheet gives.
+--   members_refused, numbers_refused, shares_refused, bytes_follow, body_whole       the lines after the head
+--   head_missing, head_unfit, body_refused, sheet_whole                              the whole sheet
 -- Assumes nothing.
-use mathlib.Core.Path.{◌≡◌, refl, ap, ◌∙◌}
-use mathlib.Core.Bool.{Bool, true, false, ◌&&◌, and-false}
-use mathlib.Core.List.{List, []}
-use mathlib.Core.Logic.{◌⊎◌, ⊎_elim}
-use Prim.Native.Nat.{ℕ, zero, suc, ◌≤◌, ◌<◌}
-use native.Mathlib.Omega.{arith}
-use borrow.Author.Tests.{ltb-true, ltb-false, lt-leb, le-leb, lt-ltb, le-ltb}
-use lib.Dec.{leb, ltb}
-use lib.ListN.{length, get_or, take, drop, length-drop}
-use lib.Seq.{get_or-take}
-use Rattle.theory.specs.Basics.{mark}
+use Rattle.std.proofs.Common.{◌≡◌, ◌∙◌, true, false, List, [], ℕ, ◌≤◌, ◌<◌, length, get_or, replicate, Ok, Err}
+use borrow.Author.Tests.{lt-ltb, le-ltb}
 use Rattle.theory.specs.Lists.{Pairs}
+use Rattle.theory.specs.Cores.{core_numbers}
 use Rattle.theory.specs.Refusals.{cause, refusal}
-use Rattle.lines.specs.Text.{text, between}
-use Rattle.lines.specs.Lines.{first, second, third, fourth, is_place, places}
-use Rattle.lines.specs.Outcomes.{Outcome, taken, ◌>>=◌, ◌>>◌, passed, judge, line_or, line_due}
-use Rattle.lines.specs.Answers.{LineFound}
-use Rattle.lines.specs.declared.FoundLine.{FoundLine}
-use Rattle.lines.specs.declared.FoundLine.TheVariants.{Malformed}
-use Rattle.lines.proofs.Found.{LineHas, malformed}
+use Rattle.refusals.specs.declared.Refusal.{Refusal}
+use Rattle.refusals.specs.declared.Refusal.TheVariants.{BadGroupSize, SheetGoesOn}
+use Rattle.refusals.specs.Numbers.{number_of}
+use Rattle.lines.specs.Text.{between}
+use Rattle.lines.specs.Lines.{first, second, third, fourth}
+use Rattle.lines.specs.Outcomes.{Outcome, refused, taken, ◌>>=◌, ◌>>◌, judge, outcome_of}
+use Rattle.lines.proofs.Found.{judged_by, judge_passed}
 use Rattle.sheetfile.specs.Sheet.{
   head_form,
-  Part,
   Body,
   read_members,
   read_numbers,
@@ -35,134 +26,96 @@ use Rattle.sheetfile.specs.Sheet.{
   ratio_causes,
   read_sheet,
 }
-use Rattle.sheetfile.specs.Answers.{unless_number, PartRead, NumbersRead, Beside, BodyRead, sheet_of, SheetRead}
-use Rattle.sheetfile.specs.declared.sheet.Lines.{Lines}
-use Rattle.sheetfile.specs.declared.sheet.SheetHead.{SheetHead}
-use Rattle.sheetfile.proofs.Reading.{line_small, ends_reading, goes_on}
+use Rattle.sheetfile.specs.Answers.{LineDue, PartRead, NumbersRead, sheet_of, SheetRead}
 
--- ---- read_body
+-- ---- the lines after the head
 
-abbrev part : (entries : List ℕ) → Lines → (bytes : List ℕ) → Part
-part es r bs = record { entries = es; rest = drop r.next bs }
-
-module _ {g : Pairs} {cores s₀ : List ℕ} (b : Beside g cores s₀) {bs : List ℕ} (at q : ℕ) {s : List ℕ} {r₁ : Lines}
-    (f₁ : PartRead bs (read_members q 0 s₀ (drop at bs)) s r₁) where
+module _ (g : Pairs) (q : ℕ) (bs : List ℕ) {cores s₀ : List ℕ} (own : cores ≡ core_numbers g) (unmarked : s₀ ≡ replicate g.n 0) where
   abbrev body : Outcome Body
-  body = read_body g q (drop at bs)
+  body = read_body g q bs
 
-  after_members : body ≡ (do
-    members ← unless_number r₁.number (part s r₁ bs)
+  members_first : body ≡ (do
+    members ← read_members q 0 s₀ bs
     rest ← read_numbers cores members.rest
     shares ← read_shares g.pairs [] rest
     judge (rest_causes shares.rest)
     taken (record { members = members.entries; shares = shares.entries }))
   unfolding read_body
-  after_members = rw (← b.unmarked, f₁.found, b.numbers)
+  members_first = rw (unmarked, own)
 
-  pub members_refused : (xs : List ℕ) → (r₁.number ≡ 0 → ⊥) → BodyRead body s xs r₁.number
-  members_refused xs h = record { found = after_members ∙ ends_reading r₁.number _ _ _ h }
+  -- 101, 103
+  pub members_refused : {s left : List ℕ} {e : Refusal} → PartRead (read_members q 0 s₀ bs) s (Err e) left → body ≡ refused (number_of e)
+  unfolding ◌>>=◌ outcome_of
+  members_refused f = members_first ∙ rw f.found
 
-  module _ (z₁ : r₁.number ≡ 0) {r₂ : Lines} (f₂ : NumbersRead bs (read_numbers cores (drop r₁.next bs)) r₂) where
-    after_numbers : body ≡ (do
-      rest ← unless_number r₂.number (drop r₂.next bs)
-      shares ← read_shares g.pairs [] rest
-      judge (rest_causes shares.rest)
-      taken (record { members = s; shares = shares.entries }))
-    after_numbers = after_members ∙ goes_on r₁.number _ _ z₁ ∙ rw f₂.found
+  module _ {s l₁ : List ℕ} (f₁ : PartRead (read_members q 0 s₀ bs) s (Ok tt) l₁) where
+    -- 101, 104
+    pub numbers_refused : {left : List ℕ} {e : Refusal} → NumbersRead (read_numbers cores l₁) (Err e) left → body ≡ refused (number_of e)
+    unfolding ◌>>=◌ outcome_of
+    numbers_refused f = members_first ∙ rw (f₁.found, f.found)
 
-    pub numbers_refused : (xs : List ℕ) → (r₂.number ≡ 0 → ⊥) → BodyRead body s xs r₂.number
-    numbers_refused xs h = record { found = after_numbers ∙ ends_reading r₂.number _ _ _ h }
+    module _ {l₂ : List ℕ} (f₂ : NumbersRead (read_numbers cores l₁) (Ok tt) l₂) where
+      -- 101, 105
+      pub shares_refused : {xs left : List ℕ} {e : Refusal} → PartRead (read_shares g.pairs [] l₂) xs (Err e) left → body ≡ refused (number_of e)
+      unfolding ◌>>=◌ outcome_of
+      shares_refused f = members_first ∙ rw (f₁.found, f₂.found, f.found)
 
-    module _ (z₂ : r₂.number ≡ 0) {xs : List ℕ} {r₃ : Lines}
-        (f₃ : PartRead bs (read_shares g.pairs [] (drop r₂.next bs)) xs r₃) where
-      after_shares : body ≡ (do
-        shares ← unless_number r₃.number (part xs r₃ bs)
-        judge (rest_causes shares.rest)
-        taken (record { members = s; shares = shares.entries }))
-      after_shares = after_numbers ∙ goes_on r₂.number _ _ z₂ ∙ rw f₃.found
-
-      pub shares_refused : (r₃.number ≡ 0 → ⊥) → BodyRead body s xs r₃.number
-      shares_refused h = record { found = after_shares ∙ ends_reading r₃.number _ _ _ h }
-
-      module _ (z₃ : r₃.number ≡ 0) where
+      module _ {xs l₃ : List ℕ} (f₃ : PartRead (read_shares g.pairs [] l₂) xs (Ok tt) l₃) where
         at_end : body ≡ (do
-          judge (rest_causes (drop r₃.next bs))
+          judge (rest_causes l₃)
           taken (record { members = s; shares = xs }))
-        at_end = after_shares ∙ goes_on r₃.number _ _ z₃
+        unfolding ◌>>=◌ outcome_of
+        at_end = members_first ∙ rw (f₁.found, f₂.found, f₃.found)
 
         -- 106
-        pub bytes_follow : r₃.next < length bs → BodyRead body s xs 106
-        unfolding judge passed refusal cause rest_causes ◌>>◌ unless_number
-        bytes_follow h = record { found = at_end ∙ rw (lt-ltb 0 (length (drop r₃.next bs)) (omega (arith, length-drop r₃.next bs))) }
+        pub bytes_follow : 0 < length l₃ → body ≡ refused 106
+        unfolding ◌>>◌ outcome_of rest_causes cause refusal
+        bytes_follow h = at_end ∙ rw (judged_by SheetGoesOn (rest_causes l₃) (rw (lt-ltb 0 (length l₃) h)))
 
-        pub body_whole : length bs ≤ r₃.next → BodyRead body s xs 0
-        unfolding judge passed refusal cause rest_causes ◌>>◌ unless_number
-        body_whole h = record { found = at_end ∙ rw (le-ltb 0 (length (drop r₃.next bs)) (omega (arith, length-drop r₃.next bs))) }
+        -- all lines have been read
+        pub body_whole : length l₃ ≤ 0 → body ≡ taken (record { members = s; shares = xs })
+        unfolding ◌>>◌ outcome_of rest_causes cause refusal
+        body_whole h = at_end ∙ rw (judge_passed (rest_causes l₃) (rw (le-ltb 0 (length l₃) h)))
 
--- ---- read_sheet
+-- ---- the whole sheet
 
-abbrev pub refused_head : (number : ℕ) → SheetHead
-refused_head k = record { number = k; p = 0; q = 0; k = 0; coresize = 0 }
+module _ (g : Pairs) {bs : List ℕ} where
+  -- 101
+  pub head_missing : {s xs left : List ℕ} {e : Refusal} → LineDue 7 head_form bs (Err e) left → SheetRead (read_sheet g bs) s xs (Err e)
+  unfolding read_sheet ◌>>=◌ outcome_of
+  head_missing f = record { found = rw f.found }
 
--- the head's numbers, as they lie in a buffer
-abbrev pub head_in : (number : ℕ) → (numbers : List ℕ) → SheetHead
-head_in k ns = record { number = k; p = get_or ns 0 0; q = get_or ns 1 0; k = get_or ns 2 0; coresize = get_or ns 3 0 }
+  module _ {ns left : List ℕ} (f : LineDue 7 head_form bs (Ok ns) left) where
+    abbrev q : ℕ
+    q = get_or ns 1 0
 
--- 101
-pub head_none : {bs ms ns : List ℕ} {r : FoundLine} → LineFound 7 bs 0 head_form ms ns r → (g : Pairs) (s xs : List ℕ) → r ≡ Malformed →
-    SheetRead (read_sheet g bs) s xs (refused_head 101)
-unfolding read_sheet line_due line_or ◌>>=◌ unless_number
-head_none f g s xs e = record { found = rw (malformed f e); some = λ z. absurd (omega (arith, z)) }
+    after_head : read_sheet g bs ≡ (do
+      judge (ratio_causes g.n q)
+      body ← read_body g q left
+      taken (sheet (record { numbers = ns; rest = left }) body))
+    unfolding read_sheet ◌>>=◌ outcome_of second
+    after_head = rw f.found
 
--- Q has at most seven digits
-pub head_small : {bs ns : List ℕ} {i : ℕ} → LineHas 7 head_form 4 bs 0 ns i → get_or ns 1 0 ≤ 9999999
-unfolding head_form text places is_place between mark
-head_small {bs} {ns} f = omega (arith, line_small 7 (omega arith) head_form bs _ 1 f.found (omega arith), get_or-take 4 ns 1 0 (omega arith))
+    -- 102
+    pub head_unfit : {s xs : List ℕ} → between 1 g.n q ≡ false → SheetRead (read_sheet g bs) s xs (Err BadGroupSize)
+    unfolding ◌>>◌ outcome_of ratio_causes cause refusal
+    head_unfit h = record { found = after_head ∙ rw (judged_by BadGroupSize (ratio_causes g.n q) (rw h)) }
 
-module _ {bs ns : List ℕ} {i : ℕ} (f : LineHas 7 head_form 4 bs 0 ns i) (g : Pairs) where
-  abbrev n : ℕ
-  n = g.n
+    module _ (fit : between 1 g.n q ≡ true) where
+      body_next : read_sheet g bs ≡ (do
+        body ← read_body g q left
+        taken (sheet (record { numbers = ns; rest = left }) body))
+      unfolding ◌>>◌ ratio_causes cause refusal
+      body_next = after_head ∙ rw (judge_passed (ratio_causes g.n q) (rw fit))
 
-  abbrev q : ℕ
-  q = get_or ns 1 0
+      -- 101, 103 to 106
+      pub body_refused : {s xs : List ℕ} {e : Refusal} → read_body g q left ≡ refused (number_of e) → SheetRead (read_sheet g bs) s xs (Err e)
+      unfolding ◌>>=◌ outcome_of
+      body_refused b = record { found = body_next ∙ rw b }
 
-  after_head : read_sheet g bs ≡ (do
-    judge (ratio_causes n q)
-    body ← read_body g q (drop i bs)
-    taken (sheet (record { numbers = take 4 ns; rest = drop i bs }) body))
-  unfolding read_sheet line_due line_or ◌>>=◌ second
-  after_head = rw (f.found, get_or-take 4 ns 1 0 (omega arith))
-
-  -- 102
-  pub head_unfit : (s xs : List ℕ) → (q < 1) ⊎ (ltb n q ≡ true) → SheetRead (read_sheet g bs) s xs (refused_head 102)
-  unfolding judge passed refusal cause ratio_causes between ◌>>◌ unless_number
-  head_unfit s xs h = record { found = after_head ∙ rw met; some = λ z. absurd (omega (arith, z)) }
-    where
-      met : (leb 1 q && leb q n) ≡ false
-      met =
-          ⊎_elim (λ l. ap (λ (t : Bool). t && leb q n) (lt-leb 1 q (omega (arith, l))))
-          (λ l. ap (λ (t : Bool). leb 1 q && t) (lt-leb q n (omega (arith, ltb-true n q l))) ∙ and-false (leb 1 q)) h
-
-  -- the numbers are those in the buffer
-  same_sheet : (s xs : List ℕ) (k : ℕ) →
-      sheet (record { numbers = take 4 ns; rest = drop i bs }) (record { members = s; shares = xs }) ≡ sheet_of (head_in k ns) s xs
-  unfolding sheet sheet_of first second third fourth
-  same_sheet s xs k =
-      rw (get_or-take 4 ns 0 0 (omega arith), get_or-take 4 ns 1 0 (omega arith), get_or-take 4 ns 2 0 (omega arith), get_or-take 4 ns 3 0 (omega arith))
-
-  with_body : (s xs : List ℕ) (k : ℕ) → (do
-    body ← unless_number k (record { members = s; shares = xs })
-    taken (sheet (record { numbers = take 4 ns; rest = drop i bs }) body)) ≡ unless_number k (sheet_of (head_in k ns) s xs)
-  unfolding unless_number ◌>>=◌
-  with_body s xs zero = ap taken (same_sheet s xs 0)
-  with_body s xs (suc k) = refl
-
-  -- the rest decides
-  pub head_read : 1 ≤ q → ltb n q ≡ false → {s xs : List ℕ} {k : ℕ} → BodyRead (read_body g q (drop i bs)) s xs k →
-      SheetRead (read_sheet g bs) s xs (head_in k ns)
-  unfolding judge passed refusal cause ratio_causes between ◌>>◌
-  head_read low high {s} {xs} {k} b =
-      record {
-        found = after_head ∙ rw (le-leb 1 q low, le-leb q n (ltb-false n q high), b.found) (with_body s xs k);
-        some = λ z. low;
-      }
+      -- the whole sheet
+      pub sheet_whole : {s xs : List ℕ} → read_body g q left ≡ taken (record { members = s; shares = xs }) →
+          SheetRead (read_sheet g bs) s xs
+          (Ok (record { ratio = record { p = get_or ns 0 0; q = q }; k = get_or ns 2 0; core_size = get_or ns 3 0 }))
+      unfolding ◌>>=◌ outcome_of sheet sheet_of first second third fourth
+      sheet_whole b = record { found = body_next ∙ rw b }

@@ -1,36 +1,25 @@
 -- Lines of a sheet read one after another: the three loops.
---   AcceptedLine, accepted_line       what is known of a line that is taken
---   line_small                         a number on it is below 10 to the number of its digits
---   unless_none, unless_some           a number that is 0, and one that is not
---   ends_reading, goes_on              a refusal ends the reading, and what is taken goes on
---   Marked, marked_start, marked_index, marked_refused, marked_step, marked_done       member lines
---   Counted, counted_start, counted_refused, counted_step, counted_done                number lines
---   Shared, shared_start, shared_refused, shared_step, shared_done       share lines
+--   Marked, marked_missing, marked_unfit, marked_step, marked_done          member lines
+--   Counted, counted_missing, counted_unfit, counted_step, counted_done     number lines
+--   Shared, shared_missing, shared_unfit, shared_step, shared_done          share lines
 -- Assumes nothing.
-use mathlib.Core.Path.{◌≡◌, refl, ap, ◌∙◌}
-use mathlib.Core.Bool.{Bool, false, not, ◌&&◌}
-use mathlib.Core.List.{List, [], ◌∷◌, ◌++◌}
-use mathlib.Core.Option.{some}
-use Prim.Native.Nat.{ℕ, zero, suc, ◌+◌, ◌*◌, ◌-◌, ◌^◌, ◌≤◌, ◌<◌}
-use native.Mathlib.Omega.{arith}
-use borrow.Author.Tests.{not-false}
-use lib.Dec.{leb, ltb}
-use lib.ListN.{length, get_or, set, take, drop, length-set}
+use Rattle.std.proofs.Common.{◌≡◌, ◌∙◌, true, false, not, ◌&&◌, leb, ltb, eqb, List, [], ◌∷◌, ◌++◌, ℕ, suc, ◌+◌, ◌*◌, ◌-◌, ◌≤◌, ◌<◌, length, get_or, set, take, drop, Ok, Err, arith}
+use borrow.Author.Tests.{eq-eqb, ne_eqb}
+use lib.ListN.{length-set, drop_of_length-le}
 use lib.Seq.{take_all, drop-cons, take-suc, take-set-le, get_or-set_same}
 use Rattle.theory.specs.Lists.{Pair, pair}
-use Rattle.theory.specs.Refusals.{cause, refusal}
-use Rattle.theory.specs.Words.{laid_pairs}
-use Rattle.theory.proofs.Tests.{tests, fails}
-use Rattle.theory.proofs.Words.{length_laid, laid_at}
-use Rattle.pairs.proofs.General.{all_at}
-use Rattle.lines.specs.Numbers.{Number}
-use Rattle.lines.specs.Lines.{Line, first, places, line_of}
-use Rattle.lines.specs.Outcomes.{Outcome, refused, taken, ◌>>=◌}
-use Rattle.lines.proofs.Taken.{taken_same, line_passed}
-use Rattle.lines.proofs.Fills.{small, line_spelled}
+use Rattle.theory.specs.Refusals.{Cause, cause}
+use Rattle.theory.specs.Words.{word_pair, pairs_in}
+use Rattle.theory.proofs.Words.{length_pairs_in, pairs_in_at}
+use Rattle.refusals.specs.declared.Refusal.{Refusal}
+use Rattle.refusals.specs.declared.Refusal.TheVariants.{BadMember, BadCoreNumber, AnotherPair}
+use Rattle.refusals.specs.Numbers.{number_of}
+use Rattle.lines.specs.Lines.{Line, first, second, third}
+use Rattle.lines.specs.Outcomes.{refused, ◌>>=◌, outcome_of}
 use Rattle.sheetfile.specs.Sheet.{
   member_form,
-  judged_line,
+  number_form,
+  share_form,
   member_line,
   read_members,
   number_line,
@@ -38,209 +27,188 @@ use Rattle.sheetfile.specs.Sheet.{
   share_line,
   read_shares,
 }
-use Rattle.sheetfile.specs.Answers.{unless_number, LineRead, PartRead, NumbersRead}
-use Rattle.sheetfile.specs.declared.sheet.OneLine.{OneLine}
-use Rattle.sheetfile.specs.declared.sheet.Lines.{Lines}
-
--- a line that is taken: it is of its form, its own cause is not met, and its number is the one picked
-pub record AcceptedLine (d : ℕ) (form : List ℕ) (test : Line → Bool) (pick : Line → ℕ) (bs : List ℕ) (a : Number) : Type 0 where
-  pub line : Line
-  pub found : line_of d form bs ≡ some line
-  pub unmet : test line ≡ false
-  pub picked : pick line ≡ a.value
-
-pub accepted_line : (d : ℕ) (form : List ℕ) (k : ℕ) (test : Line → Bool) (pick : Line → ℕ) (bs : List ℕ) (a : Number) →
-    judged_line d form (λ l. cause (suc k) (test l)) pick bs ≡ taken a → AcceptedLine d form test pick bs a
-unfolding judged_line refusal cause
-accepted_line d form k test pick bs a e =
-    let p = line_passed 101 d form bs (λ l. cause (suc k) (test l) ∷ []) (λ l. taken (record { value = pick l; rest = l.rest })) a e in
-    record {
-      line = p.line;
-      found = p.found;
-      unmet = fails (test p.line) (λ t. omega (arith, rw t at p.unmet));
-      picked = ap (λ (x : Number). x.value) (taken_same p.then);
-    }
-
--- a number on a line has at most d digits
-pub line_small : (d : ℕ) → d ≤ 10 → (form bs : List ℕ) (l : Line) (i : ℕ) → line_of d form bs ≡ some l → i < places form → get_or l.numbers i 0 < 10 ^ d
-unfolding small
-line_small d few form bs l i e h =
-    let s = line_spelled d few form bs l e in
-    simp tests at (all_at (small d) l.numbers i 0 s.short (omega (arith, s.size)))
-
--- a number that is not 0 is a refusal, and 0 is none
-pub unless_some : {A : Type 0} (k : ℕ) (a : A) → (k ≡ 0 → ⊥) → unless_number k a ≡ refused k
-unfolding unless_number
-unless_some zero a h = absurd (h refl)
-unless_some (suc k) a h = refl
-
-pub unless_none : {A : Type 0} (k : ℕ) (a : A) → k ≡ 0 → unless_number k a ≡ taken a
-unfolding unless_number
-unless_none k a e = rw e
-
--- a refused line ends the reading
-pub ends_reading : {A B : Type 0} (k : ℕ) (a : A) (f : A → Outcome B) (b : B) → (k ≡ 0 → ⊥) → ◌>>=◌ (unless_number k a) f ≡ unless_number k b
-unfolding ◌>>=◌
-ends_reading k a f b h = rw (unless_some k a h, unless_some k b h)
-
--- one that is taken goes on
-pub goes_on : {A B : Type 0} (k : ℕ) (a : A) (f : A → Outcome B) → k ≡ 0 → ◌>>=◌ (unless_number k a) f ≡ f a
-unfolding ◌>>=◌
-goes_on k a f e = rw (unless_none k a e)
-
-abbrev line_at : OneLine → (bs : List ℕ) → Number
-line_at r bs = record { value = r.value; rest = drop r.next bs }
-
-abbrev pub stopped : (number : ℕ) → Lines
-stopped k = record { number = k; next = 0 }
-
-abbrev pub read_to : (next : ℕ) → Lines
-read_to i = record { number = 0; next = i }
-
--- past the end of a list nothing is left
-drop_all : {A : Type 0} (n : ℕ) (xs : List A) → length xs ≤ n → drop n xs ≡ []
-drop_all zero [] h = refl
-drop_all zero (x ∷ xs) h = absurd (omega arith)
-drop_all (suc n) [] h = refl
-drop_all (suc n) (x ∷ xs) h = drop_all n xs (omega arith)
+use Rattle.sheetfile.specs.Answers.{LineDue, PartRead, NumbersRead}
+use Rattle.sheetfile.proofs.Judging.{line_missing, line_unfit, line_fit}
 
 -- ---- member lines
 
--- the first k of q member lines, up to i, have been read, and their members are marked; the next is at least `low`
-pub record Marked (bs : List ℕ) (at q : ℕ) (old s : List ℕ) (i low k : ℕ) : Type 0 where
-  pub within : i ≤ length bs
+-- a member line's own cause
+abbrev member_own : (n low : ℕ) → Line → Cause
+member_own n low l = cause 103 (not (leb low (first l) && ltb (first l) n))
+
+-- of the q member lines in front of the bytes the first k have been read, and their members are marked; the next is at least `low`
+pub record Marked (bs : List ℕ) (q : ℕ) (old s left : List ℕ) (low k : ℕ) : Type 0 where
   pub upto : k ≤ q
-  pub size : length s ≡ length old
-  pub left : read_members q 0 old (drop at bs) ≡ read_members (q - k) low s (drop i bs)
+  pub so_far : read_members q 0 old bs ≡ read_members (q - k) low s left
 
-pub marked_start : (bs : List ℕ) (at q : ℕ) (s : List ℕ) → at ≤ length bs → Marked bs at q s s at 0 0
-marked_start bs at q s h =
-    let e : q - 0 ≡ q = omega arith in
-    record { within = h; upto = omega arith; size = refl; left = rw e }
-
-module _ {bs : List ℕ} {at q : ℕ} {old s : List ℕ} {i low k : ℕ} (m : Marked bs at q old s i low k) where
-  pub marked_done : q ≤ k → PartRead bs (read_members q 0 old (drop at bs)) s (read_to i)
-  unfolding read_members unless_number
+module _ {bs : List ℕ} {q : ℕ} {old s left : List ℕ} {low k : ℕ} (m : Marked bs q old s left low k) where
+  -- all lines have been read
+  pub marked_done : q ≤ k → PartRead (read_members q 0 old bs) s (Ok tt) left
+  unfolding read_members outcome_of
   marked_done h =
       let z : q - k ≡ 0 = omega arith in
-      record { found = m.left ∙ rw z; within = m.within }
+      record { found = m.so_far ∙ rw z }
 
-  module _ (more : k < q) {r : OneLine} (l : LineRead bs (member_line (length s) low (drop i bs)) r) where
-    next_member : read_members q 0 old (drop at bs) ≡
+  module _ (more : k < q) where
+    next_member : read_members q 0 old bs ≡
         (do
-          a ← unless_number r.number (line_at r bs)
+          a ← member_line (length s) low left
           read_members (q - (k + 1)) (suc a.value) (set s a.value 1) a.rest)
     unfolding read_members
     next_member =
         let e : q - k ≡ suc (q - (k + 1)) = omega arith in
-        m.left ∙ rw (e, l.found)
+        m.so_far ∙ rw e
 
-    pub marked_refused : (r.number ≡ 0 → ⊥) → PartRead bs (read_members q 0 old (drop at bs)) s (stopped r.number)
-    marked_refused h = record { found = next_member ∙ ends_reading r.number (line_at r bs) _ _ h; within = omega arith }
+    -- a line is refused
+    member_refused : (e : Refusal) {left' : List ℕ} → member_line (length s) low left ≡ refused (number_of e) →
+        PartRead (read_members q 0 old bs) s (Err e) left'
+    unfolding ◌>>=◌ outcome_of
+    member_refused e h = record { found = next_member ∙ rw h }
 
-    module _ (taken_line : r.number ≡ 0) where
-      pub marked_index : r.value < length s
+    -- 101
+    pub marked_missing : {e : Refusal} {left' left'' : List ℕ} → LineDue 4 member_form left (Err e) left' →
+        PartRead (read_members q 0 old bs) s (Err e) left''
+    unfolding member_line
+    marked_missing {e} f = member_refused e (line_missing (member_own (length s) low) first f)
+
+    module _ {ns left' : List ℕ} (f : LineDue 4 member_form left (Ok ns) left') where
+      abbrev v : ℕ
+      v = get_or ns 0 0
+
+      -- 103
+      pub marked_unfit : (leb low v && ltb v (length s)) ≡ false → {left'' : List ℕ} → PartRead (read_members q 0 old bs) s (Err BadMember) left''
       unfolding member_line first
-      marked_index =
-          let a = accepted_line 4 member_form 102 (λ l. not (leb low (first l) && ltb (first l) (length s))) first (drop i bs) (line_at r bs)
-          (l.found ∙ unless_none r.number (line_at r bs) taken_line) in
-          let t = simp tests at (not-false (leb low (first a.line) && ltb (first a.line) (length s)) a.unmet) in
-          omega (arith, t.1, a.picked)
+      marked_unfit h = member_refused BadMember (line_unfit (member_own (length s) low) first f BadMember (rw h))
 
-      pub marked_step : Marked bs at q old (set s r.value 1) r.next (r.value + 1) (k + 1)
-      marked_step =
-          let e : r.value + 1 ≡ suc r.value = omega arith in
+      -- one line more
+      pub marked_step : (leb low v && ltb v (length s)) ≡ true → Marked bs q old (set s v 1) left' (v + 1) (k + 1)
+      unfolding member_line first ◌>>=◌
+      marked_step h =
+          let e : v + 1 ≡ suc v = omega arith in
           record {
-            within = l.within;
             upto = omega arith;
-            size = length-set s r.value 1 ∙ m.size;
-            left = next_member ∙ goes_on r.number (line_at r bs) _ taken_line ∙ rw e;
+            so_far = next_member ∙ rw (line_fit (member_own (length s) low) first f 103 (rw h), e);
           }
 
 -- ---- number lines
 
--- the first v number lines, up to i, have been read
-pub record Counted (bs : List ℕ) (at : ℕ) (cores : List ℕ) (i v : ℕ) : Type 0 where
-  pub within : i ≤ length bs
-  pub upto : v ≤ length cores
-  pub left : read_numbers cores (drop at bs) ≡ read_numbers (drop v cores) (drop i bs)
+-- a number line's own cause
+abbrev number_own : (c : ℕ) → Line → Cause
+number_own c l = cause 104 (not (eqb (first l) c))
 
-pub counted_start : (bs : List ℕ) (at : ℕ) (cores : List ℕ) → at ≤ length bs → Counted bs at cores at 0
-counted_start bs at cores h = record { within = h; upto = omega arith; left = refl }
+-- the first v number lines in front of the bytes have been read
+pub record Counted (bs cores left : List ℕ) (v : ℕ) : Type 0 where
+  pub so_far : read_numbers cores bs ≡ read_numbers (drop v cores) left
 
-module _ {bs : List ℕ} {at : ℕ} {cores : List ℕ} {i v : ℕ} (m : Counted bs at cores i v) where
-  pub counted_done : length cores ≤ v → NumbersRead bs (read_numbers cores (drop at bs)) (read_to i)
-  unfolding read_numbers unless_number
-  counted_done h = record { found = m.left ∙ rw (drop_all v cores h); within = m.within }
+module _ {bs cores left : List ℕ} {v : ℕ} (m : Counted bs cores left v) where
+  -- all lines have been read
+  pub counted_done : length cores ≤ v → NumbersRead (read_numbers cores bs) (Ok tt) left
+  unfolding read_numbers outcome_of
+  counted_done h = record { found = m.so_far ∙ rw (drop_of_length-le cores h) }
 
-  module _ (more : v < length cores) {r : OneLine} (l : LineRead bs (number_line (get_or cores v 0) (drop i bs)) r) where
-    next_number : read_numbers cores (drop at bs) ≡
-        (do
-          x ← unless_number r.number (line_at r bs)
-          read_numbers (drop (suc v) cores) x.rest)
+  module _ (more : v < length cores) where
+    abbrev c : ℕ
+    c = get_or cores v 0
+
+    next_number : read_numbers cores bs ≡ (do
+      x ← number_line c left
+      read_numbers (drop (suc v) cores) x.rest)
     unfolding read_numbers
-    next_number = m.left ∙ rw (drop-cons cores v 0 more, l.found)
+    next_number = m.so_far ∙ rw (drop-cons cores v 0 more)
 
-    pub counted_refused : (r.number ≡ 0 → ⊥) → NumbersRead bs (read_numbers cores (drop at bs)) (stopped r.number)
-    counted_refused h = record { found = next_number ∙ ends_reading r.number (line_at r bs) _ _ h; within = omega arith }
+    -- a line is refused
+    number_refused : (e : Refusal) {left' : List ℕ} → number_line c left ≡ refused (number_of e) → NumbersRead (read_numbers cores bs) (Err e) left'
+    unfolding ◌>>=◌ outcome_of
+    number_refused e h = record { found = next_number ∙ rw h }
 
-    pub counted_step : r.number ≡ 0 → Counted bs at cores r.next (v + 1)
-    counted_step z =
-        let e : v + 1 ≡ suc v = omega arith in
-        record {
-          within = l.within;
-          upto = omega arith;
-          left = next_number ∙ goes_on r.number (line_at r bs) _ z ∙ rw e;
-        }
+    -- 101
+    pub counted_missing : {e : Refusal} {left' left'' : List ℕ} → LineDue 7 number_form left (Err e) left' →
+        NumbersRead (read_numbers cores bs) (Err e) left''
+    unfolding number_line
+    counted_missing {e} f = number_refused e (line_missing (number_own c) first f)
+
+    module _ {ns left' : List ℕ} (f : LineDue 7 number_form left (Ok ns) left') where
+      -- 104
+      pub counted_unfit : (get_or ns 0 0 ≡ c → ⊥) → {left'' : List ℕ} → NumbersRead (read_numbers cores bs) (Err BadCoreNumber) left''
+      unfolding number_line first
+      counted_unfit n = number_refused BadCoreNumber (line_unfit (number_own c) first f BadCoreNumber (rw (ne_eqb (get_or ns 0 0) c n)))
+
+      -- one line more
+      pub counted_step : get_or ns 0 0 ≡ c → Counted bs cores left' (v + 1)
+      unfolding number_line first ◌>>=◌
+      counted_step e =
+          let s : v + 1 ≡ suc v = omega arith in
+          record { so_far = next_number ∙ rw (line_fit (number_own c) first f 104 (rw (eq-eqb (get_or ns 0 0) c e)), s) }
 
 -- ---- share lines
 
--- the first j share lines, up to i, have been read, and their shares are in the buffer
-pub record Shared (bs : List ℕ) (at : ℕ) (words old xs : List ℕ) (i j : ℕ) : Type 0 where
-  pub within : i ≤ length bs
-  pub upto : j ≤ length old
-  pub size : length xs ≡ length old
-  pub left : read_shares (laid_pairs (length old) words) [] (drop at bs) ≡ read_shares (drop j (laid_pairs (length old) words)) (take j xs) (drop i bs)
+-- a share line's own cause
+abbrev share_own : (a b : ℕ) → Line → Cause
+share_own a b l = cause 105 (not (eqb (first l) a && eqb (second l) b))
 
-pub shared_start : (bs : List ℕ) (at : ℕ) (words xs : List ℕ) → at ≤ length bs → Shared bs at words xs xs at 0
-shared_start bs at words xs h = record { within = h; upto = omega arith; size = refl; left = refl }
+-- of the m share lines in front of the bytes the first j have been read, and their shares are in the buffer
+pub record Shared (bs : List ℕ) (m : ℕ) (es ws xs left : List ℕ) (j : ℕ) : Type 0 where
+  pub upto : j ≤ m
+  pub size : length xs ≡ m
+  pub so_far : read_shares (pairs_in m es ws) [] bs ≡ read_shares (drop j (pairs_in m es ws)) (take j xs) left
 
-module _ {bs : List ℕ} {at : ℕ} {words old xs : List ℕ} {i j : ℕ} (m : Shared bs at words old xs i j) where
+module _ {bs : List ℕ} {m : ℕ} {es ws xs left : List ℕ} {j : ℕ} (s : Shared bs m es ws xs left j) where
   abbrev pairs : List Pair
-  pairs = laid_pairs (length old) words
+  pairs = pairs_in m es ws
 
-  pub shared_done : length xs ≤ j → PartRead bs (read_shares pairs [] (drop at bs)) xs (read_to i)
-  unfolding read_shares unless_number
+  -- all lines have been read
+  pub shared_done : m ≤ j → PartRead (read_shares pairs [] bs) xs (Ok tt) left
+  unfolding read_shares outcome_of
   shared_done h =
-      record {
-        found = m.left ∙ rw (drop_all j pairs (omega (arith, h, m.size, length_laid (length old) words)), take_all j xs h);
-        within = m.within;
-      }
+      let none : length pairs ≤ j = omega (arith, h, length_pairs_in m es ws) in
+      record { found = s.so_far ∙ rw (drop_of_length-le pairs none, take_all j xs (omega (arith, h, s.size))) }
 
-  module _ (more : j < length xs) {r : OneLine} (l : LineRead bs (share_line (get_or words (2 * j) 0) (get_or words (2 * j + 1) 0) (drop i bs)) r) where
-    next_share : read_shares pairs [] (drop at bs) ≡
-        (do
-          u ← unless_number r.number (line_at r bs)
-          read_shares (drop (suc j) pairs) (take j xs ++ (u.value ∷ [])) u.rest)
-    unfolding read_shares pair
+  module _ (more : j < m) where
+    abbrev a : ℕ
+    a = get_or es (2 * j) 0
+
+    abbrev b : ℕ
+    b = get_or es (2 * j + 1) 0
+
+    next_share : read_shares pairs [] bs ≡ (do
+      u ← share_line a b left
+      read_shares (drop (suc j) pairs) (take j xs ++ (u.value ∷ [])) u.rest)
+    unfolding read_shares word_pair
     next_share =
-        let b : j < length old = omega (arith, m.size) in
-        m.left
-        ∙ rw (drop-cons pairs j (pair 0 0) (omega (arith, b, length_laid (length old) words)), laid_at (length old) words j (pair 0 0) b, l.found)
+        s.so_far ∙ rw (drop-cons pairs j (pair 0 0) (omega (arith, more, length_pairs_in m es ws)), pairs_in_at m es ws j (pair 0 0) more)
 
-    pub shared_refused : (r.number ≡ 0 → ⊥) → PartRead bs (read_shares pairs [] (drop at bs)) xs (stopped r.number)
-    shared_refused h = record { found = next_share ∙ ends_reading r.number (line_at r bs) _ _ h; within = omega arith }
+    -- a line is refused
+    share_refused : (e : Refusal) {left' xs' : List ℕ} → share_line a b left ≡ refused (number_of e) → PartRead (read_shares pairs [] bs) xs' (Err e) left'
+    unfolding ◌>>=◌ outcome_of
+    share_refused e h = record { found = next_share ∙ rw h }
 
-    pub shared_step : r.number ≡ 0 → Shared bs at words old (set xs j r.value) r.next (j + 1)
-    shared_step z =
-        let e : j + 1 ≡ suc j = omega arith in
-        let long : length (set xs j r.value) ≡ length xs = length-set xs j r.value in
-        let front : take (suc j) (set xs j r.value) ≡ take j xs ++ (r.value ∷ []) =
-        take-suc (set xs j r.value) j 0 (omega (arith, long))
-        ∙ rw (take-set-le j xs j r.value (omega arith), get_or-set_same xs j r.value 0 more) in
-        record {
-          within = l.within;
-          upto = omega (arith, m.size);
-          size = long ∙ m.size;
-          left = next_share ∙ goes_on r.number (line_at r bs) _ z ∙ rw (e, front);
-        }
+    -- 101
+    pub shared_missing : {e : Refusal} {left' left'' xs' : List ℕ} → LineDue 7 share_form left (Err e) left' →
+        PartRead (read_shares pairs [] bs) xs' (Err e) left''
+    unfolding share_line
+    shared_missing {e} f = share_refused e (line_missing (share_own a b) third f)
+
+    module _ {ns left' : List ℕ} (f : LineDue 7 share_form left (Ok ns) left') where
+      abbrev u : ℕ
+      u = get_or ns 2 0
+
+      -- 105
+      pub shared_unfit : (eqb (get_or ns 0 0) a && eqb (get_or ns 1 0) b) ≡ false → {left'' xs' : List ℕ} →
+          PartRead (read_shares pairs [] bs) xs' (Err AnotherPair) left''
+      unfolding share_line first second
+      shared_unfit h = share_refused AnotherPair (line_unfit (share_own a b) third f AnotherPair (rw h))
+
+      -- one line more
+      pub shared_step : (eqb (get_or ns 0 0) a && eqb (get_or ns 1 0) b) ≡ true → Shared bs m es ws (set xs j u) left' (j + 1)
+      unfolding share_line first second third ◌>>=◌
+      shared_step h =
+          let n : j + 1 ≡ suc j = omega arith in
+          let long : length (set xs j u) ≡ length xs = length-set xs j u in
+          let front : take (suc j) (set xs j u) ≡ take j xs ++ (u ∷ []) =
+          take-suc (set xs j u) j 0 (omega (arith, long, more, s.size))
+          ∙ rw (take-set-le j xs j u (omega arith), get_or-set_same xs j u 0 (omega (arith, more, s.size))) in
+          record {
+            upto = omega arith;
+            size = long ∙ s.size;
+            so_far = next_share ∙ rw (line_fit (share_own a b) third f 105 (rw h), n, front);
+          }

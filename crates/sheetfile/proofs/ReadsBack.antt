@@ -6,7 +6,7 @@
 use mathlib.Core.Path.{◌≡◌, refl, sym, ap, ◌∙◌}
 use mathlib.Core.Bool.{true}
 use mathlib.Core.List.{List, [], ◌∷◌, ◌++◌, append_assoc, append-nil}
-use mathlib.Core.Option.{some}
+use Rattle.std.proofs.Common.{Some}
 use Prim.Native.Nat.{ℕ, zero, suc, ◌+◌, ◌≤◌, ◌<◌}
 use native.Mathlib.Omega.{arith}
 use borrow.Author.Tests.{le-leb, lt-ltb, eq-eqb}
@@ -58,22 +58,22 @@ use Rattle.sheetfile.proofs.BestSheets.{best_writable}
 -- ---- lines that are written
 
 module _ (rest : List ℕ) where
-  member_read : (v : ℕ) → v ≤ 9999 → line_of 4 member_form (filled member_form (v ∷ []) ++ rest) ≡ some (record { numbers = v ∷ []; rest = rest })
+  member_read : (v : ℕ) → v ≤ 9999 → line_of 4 member_form (filled member_form (v ∷ []) ++ rest) ≡ Some (record { numbers = v ∷ []; rest = rest })
   unfolding member_form text parted starts_plain is_digit is_place between places mark all small
   member_read v l = line_filled 4 (omega arith) (omega arith) member_form (v ∷ []) rest refl refl (simp tests (omega arith, refl))
 
-  number_read : (c : ℕ) → c ≤ 9999999 → line_of 7 number_form (filled number_form (c ∷ []) ++ rest) ≡ some (record { numbers = c ∷ []; rest = rest })
+  number_read : (c : ℕ) → c ≤ 9999999 → line_of 7 number_form (filled number_form (c ∷ []) ++ rest) ≡ Some (record { numbers = c ∷ []; rest = rest })
   unfolding number_form text parted starts_plain is_digit is_place between places mark all small
   number_read c l = line_filled 7 (omega arith) (omega arith) number_form (c ∷ []) rest refl refl (simp tests (omega arith, refl))
 
   share_read : (a b u : ℕ) → a ≤ 9999999 → b ≤ 9999999 → u ≤ 9999999 →
-      line_of 7 share_form (filled share_form (a ∷ b ∷ u ∷ []) ++ rest) ≡ some (record { numbers = a ∷ b ∷ u ∷ []; rest = rest })
+      line_of 7 share_form (filled share_form (a ∷ b ∷ u ∷ []) ++ rest) ≡ Some (record { numbers = a ∷ b ∷ u ∷ []; rest = rest })
   unfolding share_form text parted starts_plain is_digit is_place between places mark all small
   share_read a b u l m n =
       line_filled 7 (omega arith) (omega arith) share_form (a ∷ b ∷ u ∷ []) rest refl refl (simp tests (omega arith, (omega arith, (omega arith, refl))))
 
   head_read : (p q k c : ℕ) → p ≤ 9999999 → q ≤ 9999999 → k ≤ 9999999 → c ≤ 9999999 →
-      line_of 7 head_form (filled head_form (p ∷ q ∷ k ∷ c ∷ []) ++ rest) ≡ some (record { numbers = p ∷ q ∷ k ∷ c ∷ []; rest = rest })
+      line_of 7 head_form (filled head_form (p ∷ q ∷ k ∷ c ∷ []) ++ rest) ≡ Some (record { numbers = p ∷ q ∷ k ∷ c ∷ []; rest = rest })
   unfolding head_form text parted starts_plain is_digit is_place between places mark all small
   head_read p q k c l m n o =
       line_filled 7 (omega arith) (omega arith) head_form (p ∷ q ∷ k ∷ c ∷ []) rest refl refl

@@ -3,162 +3,80 @@
 // A sheet is read beside the list (sheet.rt). The group and the shares on it then go to check, which counts P and Q itself; the head is compared with
 // what check counted and with the list's cores. Nothing on the sheet is trusted.
 // Refuses by the pair file's numbers; 101 to 106, line by line; 7, 8, 9; 107, 108.
+// `as` stands where std has no `From`: from u32 to usize, and where a bound lets a number fit fewer bits.
 #![tactic(auto)]
 
 mod sheet;
 
-ghost use Rattle.std.specs.Prelude.{◌≡◌, ◌++◌, ◌≤◌, leb, length, drop};
-ghost use Rattle.theory.specs.Basics.{mark};
+ghost use Rattle.std.specs.Prelude.{◌≡◌, ◌≤◌, take};
 ghost use Rattle.theory.specs.Cores.{core_numbers};
-ghost use Rattle.theory.specs.Words.{laid_list, HoldsList};
-ghost use Rattle.verify.specs.Answers.{refused_by};
-ghost use Rattle.sheetfile.specs.Audit.{audit_sheet, verdict_of, Audits};
-ghost use Rattle.sheetfile.specs.Answers.{Beside, at_least, judged_head, AuditBuffers};
+ghost use Rattle.lists.specs.Listed.{listed};
+ghost use Rattle.verify.specs.Answers.{verdict_of};
+ghost use Rattle.sheetfile.specs.Audit.{audit_sheet, Audits};
+ghost use Rattle.sheetfile.specs.Answers.{at_least, judged_head, RatioSays};
 
+use lists::List;
+use numbers::Ratio;
 use pairfile::read_words;
+use refusals::Refusal;
 use sheet::{SheetHead, read_sheet};
-use verify::{Verdict, check_words};
-
-// 1 where c is k or more, else 0.
-fn reaches(k: u32, c: u32) -> u32
-    ensures { result ≡ mark (leb k c) }
-{
-    if k <= c { 1 } else { 0 }
-}
+use verify::check_words;
 
 // How many of the numbers are k or more.
-fn at_least(k: u32, numbers: &[u32]) -> u32
-    requires { length numbers.now ≤ 512 }
+fn at_least(k: u32, numbers: &[u32]) -> usize
     ensures { result ≡ at_least k numbers.now }
 {
-    let mut count: u32 = 0;
-    let mut v: usize = 0;
-    while v < numbers.len() {
-        count += reaches(k, numbers[v]);
-        v += 1;
-    }
-    count
+    numbers.iter().filter(|&&c| k <= c).count()
 }
 
-fn refused(number: u32) -> Verdict
-    ensures { result ≡ refused_by number }
+// The head beside the ratio that check counted and the list's core numbers: 107, 108.
+#[tactic(auto, unfolding(crate::specs::Answers::judged_head))]
+fn judge_head(head: SheetHead, ratio: Ratio, cores: &[u32]) -> Result<Ratio, Refusal>
+    requires { 1 ≤ ratio.q }
+    ensures { result ≡ judged_head head ratio cores.now }
 {
-    Verdict { number, p: 0, q: 0 }
+    if head.ratio != ratio {
+        return Err(Refusal::BadRatio);
+    }
+    if (head.k, head.core_size as usize) != (ratio.rounded_up(), at_least(head.k, cores)) {
+        return Err(Refusal::BadCore);
+    }
+    Ok(ratio)
 }
 
-// The head beside what check counted and the list's core numbers: 107, 108.
-fn judge_head(head: SheetHead, verdict: Verdict, cores: &[u32]) -> Verdict
-    requires { (1 ≤ head.q) × (length cores.now ≤ 512) }
-    ensures { result ≡ judged_head head verdict cores.now }
+// The core number of each module of a list.
+fn core_numbers(list: List) -> [u32; 512]
+    ensures { take list.entry.n result ≡ core_numbers (listed list.entry) }
 {
-    if head.p != verdict.p {
-        return refused(107);
-    }
-    if head.q != verdict.q {
-        return refused(107);
-    }
-    if head.k != numbers::rounded_up(head.p, head.q) {
-        return refused(108);
-    }
-    if head.coresize != at_least(head.k, cores) {
-        return refused(108);
-    }
-    verdict
+    let mut order = [0; 512];
+    let mut cores = [0; 512];
+    let mut place = [0; 512];
+    peel::peel(list, 1, &mut order, &mut cores, &mut place);
+    cores
 }
 
-// The sheet audited beside the list in words: what is read of it goes to check.
-fn audit_beside(
-    sheet: &[u8],
-    words: &[u32],
-    cores: &[u32],
-    members: &mut [u8],
-    shares: &mut [u32],
-) -> Verdict
-    requires holds_list { HoldsList (length members.old) (length shares.old) words.now }
-    requires beside { Beside (laid_list (length members.old) (length shares.old) words.now) cores.now members.old }
-    ensures { result ≡ verdict_of
-        (audit_sheet (laid_list (length members.old) (length shares.old) words.now) sheet.now) }
+// The sheet audited beside a list: what is read of it goes to check.
+#[tactic(auto, using(slots::proofs::Words::held_few, crate::proofs::Auditing::fronts))]
+fn audit_list(list: List, sheet: &[u8]) -> Result<Ratio, Refusal>
+    ensures { RatioSays (audit_sheet (listed list.entry) sheet.now) result }
 {
-    let n = members.len();
-    let m = shares.len();
-    let head = read_sheet(sheet, words, cores, members, shares);
-    if head.number != 0 {
-        return refused(head.number);
-    }
-    let ends = 2 * m;
-    let counts = 8192 + m;
-    let verdict = check_words(n, m, &words[0..ends], &words[8192..counts], members, shares);
-    if verdict.number != 0 {
-        return verdict;
-    }
-    judge_head(head, verdict, cores)
+    let cores = core_numbers(list);
+    let cores = &cores[..list.n];
+    let mut members = [0; 512];
+    let members = &mut members[..list.n];
+    let mut shares = [0; 4096];
+    let shares = &mut shares[..list.m];
+    let head = read_sheet(sheet, list, cores, members, shares)?;
+    let ratio = check_words(list, members, shares)?;
+    judge_head(head, ratio, cores)
 }
 
-// The core numbers of the list in words.
-fn core_numbers(n: usize, m: usize, words: &[u32], cores: &mut [u32])
-    requires holds_list { HoldsList n m words.now }
-    requires n_in_bounds { n ≤ length cores.old }
-    ensures { cores.new ≡ core_numbers (laid_list n m words.now) ++ drop n cores.old }
+// Whether a sheet is the best there is of the list that a pair file names: its P and Q, or the first refusal.
+pub fn audit(file: &[u8], sheet: &[u8]) -> Result<Ratio, Refusal>
+    ensures { Audits file.now sheet.now (verdict_of result) }
 {
-    let mut order = [0u32; 512];
-    let mut place = [0u32; 512];
-    let ends = 2 * m;
-    let counts = 8192 + m;
-    peel::peel(
-        n,
-        m,
-        1,
-        &words[0..ends],
-        &words[8192..counts],
-        &mut order,
-        cores,
-        &mut place,
-    );
-}
-
-// The sheet audited beside the list of n modules and m pairs in words.
-fn audit_list(
-    n: usize,
-    m: usize,
-    words: &[u32],
-    sheet: &[u8],
-    cores: &mut [u32],
-    members: &mut [u8],
-    shares: &mut [u32],
-) -> Verdict
-    requires holds_list { HoldsList n m words.now }
-    requires audit_buffers { AuditBuffers n m cores.old members.old shares.old }
-    ensures { result ≡ verdict_of (audit_sheet (laid_list n m words.now) sheet.now) }
-{
-    core_numbers(n, m, words, cores);
-    audit_beside(
-        sheet,
-        words,
-        &cores[..n],
-        &mut members[..n],
-        &mut shares[..m],
-    )
-}
-
-// Whether a sheet is the best there is of the list that a pair file names: 0 with P and Q, or the first refusal number.
-pub fn audit(file: &[u8], sheet: &[u8]) -> Verdict
-    ensures { Audits file.now sheet.now result }
-{
-    let mut words = [0u32; 12288];
-    let mut cores = [0u32; 512];
-    let mut members = [0u8; 512];
-    let mut shares = [0u32; 4096];
-    let list = read_words(file, 4096, &mut words);
-    if list.number != 0 {
-        return refused(list.number);
-    }
-    audit_list(
-        list.n as usize,
-        list.m as usize,
-        &words,
-        sheet,
-        &mut cores,
-        &mut members,
-        &mut shares,
-    )
+    let mut words = [0; 12288];
+    let head = read_words(file, 4096, &mut words)?;
+    let list = List::in_words(head.n as usize, head.m as usize, &words);
+    audit_list(list, sheet)
 }

@@ -1,5 +1,5 @@
 -- Buffers that are written from the front, one entry at a time, and buffers of member bytes.
---   written_none, written_next    no entry; one entry more
+--   written_next                  one entry more
 --   written_all                   all n entries, and what stood past them
 --   good_bytes                    entries of at most 1 are member bytes
 -- Assumes nothing.
@@ -18,9 +18,6 @@ use Rattle.theory.proofs.Tables.{length_table, table_at}
 use Rattle.theory.proofs.Tests.{tests}
 use Rattle.slots.specs.Buffers.{WrittenFront}
 use Rattle.slots.proofs.Choice.{stored_more}
-
-pub written_none : (f : ℕ → ℕ) (xs : List ℕ) → WrittenFront 0 f xs xs
-written_none f xs = record { long = refl; front = λ i h. absurd (omega arith); rest = λ i h. refl }
 
 pub written_next : (k : ℕ) (f : ℕ → ℕ) (old xs : List ℕ) (x : ℕ) → k < length old → x ≡ f k → WrittenFront k f old xs →
     WrittenFront (k + 1) f old (set xs k x)

@@ -1,32 +1,26 @@
 -- Numbers compared: one case or the other.
---   eq_or_ne, lt_or_le     equal or not; below or not
+--   eq_or_ne, lt_or_le     equal or not; below or not (cases_eq and cases_lt of std)
 --   cond_eq, cond_ne       a part that counts where two numbers are equal
 --   stored_more            a list that is stored entry by entry
 -- Assumes nothing.
-use mathlib.Core.Path.{◌≡◌, refl}
-use mathlib.Core.Bool.{Bool, true, false, cond}
+use mathlib.Core.Path.{◌≡◌}
+use mathlib.Core.Bool.{cond}
 use mathlib.Core.List.{List}
-use mathlib.Core.Logic.{◌⊎◌, inl, inr, ⊎_elim}
+use mathlib.Core.Logic.{◌⊎◌, ⊎_elim}
 use Prim.Native.Nat.{ℕ, ◌+◌, ◌≤◌, ◌<◌}
 use native.Mathlib.Omega.{arith}
-use lib.Dec.{ltb, eqb}
+use lib.Dec.{eqb}
 use lib.ListN.{length, get_or, set}
 use lib.Seq.{get_or-set_same, get_or-set_other}
-use borrow.Author.Tests.{eqb-true, eqb-false, eq-eqb, ne_eqb, ltb-true, ltb-false}
+use Rattle.std.proofs.lemmas.Bool.{cases_eq, cases_lt}
+use borrow.Author.Tests.{eq-eqb, ne_eqb}
 
+-- std's cases, as other crates cite them
 pub eq_or_ne : (a b : ℕ) → (a ≡ b) ⊎ (a ≡ b → ⊥)
-eq_or_ne a b = go (eqb a b) refl
-  where
-    go : (t : Bool) → eqb a b ≡ t → (a ≡ b) ⊎ (a ≡ b → ⊥)
-    go true e = inl (eqb-true a b e)
-    go false e = inr (eqb-false a b e)
+eq_or_ne = cases_eq
 
 pub lt_or_le : (a b : ℕ) → (a < b) ⊎ (b ≤ a)
-lt_or_le a b = go (ltb a b) refl
-  where
-    go : (t : Bool) → ltb a b ≡ t → (a < b) ⊎ (b ≤ a)
-    go true e = inl (ltb-true a b e)
-    go false e = inr (ltb-false a b e)
+lt_or_le = cases_lt
 
 pub cond_eq : (a b x : ℕ) → a ≡ b → cond (eqb a b) x 0 ≡ x
 cond_eq a b x e = rw (eq-eqb a b e)
@@ -41,4 +35,4 @@ stored_more P xs i x l h p k b =
     ⊎_elim
     (λ (e : k ≡ i). rw e (rw (get_or-set_same xs i x 0 l) p))
     (λ ne. rw (get_or-set_other xs i k x 0 ne) (h k (omega arith)))
-    (eq_or_ne k i)
+    (cases_eq k i)

@@ -15,8 +15,9 @@ use lib.Dec.{eqb}
 use lib.ListN.{length, get_or, set, replicate}
 use lib.Seq.{get_or-set_same, get_or-set_other}
 use borrow.Author.Tests.{eqb-true}
+use Rattle.std.proofs.lemmas.Bool.{cases_eq}
 use Rattle.slots.specs.Slots.{total, held_upto, Room, Own}
-use Rattle.slots.proofs.Choice.{eq_or_ne, cond_eq, cond_ne}
+use Rattle.slots.proofs.Choice.{cond_eq, cond_ne}
 use Rattle.slots.proofs.Totals.{total_next, total_le, total_part, total_some, total_const, total_upto, total_pairs}
 use Rattle.slots.proofs.Mates.{mate_even}
 
@@ -90,7 +91,7 @@ loads_next n s own ends hold load x e l h v b =
       cond_ne (get_or ends s 0) v (get_or hold s 0) (λ t. ne (sym t ∙ sym e)),
       h v b,
     ))
-    (eq_or_ne v x)
+    (cases_eq v x)
 
 -- the sum fits 32 bits
 pub loads_fit : (n m s : ℕ) (own ends hold load : List ℕ) (x : ℕ) → x ≡ get_or ends s 0 → x < n → s < 2 * m → m ≤ 4096 → Own n own → Room m hold →

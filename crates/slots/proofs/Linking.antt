@@ -1,9 +1,9 @@
--- Chains of places, one place more at a time, and the walk back along them.
---   last_here, last_none               a module's last place: the place at hand; none where it stands nowhere
---   lasts_start, lasts_next            each module's last place: no place, one place more
---   linked_start, linked_next          the links: no place, one place more
---   link_back                          a link leads back, to a place of the module
---   total_linked                       a sum over a module's places, along its links
+-- Chains of places, one place more at a time.
+--   last_here      a module's last place: the place at hand
+--   lasts_next     each module's last place
+--   linked_next    the links
+--   last_le        a link leads back
+--   total_linked   a sum over a module's places, along its links
 -- Assumes nothing.
 use mathlib.Core.Path.{◌≡◌, refl, sym, ap, ◌∙◌}
 use mathlib.Core.List.{List}
@@ -18,7 +18,7 @@ use Rattle.slots.specs.Slots.{total}
 use Rattle.slots.specs.Links.{last_at, Lasts, Linked}
 use Rattle.slots.proofs.Choice.{eq_or_ne, stored_more}
 
-pub last_here : (k : ℕ) (f : ℕ → ℕ) (v : ℕ) → f k ≡ v → last_at (k + 1) f v ≡ k + 1
+last_here : (k : ℕ) (f : ℕ → ℕ) (v : ℕ) → f k ≡ v → last_at (k + 1) f v ≡ k + 1
 unfolding last_at
 last_here k f v e = rw (add-one, eq-eqb (f k) v e)
 
@@ -26,17 +26,8 @@ last_before : (k : ℕ) (f : ℕ → ℕ) (v : ℕ) → (f k ≡ v → ⊥) → 
 unfolding last_at
 last_before k f v e = rw (add-one, ne_eqb (f k) v e)
 
-pub last_none : (k : ℕ) (f : ℕ → ℕ) (v : ℕ) → ((i : ℕ) → i < k → f i ≡ v → ⊥) → last_at k f v ≡ 0
-unfolding last_at
-last_none zero f v out = refl
-last_none (suc k) f v out = rw (ne_eqb (f k) v (out k (omega arith))) (last_none k f v (λ i h. out i (omega arith)))
-
-pub lasts_start : {n : ℕ} {f : ℕ → ℕ} {first : List ℕ} → ((v : ℕ) → v < n → get_or first v 0 ≡ 0) → Lasts n 0 f first
-unfolding last_at
-lasts_start z = record { same = z }
-
 -- place k becomes the last of its module, x
-pub lasts_next : {n k : ℕ} {f : ℕ → ℕ} {first : List ℕ} {x : ℕ} → x ≡ f k → x < length first → Lasts n k f first → Lasts n (k + 1) f (set first x (k + 1))
+lasts_next : {n k : ℕ} {f : ℕ → ℕ} {first : List ℕ} {x : ℕ} → x ≡ f k → x < length first → Lasts n k f first → Lasts n (k + 1) f (set first x (k + 1))
 lasts_next {n} {k} {f} {first} {x} e l c = record {
   same = λ v h. ⊎_elim
       (λ (z : v ≡ x). rw z (get_or-set_same first x (k + 1) 0 l ∙ sym (last_here k f x (sym e))))
@@ -44,10 +35,7 @@ lasts_next {n} {k} {f} {first} {x} e l c = record {
       (eq_or_ne v x);
 }
 
-pub linked_start : {n : ℕ} {f : ℕ → ℕ} {first next : List ℕ} → ((v : ℕ) → v < n → get_or first v 0 ≡ 0) → Linked n 0 f first next
-linked_start z = record { firsts = lasts_start z; nexts = λ i h. absurd (omega arith) }
-
--- and `link` leaves it in the chain
+-- and it is in the chain
 pub linked_next : {n k : ℕ} {f : ℕ → ℕ} {first next first' next' : List ℕ} {x : ℕ} → x ≡ f k → x < n → n ≤ length first → k < length next →
     Linked n k f first next → (first' ≡ set first x (k + 1)) × (next' ≡ set next k (get_or first x 0)) → Linked n (k + 1) f first' next'
 linked_next {n} {k} {f} {first} {next} {first'} {next'} {x} e l lf ln c w =
@@ -57,14 +45,14 @@ linked_next {n} {k} {f} {first} {next} {first'} {next'} {x} e l lf ln c w =
       nexts = stored_more (λ i y. y ≡ last_at i f (f i)) next k (get_or first x 0) ln c.nexts (c.firsts.same x l ∙ ap (last_at k f) e);
     }
 
--- a link leads back, to a place of v
-pub link_back : (k : ℕ) (f : ℕ → ℕ) (v : ℕ) → (last_at k f v ≤ k) × ((i : ℕ) → last_at k f v ≡ suc i → f i ≡ v)
+-- a link leads back
+pub last_le : (k : ℕ) (f : ℕ → ℕ) (v : ℕ) → last_at k f v ≤ k
 unfolding last_at
-link_back zero f v = (omega arith, λ i e. absurd (omega arith))
-link_back (suc k) f v =
+last_le zero f v = omega arith
+last_le (suc k) f v =
     ⊎_elim
-    (λ (e : f k ≡ v). rw (eq-eqb (f k) v e) (omega arith, λ i d. let z : i ≡ k = omega arith in rw z e))
-    (λ ne. rw (ne_eqb (f k) v ne) (let r = link_back k f v in (omega (arith, r.0), r.1)))
+    (λ (e : f k ≡ v). rw (eq-eqb (f k) v e) (omega arith))
+    (λ ne. rw (ne_eqb (f k) v ne) (omega (arith, last_le k f v)))
     (eq_or_ne (f k) v)
 
 -- the links pass over places of other modules, which add nothing

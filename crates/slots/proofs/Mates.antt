@@ -12,8 +12,8 @@ use Prim.Native.Nat.{ℕ, ◌+◌, ◌*◌, ◌-◌, ◌/◌, ◌%◌, ◌<◌}
 use native.Mathlib.Omega.{arith}
 use lib.ListN.{length, get_or}
 use borrow.Author.Tests.{eq-eqb, ne_eqb}
+use Rattle.std.proofs.lemmas.Bool.{cases_eq}
 use Rattle.slots.specs.Slots.{mate, Ends}
-use Rattle.slots.proofs.Choice.{eq_or_ne}
 
 pub mate_yes : (s : ℕ) → s % 2 ≡ 0 → s + 1 ≡ mate s
 unfolding mate
@@ -31,7 +31,7 @@ mate_odd j = omega (arith, mate_no (2 * j + 1) (λ e. omega arith))
 
 -- a slot is the first or the second of its pair
 pub slot_cases : (s : ℕ) → (s ≡ 2 * (s / 2)) ⊎ (s ≡ 2 * (s / 2) + 1)
-slot_cases s = ⊎_elim (λ (e : s % 2 ≡ 0). inl (omega arith)) (λ ne. inr (omega arith)) (eq_or_ne (s % 2) 0)
+slot_cases s = ⊎_elim (λ (e : s % 2 ≡ 0). inl (omega arith)) (λ ne. inr (omega arith)) (cases_eq (s % 2) 0)
 
 -- what holds of both slots of every pair holds of every slot
 pub by_pair : (m : ℕ) (P : ℕ → ℕ → Type 0) → ((j : ℕ) → j < m → P (2 * j) (2 * j + 1) × P (2 * j + 1) (2 * j)) → (s : ℕ) → s < 2 * m → P s (mate s)

@@ -14,8 +14,9 @@ use lib.Dec.{eqb}
 use lib.ListN.{length, get_or, set, length-set}
 use lib.Seq.{get_or-set_same, get_or-set_other}
 use borrow.Author.Tests.{eq-eqb, ne_eqb}
+use Rattle.std.proofs.lemmas.Bool.{cases_eq}
 use Rattle.slots.specs.Slots.{mate, moved, held_upto, held_by, Ends, Room, Loads, Covers, SameUnits, Kept}
-use Rattle.slots.proofs.Choice.{eq_or_ne, cond_eq, cond_ne}
+use Rattle.slots.proofs.Choice.{cond_eq, cond_ne}
 use Rattle.slots.proofs.Totals.{total_one}
 use Rattle.slots.proofs.Mates.{mates}
 use Rattle.slots.proofs.Held.{held_part, held_most}
@@ -54,8 +55,8 @@ module _ (xs : List ℕ) (i j d : ℕ) (ne : i ≡ j → ⊥) where
       (λ (a : s ≡ i → ⊥). ⊎_elim
       (λ (z : s ≡ j). rw z (omega (arith, moved_to lj, cond_eq j j d refl, cond_ne i j d ne)))
       (λ (b : s ≡ j → ⊥). omega (arith, moved_else s a b, cond_ne i s d (λ e. a (sym e)), cond_ne j s d (λ e. b (sym e))))
-      (eq_or_ne s j))
-      (eq_or_ne s i)
+      (cases_eq s j))
+      (cases_eq s i)
 
 -- ---- units held after a move between slots
 
@@ -94,7 +95,7 @@ eqb_mate m s x =
     ⊎_elim
     (λ (e : s ≡ x). eq-eqb (mate s) (mate x) (ap mate e) ∙ sym (eq-eqb s x e))
     (λ ne. ne_eqb (mate s) (mate x) (λ e. ne (sym (mates m s).back ∙ ap mate e ∙ (mates m x).back)) ∙ sym (ne_eqb s x ne))
-    (eq_or_ne s x)
+    (cases_eq s x)
 
 module _ (n m : ℕ) (ends hold load : List ℕ) (s d : ℕ) (e : Ends n m ends) (r : 2 * m ≤ length hold) (c : Covers n m ends hold load) (l : s < 2 * m)
     (le : d ≤ get_or hold s 0) where

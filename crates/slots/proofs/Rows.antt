@@ -1,99 +1,81 @@
--- The pairs of a held list by their ends, and rows: along a list in rising order first ends do not fall, so the pairs of one first end stand side by side.
---   PairAt, pair_at           what the words of a held list have at a pair
---   row_at                     a pair of a held list, in the row of its first end
---   row_back, row_begins       the pair before it is in the row, or the row begins
+-- Rows: the neighbours of a module, along its slots; and what slots weigh.
+--   row_linked, row_step    a row begins at the slot to which the link leads, and goes on at the one before it
+--   before_low              a link leads to an earlier slot
+--   Fits, row_fits          in a held list neighbours are modules, and pairs weigh at most 1,000
+--   weigh_pairs             what slots weigh, pair by pair
 -- Assumes nothing.
-use mathlib.Core.Path.{◌≡◌, sym}
-use mathlib.Core.Bool.{true, ◌&&◌}
+use mathlib.Core.Path.{◌≡◌, refl, ◌∙◌}
+use mathlib.Core.Bool.{cond}
 use mathlib.Core.List.{List}
 use mathlib.Core.Logic.{⊎_elim}
-use Prim.Native.Nat.{ℕ, zero, suc, ◌+◌, ◌*◌, ◌-◌, ◌≤◌, ◌<◌}
+use Prim.Native.Nat.{ℕ, zero, suc, ◌+◌, ◌*◌, ◌/◌, ◌≤◌, ◌<◌}
 use native.Mathlib.Omega.{arith}
-use lib.Dec.{ltb, eqb}
-use lib.ListN.{length, get_or}
-use Rattle.theory.specs.Basics.{table}
-use Rattle.theory.specs.Lists.{Pair, stands_before, before_first, rising}
-use Rattle.theory.specs.Words.{word_pair, pairs_in, list_in, HeldWords}
-use Rattle.theory.proofs.Tests.{tests, or_cases}
-use Rattle.theory.proofs.Lists.{listed}
-use Rattle.slots.specs.Links.{last_at}
-use Rattle.slots.specs.Rows.{first_end, second_end, RowAt}
+use lib.Dec.{eqb}
+use lib.ListN.{get_or}
+use borrow.Author.Tests.{eq-eqb, ne_eqb}
+use Rattle.std.specs.Prelude.{◌∷◌, Some, All}
+use Rattle.std.proofs.lemmas.List.Elements.{All-nil, All-cons}
+use Rattle.theory.specs.Words.{HeldWords}
+use Rattle.slots.specs.declared.neighbours.Neighbour.{Neighbour}
+use Rattle.slots.specs.Buffers.{entry}
+use Rattle.slots.specs.Links.{place, last_at}
+use Rattle.slots.specs.Rows.{first_end, second_end, weight_at, neighbour_at, row, row_from, slots_weigh}
 use Rattle.slots.proofs.Choice.{eq_or_ne}
-use Rattle.slots.proofs.Linking.{last_here, last_none}
-use Rattle.slots.proofs.Words.{few_modules, few_pairs, good_pair}
+use Rattle.slots.proofs.Totals.{total_ext, total_pairs}
+use Rattle.slots.proofs.Mates.{slot}
+use Rattle.slots.proofs.Linking.{last_le}
+use Rattle.slots.proofs.Words.{good_pair, held_ends}
 
--- a pair that stands before another has no higher first end
-before_le : (p r : Pair) → stands_before p r ≡ true → p.a ≤ r.a
-unfolding stands_before
-before_le p r h =
+pub row_linked : (es ws : List ℕ) (v k : ℕ) → row_from es ws (place (last_at k (entry es) v)) ≡ row es ws v k
+unfolding row last_at entry
+row_linked es ws v zero = refl
+row_linked es ws v (suc k) =
     ⊎_elim
-    (λ l. let l' = simp tests at l in omega (arith, l'))
-    (λ e. let e' = simp tests at e in omega (arith, e'.0))
-    (or_cases (ltb p.a r.a) (eqb p.a r.a && ltb p.b r.b) h)
+    (λ (e : get_or es k 0 ≡ v). rw (eq-eqb (get_or es k 0) v e) (rw e refl))
+    (λ ne. rw (ne_eqb (get_or es k 0) v ne) (row_linked es ws v k))
+    (eq_or_ne (get_or es k 0) v)
 
-next_le : (m : ℕ) (h : ℕ → Pair) (j : ℕ) → rising (table m h) ≡ true → suc j < m → (h j).a ≤ (h (suc j)).a
-unfolding rising before_first table
-next_le zero h j e l = absurd (omega arith)
-next_le (suc zero) h j e l = absurd (omega arith)
-next_le (suc (suc m)) h zero e l = before_le (h 0) (h 1) (simp tests at e).0
-next_le (suc (suc m)) h (suc j) e l =
-    let later : rising (table (suc m) (λ i. h (suc i))) ≡ true = simp tests (simp tests at e).1 in
-    next_le (suc m) (λ i. h (suc i)) j later (omega arith)
+-- and goes on at the one before it
+pub row_step : (es ws : List ℕ) (s : ℕ) →
+    row_from es ws (Some s) ≡ neighbour_at es ws s ∷ row_from es ws (place (last_at s (entry es) (get_or es s 0)))
+row_step es ws s = rw row_linked refl
 
--- of pair k: its ends are modules, its weight is at most 1,000, and both are in the words
-pub record PairAt (n k : ℕ) (ends weights : List ℕ) : Type 0 where
-  pub few : k < 4096
-  pub modules : n ≤ 512
-  pub ends_long : 2 * k + 1 < length ends
-  pub weights_long : k < length weights
-  pub first_low : first_end ends k < n
-  pub second_low : second_end ends k < n
-  pub light : get_or weights k 0 ≤ 1000
+place_some : (y s : ℕ) → place y ≡ Some s → y ≡ suc s
+place_some zero s e = cc
+place_some (suc y) s e = cc
+
+-- the slot to which a link leads
+pub before_low : (k : ℕ) (f : ℕ → ℕ) (v s : ℕ) → place (last_at k f v) ≡ Some s → s < k
+before_low k f v s e = omega (arith, place_some (last_at k f v) s e, last_le k f v)
+
+-- a module of n, and the weight of a pair
+pub record Fits (n : ℕ) (x : Neighbour) : Type 0 where
+  pub below : x.number < n
+  pub light : x.weight ≤ 1000
 
 module _ {n m : ℕ} {ends weights : List ℕ} (h : HeldWords n m ends weights) where
-  pub pair_at : (k : ℕ) → k < m → PairAt n k ends weights
-  unfolding first_end second_end
-  pair_at k l =
-      let g = good_pair n m ends weights h.listed k l in
-      record {
-        few = omega (arith, few_pairs n m ends weights h.listed);
-        modules = few_modules n m ends weights h.listed;
-        ends_long = omega (arith, h.ends_long);
-        weights_long = omega (arith, h.weights_long);
-        first_low = omega (arith, g.first, g.below);
-        second_low = g.below;
-        light = g.light;
-      }
-
-  first_next : (j : ℕ) → suc j < m → first_end ends j ≤ first_end ends (suc j)
-  unfolding first_end word_pair pairs_in list_in
-  first_next j l = next_le m (word_pair ends weights) j (listed (list_in n m ends weights) h.listed).rises l
-
-  first_rises : (i j : ℕ) → i ≤ j → j < m → first_end ends i ≤ first_end ends j
-  first_rises i zero le l = let z : i ≡ 0 = omega arith in rw z (omega arith)
-  first_rises i (suc j) le l =
-      ⊎_elim
-      (λ (z : i ≡ suc j). rw z (omega arith))
-      (λ ne. omega (arith, first_rises i j (omega arith) (omega arith), first_next j l))
-      (eq_or_ne i (suc j))
-
-  pub row_at : {k v : ℕ} → k < m → first_end ends k ≡ v → RowAt k v ends
-  row_at l e = record {
-    few = omega (arith, few_pairs n m ends weights h.listed);
-    long = omega (arith, h.ends_long);
-    here = e;
-    rises = λ i j a b. first_rises i j a (omega arith);
+  slot_fits : (s : ℕ) → s < 2 * m → Fits n (neighbour_at ends weights s)
+  slot_fits s l = record {
+    below = (slot (held_ends h) l).mate_below;
+    light = (good_pair n m ends weights h.listed (s / 2) (omega arith)).light;
   }
 
-module _ (k v : ℕ) (ends : List ℕ) (some : k ≡ 0 → ⊥) where
-  -- the pair before k is in the row
-  pub row_back : first_end ends (k - 1) ≡ v → k ≡ last_at k (first_end ends) v
-  row_back e =
-      let z : k - 1 + 1 ≡ k = omega arith in
-      rw z at (sym (last_here (k - 1) (first_end ends) v e))
+  pub row_fits : (v k : ℕ) → k ≤ 2 * m → All (Fits n) (row ends weights v k)
+  unfolding row
+  row_fits v zero l = All-nil _
+  row_fits v (suc k) l =
+      ⊎_elim
+      (λ (e : get_or ends k 0 ≡ v).
+      rw (eq-eqb (get_or ends k 0) v e)
+      (All-cons (Fits n) (neighbour_at ends weights k) _ (slot_fits k (omega arith)) (row_fits v k (omega arith))))
+      (λ ne. rw (ne_eqb (get_or ends k 0) v ne) (row_fits v k (omega arith)))
+      (eq_or_ne (get_or ends k 0) v)
 
-  -- it is not, so none before it is
-  pub row_begins : RowAt k v ends → (first_end ends (k - 1) ≡ v → ⊥) → last_at k (first_end ends) v ≡ 0
-  row_begins r ne =
-      last_none k (first_end ends) v
-      (λ i l e. ne (omega (arith, r.here, r.rises i (k - 1) (omega arith) (omega arith), r.rises (k - 1) k (omega arith) (omega arith))))
+pub weigh_pairs : (ends weights : List ℕ) (m v : ℕ) → slots_weigh ends weights (2 * m) v ≡ weight_at ends weights m v
+unfolding slots_weigh weight_at first_end second_end
+weigh_pairs ends weights m v =
+    total_pairs m (λ s. cond (eqb (get_or ends s 0) v) (get_or weights (s / 2) 0) 0)
+    ∙ total_ext m _ _ (λ j l.
+    let e : 2 * j / 2 ≡ j = omega arith in
+    let f : (2 * j + 1) / 2 ≡ j = omega arith in
+    rw (e, f))

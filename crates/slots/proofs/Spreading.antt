@@ -1,9 +1,6 @@
 -- A split and its loads, pair by pair.
---   SplitUpto                         the pairs below j hold their units, the others what they did
---   split_start, split_next, split_end no pair, one pair more, all pairs
---   units_most, scope_most, split_upto_room    no pair has more than 512,000 units
---   SpreadUpto                        and the loads have what these pairs hold
---   spread_start, spread_end           no pair, all pairs
+--   SplitUpto                                          the pairs below j hold their units, the others what they did
+--   SpreadUpto, spread_start                           and the loads have what these pairs hold; no pair
 --   Turn, spread_fits, spread_fits_too, spread_next    one pair more: the sums fit 32 bits
 -- Assumes nothing.
 use mathlib.Core.Path.{◌≡◌, refl, sym, ◌∙◌, ap}
@@ -16,12 +13,12 @@ use native.Mathlib.Nat.{mul-le-mul_right, mul-le-mul_left}
 use lib.Dec.{eqb}
 use lib.ListN.{length, get_or, set, length-set}
 use lib.Seq.{get_or-set_same, get_or-set_other}
+use Rattle.std.proofs.lemmas.Bool.{cases_eq, cases_lt}
 use Rattle.theory.specs.Groups.{is_in, holds_pair}
 use Rattle.theory.specs.Splits.{units}
 use Rattle.theory.specs.Words.{word_pair}
-use Rattle.slots.specs.Slots.{held_upto, Ends, Room, Own, Loads}
-use Rattle.slots.specs.Split.{scope_units, Weights, Split}
-use Rattle.slots.proofs.Choice.{eq_or_ne, lt_or_le}
+use Rattle.slots.specs.Slots.{held_upto, Ends, Room, Own}
+use Rattle.slots.specs.Split.{scope_units, Weights}
 use Rattle.slots.proofs.Totals.{total_ext}
 use Rattle.slots.proofs.Mates.{mate_even, by_pair}
 use Rattle.slots.proofs.Held.{Added, held_zero, cond_most, loads_next, loads_fit}
@@ -34,7 +31,7 @@ pub record SplitUpto (m q j : ℕ) (ends weights scope hold₀ hold : List ℕ) 
   pub whole : (i : ℕ) → i < j → get_or hold (2 * i) 0 + get_or hold (2 * i + 1) 0 ≡ scope_units q ends weights scope i
   pub rest : (s : ℕ) → 2 * j ≤ s → get_or hold s 0 ≡ get_or hold₀ s 0
 
-pub split_start : {m q : ℕ} {ends weights scope hold : List ℕ} → 2 * m ≤ length hold → SplitUpto m q 0 ends weights scope hold hold
+split_start : {m q : ℕ} {ends weights scope hold : List ℕ} → 2 * m ≤ length hold → SplitUpto m q 0 ends weights scope hold hold
 split_start r = record { low = omega arith; long = refl; room = r; whole = λ i h. absurd (omega arith); rest = λ s h. refl }
 
 -- the units of pair j, by its ends' bytes
@@ -44,7 +41,7 @@ unfolding scope_units holds_pair word_pair is_in units
 scope_bytes q j a b ends weights scope ea eb = rw (ea, eb)
 
 -- pair j gets u units, x of them at its first slot
-pub split_next : {m q j : ℕ} {ends weights scope hold₀ hold : List ℕ} (a b u x : ℕ) → SplitUpto m q j ends weights scope hold₀ hold → j < m →
+split_next : {m q j : ℕ} {ends weights scope hold₀ hold : List ℕ} (a b u x : ℕ) → SplitUpto m q j ends weights scope hold₀ hold → j < m →
     a ≡ get_or ends (2 * j) 0 → b ≡ get_or ends (2 * j + 1) 0 → u ≡ cond (eqb (get_or scope a 0) 1 && eqb (get_or scope b 0) 1) (get_or weights j 0 * q) 0 →
     x ≤ u → SplitUpto m q (j + 1) ends weights scope hold₀ (set (set hold (2 * j) x) (2 * j + 1) (u - x))
 split_next {m} {q} {j} {ends} {weights} {scope} {hold₀} {hold} a b u x w h ea eb eu le =
@@ -71,19 +68,15 @@ split_next {m} {q} {j} {ends} {weights} {scope} {hold₀} {hold} a b u x w h ea 
             el (2 * i + 1) (λ z. omega arith) (λ z. ne (omega arith)),
             w.whole i (omega arith),
           ))
-          (eq_or_ne i j);
+          (cases_eq i j);
       rest = λ s l. el s (λ z. omega arith) (λ z. omega arith) ∙ w.rest s (omega arith);
     }
 
-pub split_end : {m q j : ℕ} {ends weights scope hold₀ hold : List ℕ} → SplitUpto m q j ends weights scope hold₀ hold → m ≤ j →
-    Split m q ends weights scope hold
-split_end w h = record { long = w.room; whole = λ i l. w.whole i (omega arith) }
-
-pub units_most : (w q : ℕ) → w ≤ 1000 → q ≤ 512 → w * q ≤ 512000
+units_most : (w q : ℕ) → w ≤ 1000 → q ≤ 512 → w * q ≤ 512000
 units_most w q a h = omega (arith, mul-le-mul_right q a, mul-le-mul_left 1000 h)
 
 -- no pair has more than 512,000 units
-pub scope_most : (m q : ℕ) (ends weights scope : List ℕ) → Weights m weights → q ≤ 512 → (j : ℕ) → j < m → scope_units q ends weights scope j ≤ 512000
+scope_most : (m q : ℕ) (ends weights scope : List ℕ) → Weights m weights → q ≤ 512 → (j : ℕ) → j < m → scope_units q ends weights scope j ≤ 512000
 unfolding scope_units units word_pair
 scope_most m q ends weights scope w h j l =
     omega (
@@ -93,7 +86,7 @@ scope_most m q ends weights scope w h j l =
     )
 
 -- so there is room where there was
-pub split_upto_room : {m q j : ℕ} {ends weights scope hold₀ hold : List ℕ} → Weights m weights → q ≤ 512 → Room m hold₀ →
+split_upto_room : {m q j : ℕ} {ends weights scope hold₀ hold : List ℕ} → Weights m weights → q ≤ 512 → Room m hold₀ →
     SplitUpto m q j ends weights scope hold₀ hold → Room m hold
 split_upto_room {m} {q} {j} {ends} {weights} {scope} {hold₀} {hold} w h r s = record {
   long = s.room;
@@ -107,7 +100,7 @@ split_upto_room {m} {q} {j} {ends} {weights} {scope} {hold₀} {hold} w h r s = 
         s.rest (2 * i + 1) (omega arith),
         rw mate_even at (r.small (2 * i) (omega arith)),
       ))
-      (lt_or_le i j) in
+      (cases_lt i j) in
       (b, omega arith));
 }
 
@@ -119,12 +112,6 @@ pub record SpreadUpto (n m q j : ℕ) (ends weights scope hold₀ own hold load 
 
 pub spread_start : {n m q : ℕ} {ends weights scope hold own : List ℕ} → 2 * m ≤ length hold → SpreadUpto n m q 0 ends weights scope hold own hold own
 spread_start {ends = ends} {hold = hold} r = record { split = split_start r; added = λ v h. omega (arith, held_zero ends hold v); load_long = refl }
-
-pub spread_end : {n m q j : ℕ} {ends weights scope hold₀ own hold load : List ℕ} → Own n own → m ≤ j →
-    SpreadUpto n m q j ends weights scope hold₀ own hold load → Split m q ends weights scope hold × Loads n m own ends hold load
-spread_end {m = m} {j = j} o h s =
-    let e : j ≡ m = omega (arith, s.split.low) in
-    (split_end s.split h, record { long = omega (arith, o.long, s.load_long); same = rw e at s.added })
 
 -- units that change at slot k and behind it leave those before
 held_before : (k : ℕ) (ends hold hold' : List ℕ) (v : ℕ) → ((s : ℕ) → s < k → get_or hold' s 0 ≡ get_or hold s 0) →

@@ -11,8 +11,8 @@ use mathlib.Core.Logic.{⊎_elim}
 use Prim.Native.Nat.{ℕ, zero, suc, ◌+◌, ◌*◌, ◌≤◌, ◌<◌}
 use native.Mathlib.Omega.{arith}
 use native.Mathlib.Numerals.{add-one}
+use Rattle.std.proofs.lemmas.Bool.{cases_eq, cases_lt}
 use Rattle.slots.specs.Slots.{total}
-use Rattle.slots.proofs.Choice.{eq_or_ne, lt_or_le}
 
 pub total_ext : (k : ℕ) (f h : ℕ → ℕ) → ((j : ℕ) → j < k → f j ≡ h j) → total k f ≡ total k h
 unfolding total
@@ -31,7 +31,7 @@ total_lt (suc k) i f h e l g =
     ⊎_elim
     (λ (z : i ≡ k). omega (arith, total_le k f h (λ j b. e j (omega arith)), ap f z, ap h z))
     (λ ne. omega (arith, e k (omega arith), total_lt k i f h (λ j b. e j (omega arith)) (omega arith) g))
-    (eq_or_ne i k)
+    (cases_eq i k)
 
 -- one part more
 pub total_next : (k : ℕ) (f : ℕ → ℕ) → total (k + 1) f ≡ f k + total k f
@@ -52,20 +52,20 @@ total_one (suc k) i f h l e =
     ⊎_elim
     (λ (z : i ≡ k). rw z (omega (arith, total_ext k f h (λ j b. e j (omega arith) (λ n. omega arith)))))
     (λ ne. omega (arith, e k (omega arith) (λ n. ne (sym n)), total_one k i f h (omega arith) (λ j b n. e j (omega arith) n)))
-    (eq_or_ne i k)
+    (cases_eq i k)
 
 pub total_part : (k i : ℕ) (f : ℕ → ℕ) → i < k → f i ≤ total k f
 unfolding total
 total_part zero i f l = absurd (omega arith)
 total_part (suc k) i f l =
-    ⊎_elim (λ (z : i ≡ k). rw z (omega arith)) (λ ne. omega (arith, total_part k i f (omega arith))) (eq_or_ne i k)
+    ⊎_elim (λ (z : i ≡ k). rw z (omega arith)) (λ ne. omega (arith, total_part k i f (omega arith))) (cases_eq i k)
 
 -- a sum above 0 has a part above 0
 pub total_some : (k : ℕ) (f : ℕ → ℕ) → 0 < total k f → (i : ℕ) × (i < k) × (0 < f i)
 unfolding total
 total_some zero f h = absurd (omega arith)
 total_some (suc k) f h =
-    ⊎_elim (λ l. (k, omega arith, l)) (λ l. let r = total_some k f (omega arith) in (r.0, omega arith, r.2)) (lt_or_le 0 (f k))
+    ⊎_elim (λ l. (k, omega arith, l)) (λ l. let r = total_some k f (omega arith) in (r.0, omega arith, r.2)) (cases_lt 0 (f k))
 
 pub total_const : (k c : ℕ) (f : ℕ → ℕ) → ((j : ℕ) → j < k → f j ≤ c) → total k f ≤ k * c
 unfolding total
@@ -76,7 +76,7 @@ pub total_upto : (k m : ℕ) (f : ℕ → ℕ) → k ≤ m → total k f ≤ tot
 unfolding total
 total_upto k zero f l = let z : k ≡ 0 = omega arith in rw z (omega arith)
 total_upto k (suc m) f l =
-    ⊎_elim (λ (z : k ≡ suc m). rw z (omega arith)) (λ ne. omega (arith, total_upto k m f (omega arith))) (eq_or_ne k (suc m))
+    ⊎_elim (λ (z : k ≡ suc m). rw z (omega arith)) (λ ne. omega (arith, total_upto k m f (omega arith))) (cases_eq k (suc m))
 
 pub total_scale : (k q : ℕ) (f : ℕ → ℕ) → total k (λ j. f j * q) ≡ total k f * q
 unfolding total

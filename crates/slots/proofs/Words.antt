@@ -1,7 +1,7 @@
 -- A held list as it lies in words, as slots want it.
 --   few_modules, few_pairs    up to 512 modules and 4,096 pairs
 --   GoodPair, good_pair      each pair: ends below n, smaller first, weight up to 1,000
---   list_ends, list_weights   its ends and its weights
+--   list_weights, held_ends   its weights and its ends
 --   inside_total              an inside count as a sum over the words
 -- Assumes nothing.
 use mathlib.Core.Path.{◌≡◌, refl}
@@ -13,7 +13,7 @@ use lib.ListN.{length, get_or}
 use Rattle.theory.specs.Basics.{table, all}
 use Rattle.theory.specs.Lists.{Pair, ends_in_range, smaller_first, weight_in_range, is_list}
 use Rattle.theory.specs.Groups.{holds_pair, inside_of, inside}
-use Rattle.theory.specs.Words.{word_pair, pairs_in, list_in}
+use Rattle.theory.specs.Words.{word_pair, pairs_in, list_in, HeldWords}
 use Rattle.theory.proofs.Tests.{tests}
 use Rattle.theory.proofs.Tables.{length_table}
 use Rattle.theory.proofs.Lists.{Listed, listed}
@@ -55,16 +55,22 @@ module _ (n m : ℕ) (ends weights : List ℕ) (l : is_list (list_in n m ends we
       let w = simp tests at (all_at m (word_pair ends weights) weight_in_range j rules.weights h) in
       record { below = e.1; first = f; light = w.1 }
 
-  pub list_ends : 2 * m ≤ length ends → Ends n m ends
-  list_ends long = record {
-    few = few_pairs;
-    long = long;
-    below = by_pair m (λ s o. get_or ends s 0 < n) (λ j h. let w = good_pair j h in (omega arith, omega arith));
-    apart = by_pair m (λ s o. get_or ends s 0 ≡ get_or ends o 0 → ⊥) (λ j h. let w = good_pair j h in ((λ e. omega arith), λ e. omega arith));
-  }
-
   pub list_weights : m ≤ length weights → Weights m weights
   list_weights long = record { long = long; small = λ j h. (good_pair j h).light }
+
+-- the same of a held list
+pub held_few : {n m : ℕ} {ends weights : List ℕ} → HeldWords n m ends weights → (n ≤ 512) × (m ≤ 4096)
+held_few {n} {m} {ends} {weights} h = (few_modules n m ends weights h.listed, few_pairs n m ends weights h.listed)
+
+pub held_ends : {n m : ℕ} {ends weights : List ℕ} → HeldWords n m ends weights → Ends n m ends
+held_ends {n} {m} {ends} {weights} h =
+    let pair : (j : ℕ) → j < m → GoodPair n ends weights j = good_pair n m ends weights h.listed in
+    record {
+      few = few_pairs n m ends weights h.listed;
+      long = h.ends_long;
+      below = by_pair m (λ s o. get_or ends s 0 < n) (λ j l. let w = pair j l in (omega arith, omega arith));
+      apart = by_pair m (λ s o. get_or ends s 0 ≡ get_or ends o 0 → ⊥) (λ j l. let w = pair j l in ((λ e. omega arith), λ e. omega arith));
+    }
 
 inside_table : (m : ℕ) (h : ℕ → Pair) (t : List ℕ) → inside_of (table m h) t ≡ total m (λ j. cond (holds_pair t (h j)) (h j).w 0)
 unfolding inside_of table total

@@ -4,3 +4,5 @@ pub mod Links
 pub mod Split
 pub mod Rows
 pub mod Buffers
+pub mod Views
+pub mod Neighbours

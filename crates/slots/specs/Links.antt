@@ -1,9 +1,15 @@
 -- Links: the places at which a module stands among module numbers (its pairs' ends), as a chain from the last one back to the first.
+--   place        what a word of a link says
 --   last_at      the last of the first k places at which a module stands
 --   Lasts        a buffer that has each module's
 --   Linked       buffers that have the links
 -- Assumes nothing: these are definitions.
-use Rattle.std.specs.Prelude.{◌≡◌, cond, List, ℕ, zero, suc, ◌<◌, eqb, get_or}
+use Rattle.std.specs.Prelude.{◌≡◌, cond, List, Option, Some, None, ℕ, zero, suc, ◌<◌, eqb, get_or}
+
+-- the place that a word says: 1 less, and none where it is 0
+abbrev pub place : ℕ → Option ℕ
+place zero = None
+place (suc i) = Some i
 
 -- one more than the last of the first k places i where f i is v, and 0 where there is none
 unfoldable pub last_at : (k : ℕ) → (f : ℕ → ℕ) → (v : ℕ) → ℕ

@@ -108,7 +108,7 @@ list_says = refusal_lent
 module _ (h : Head) (ps : List Pair) (order cores work : List ℕ) (r : ℕ) (order' cores' work' : List ℕ)
     (once : Ones h ps) (call : PeelCall h ps order cores work r order' cores' work') where
   peel_order : r ≡ peel_refusal h.n h.m (ends_of ps) (length order) (length cores) (length work)
-  unfolding peel_call_causes gate_number peel_buffers ours.buffer ours.any_short ours.work_words peel_refusal
+  unfolding peel_call_causes gate_number ours.any_short peel_refusal
   peel_order = call.number ∙ gate_order h ps once (ours.any_short (peel_buffers h (length order) (length cores) (length work))) ∙ simp or-false
 
   peel_agreed : r ≡ 0 → agrees h ps ≡ true
@@ -144,7 +144,7 @@ module _ (h : Head) (ps : List Pair) (members shares work : List ℕ) (v : Verdi
   short = ltb (length members) h.n || (ltb (length shares) h.m || ltb (length work) 16384)
 
   same_short : ours.any_short (check_buffers h (length members) (length shares) (length work)) ≡ short
-  unfolding check_buffers ours.buffer ours.any_short ours.work_words
+  unfolding ours.any_short
   same_short = simp or-false
 
   check_agreed : v.number ≡ 0 → agrees h ps ≡ true
@@ -156,7 +156,7 @@ module _ (h : Head) (ps : List Pair) (members shares work : List ℕ) (v : Verdi
   check_order_as =
       call.number ∙ ap (λ (b : Bool). refusal (cause 13 (not (agrees h ps)) ∷ cause 12 b ∷ causes)) same_short
       ∙ sym (turned (eqb (refused h ps) 0) 13 _ ∙ orders h ps once short _ causes (λ e s.
-      let n = check_enough h _ _ _ (same_short ∙ s) in
+      let n = check_enough h _ _ _ refl (same_short ∙ s) in
       let z : refused h ps ≡ 0 = refused_none h ps once e in
       let l = check_plain h.n h.m (ends_of ps) members shares (length work) z n.0 n.1 n.2 in
       sym (rw (← (same_list h ps once e), z, s) at l)))
@@ -192,7 +192,7 @@ module _ (h : Head) (ps : List Pair) (t s : List ℕ) (d : Difference) (once : O
   either_short = ltb (length t) h.n || ltb (length s) h.n
 
   same_either : ours.any_short (surplus_buffers h (length t) (length s)) ≡ either_short
-  unfolding surplus_buffers ours.buffer ours.any_short
+  unfolding ours.any_short
   same_either = simp or-false
 
   surplus_order_as : d.number ≡ surplus_refusal h.n h.m (ends_of ps) t s
@@ -200,7 +200,7 @@ module _ (h : Head) (ps : List Pair) (t s : List ℕ) (d : Difference) (once : O
   surplus_order_as =
       call.number ∙ ap (λ (b : Bool). refusal (cause 13 (not (agrees h ps)) ∷ cause 12 b ∷ both)) same_either
       ∙ sym (turned (eqb (refused h ps) 0) 13 _ ∙ orders h ps once either_short _ both (λ e l.
-      let n = surplus_enough h _ _ (same_either ∙ l) in
+      let n = surplus_enough h _ _ refl (same_either ∙ l) in
       rw (same_list h ps once e, members_plain (g h ps) t n.0, members_plain (g h ps) s n.1)
       (two_sets (is_group (weighted (g h ps)) (take h.n t)) (is_group (weighted (g h ps)) (take h.n s)))))
 
@@ -231,7 +231,7 @@ declined_as k a x c y d z r e b = rw e (refl, refl, refl, refl, refl, refl, b.0,
 module _ (h : Head) (ps : List Pair) (members cores shares work : List ℕ) (r : Solved) (members' cores' shares' work' : List ℕ)
     (once : Ones h ps) (call : SolveCall h ps members cores shares work r members' cores' shares' work') where
   solve_order : r.number ≡ solve_refusal h.n h.m (ends_of ps) (length members) (length cores) (length shares) (length work)
-  unfolding solve_call_causes gate_number solve_buffers ours.buffer ours.any_short ours.work_words solve_refusal
+  unfolding solve_call_causes gate_number ours.any_short solve_refusal
   solve_order =
       call.number.outright ∙ gate_order h ps once (ours.any_short (solve_buffers h (length members) (length cores) (length shares) (length work)))
       ∙ simp or-false

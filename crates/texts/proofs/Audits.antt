@@ -2,7 +2,8 @@
 --   ratio_small                            P and Q have at most seven digits
 --   verdict_refused, verdict_accepted      its text
 -- Assumes nothing.
-use mathlib.Core.Path.{◌≡◌, refl, ap, ◌∙◌}
+use mathlib.Core.Path.{◌≡◌, refl, ap}
+use Rattle.std.proofs.Common.{Ok, Err}
 use mathlib.Core.List.{List, [], ◌∷◌}
 use Prim.Native.Nat.{ℕ}
 use native.Mathlib.Omega.{arith}
@@ -12,40 +13,48 @@ use Rattle.theory.proofs.Tests.{tests}
 use Rattle.lines.specs.Outcomes.{Outcome, refused, taken}
 use Rattle.lines.specs.Lines.{filled}
 use Rattle.pairfile.proofs.Accepts.{accepted}
+use Rattle.refusals.specs.declared.Refusal.{Refusal}
+use Rattle.refusals.specs.Numbers.{number_of}
+use Rattle.numbers.specs.declared.Ratio.{Ratio}
 use Rattle.verify.specs.declared.Verdict.{Verdict}
+use Rattle.verify.specs.Answers.{refused_by, verdict_of as answered}
+use Rattle.lines.proofs.Found.{numbered}
 use Rattle.sheetfile.specs.Sheet.{Sheet}
 use Rattle.sheetfile.specs.Writer.{seven_digits}
 use Rattle.sheetfile.specs.Audit.{audit, verdict_of, Audits}
 use Rattle.sheetfile.proofs.BestSheets.{best_writable}
 use Rattle.texts.specs.Texts.{refusal_text, accepted_form, audit_text}
 
-module _ {file sheet : List ℕ} {v : Verdict} (a : Audits file sheet v) where
-  verdict_as : (o : Outcome Sheet) → audit file sheet ≡ o → v ≡ verdict_of o
-  verdict_as o e = a.verdict ∙ ap verdict_of e
+-- a refusal
+pub verdict_refused : {file sheet : List ℕ} (e : Refusal) → Audits file sheet (answered (Err e)) → refusal_text (number_of e) ≡ audit_text (audit file sheet)
+unfolding verdict_of audit_text
+verdict_refused {file} {sheet} e a = go (audit file sheet) a.verdict
+  where
+    go : (o : Outcome Sheet) → refused_by (number_of e) ≡ verdict_of o → refusal_text (number_of e) ≡ audit_text o
+    go (refused k) h = ap (λ (v : Verdict). refusal_text v.number) h
+    go (taken s) h = absurd (numbered e (ap (λ (v : Verdict). v.number) h))
 
-  pub verdict_refused : (v.number ≡ 0 → ⊥) → refusal_text v.number ≡ audit_text (audit file sheet)
-  unfolding verdict_of audit_text
-  verdict_refused n = go (audit file sheet) refl
-    where
-      go : (o : Outcome Sheet) → audit file sheet ≡ o → refusal_text v.number ≡ audit_text (audit file sheet)
-      go (refused k) e = rw (verdict_as (refused k) e, e)
-      go (taken s) e = absurd (n (ap (λ (w : Verdict). w.number) (verdict_as (taken s) e)))
+-- an accepted sheet
+module _ {file sheet : List ℕ} {r : Ratio} (a : Audits file sheet (answered (Ok r))) where
+  module _ (s : Sheet) (e : audit file sheet ≡ taken s) where
+    ratio_as : (r.p ≡ s.p) × (r.q ≡ s.q)
+    unfolding verdict_of
+    ratio_as = let v = rw e at a.verdict in (ap (λ (x : Verdict). x.p) v, ap (λ (x : Verdict). x.q) v)
 
-  module _ (z : v.number ≡ 0) where
-    pub verdict_accepted : filled accepted_form (v.p ∷ v.q ∷ []) ≡ audit_text (audit file sheet)
-    unfolding verdict_of audit_text
-    verdict_accepted = let b = a.best z in rw (verdict_as (taken b.0) b.1, b.1)
+    accepted_as : filled accepted_form (r.p ∷ r.q ∷ []) ≡ audit_text (audit file sheet)
+    unfolding audit_text
+    accepted_as = rw (e, ratio_as.0, ratio_as.1) refl
 
-    pub ratio_small : seven_digits (v.p ∷ v.q ∷ [])
-    unfolding verdict_of seven_digits all
-    ratio_small =
-        let b = a.best z in
-        let s : Sheet = b.0 in
-        let c = b.2 in
-        let same = verdict_as (taken s) b.1 in
-        let w = best_writable file c.list s c.named c.optimal c.order c.core_size in
-        let few = size_bound c.list s.members (accepted 4096 file c.list c.named).list w.group in
-        simp tests (
-          omega (arith, ap (λ (x : Verdict). x.p) same, w.head_digits.0),
-          (omega (arith, ap (λ (x : Verdict). x.q) same, w.members_size, few), refl),
-        )
+  pub verdict_accepted : filled accepted_form (r.p ∷ r.q ∷ []) ≡ audit_text (audit file sheet)
+  verdict_accepted = let b = a.best refl in accepted_as b.0 b.1
+
+  pub ratio_small : seven_digits (r.p ∷ r.q ∷ [])
+  unfolding seven_digits all
+  ratio_small =
+      let b = a.best refl in
+      let s : Sheet = b.0 in
+      let c = b.2 in
+      let same = ratio_as s b.1 in
+      let w = best_writable file c.list s c.named c.optimal c.order c.core_size in
+      let few = size_bound c.list s.members (accepted 4096 file c.list c.named).list w.group in
+      simp tests (omega (arith, same.0, w.head_digits.0), (omega (arith, same.1, w.members_size, few), refl))

@@ -4,22 +4,24 @@
 --   to_dimacs_read                          ToDimacsRead
 --   from_dimacs_same, to_dimacs_same, from_then_to, to_then_from     the promises of specs/Converted.antt
 -- Assumes nothing.
-use mathlib.Core.Path.{◌≡◌, sym, ap, ◌∙◌}
+use mathlib.Core.Path.{◌≡◌, refl, ap, ◌∙◌}
+use Rattle.std.proofs.Common.{Ok, Err}
 use mathlib.Core.Bool.{false}
 use mathlib.Core.List.{List}
 use Prim.Native.Nat.{ℕ, ◌≤◌, ◌<◌}
 use native.Mathlib.Omega.{arith}
 use borrow.Author.Tests.{lt-ltb, le-ltb}
-use lib.ListN.{length, take, length-take}
-use lib.Seq.{length-take-le, take_all}
+use lib.ListN.{length, length-take}
+use lib.Seq.{take_all}
 use Rattle.theory.specs.Lists.{Pairs}
 use Rattle.theory.specs.Words.{laid_list}
-use Rattle.lines.specs.Outcomes.{Outcome, taken}
+use Rattle.refusals.specs.declared.Refusal.{Refusal}
+use Rattle.refusals.specs.Numbers.{number_of}
+use Rattle.records.specs.declared.Head.{Head}
+use Rattle.lines.specs.Outcomes.{Outcome, taken, outcome_of}
 use Rattle.pairfile.specs.File.{read_file}
 use Rattle.pairfile.specs.Answers.{WordsRead}
 use Rattle.pairfile.specs.Promise.{WrittenReadsBack as FileBack, ReadsLists as FileLists}
-use Rattle.pairfile.specs.declared.Reading.{Reading}
-use Rattle.pairfile.proofs.Readings.{Sound, reading_refused, reading_taken}
 use Rattle.pairfile.proofs.Promises.{written_reads_back as file_back, reads_lists as file_lists}
 use Rattle.dimacs.specs.Edges.{read_dimacs, dimacs_of}
 use Rattle.dimacs.specs.Promise.{once_each, WrittenReadsOnce, ReadsLists as DimacsLists, WrittenFits}
@@ -43,45 +45,47 @@ use Rattle.texts.proofs.Whole.{read_as}
 
 -- ---- what a reader of words answers
 
-module _ (file_of_list : Pairs → List ℕ) {due : Outcome Pairs} {old words : List ℕ} {r : Reading} (f : WordsRead due old words r) where
-  -- a number that is not 0: the status line
-  pub refusal_converted : (r.number ≡ 0 → ⊥) → refusal_text r.number ≡ converted file_of_list due
-  unfolding converted
-  refusal_converted h = rw (reading_refused f h)
+module _ (file_of_list : Pairs → List ℕ) {due : Outcome Pairs} {old words : List ℕ} where
+  -- a refusal: the status line
+  pub refusal_converted : {e : Refusal} → WordsRead due old words (Err e) → refusal_text (number_of e) ≡ converted file_of_list due
+  unfolding converted outcome_of
+  refusal_converted f = rw f.found refl
 
-  -- number 0: the file of the list in the words
-  pub list_converted : Sound due → r.number ≡ 0 → file_of_list (laid_list r.n r.m words) ≡ converted file_of_list due
-  unfolding converted
-  list_converted s z = rw (reading_taken f s z)
+  -- a list: its file
+  pub list_converted : {head : Head} → WordsRead due old words (Ok head) → file_of_list (laid_list head.n head.m words) ≡ converted file_of_list due
+  unfolding converted outcome_of
+  list_converted f = rw f.found refl
 
 -- ---- the file that was read
 
-module _ {buffer : List ℕ} {n : ℕ} (room : 1048577 ≤ length buffer) (fits : n ≤ length buffer) where
-  -- as many bytes were read as the file has, or as the buffer holds
-  read_many : {file : List ℕ} → ReadOf buffer n file → (n ≤ length file) × (n < length buffer → length file ≡ n)
-  read_many {file} e =
-      let k = sym (length-take-le n buffer fits) ∙ ap length e.front ∙ length-take (length buffer) file in
+module _ {bytes file : List ℕ} (e : ReadOf 1048577 bytes file) where
+  -- as many bytes were read as the file has, or as there is room for
+  read_many : (length bytes ≤ length file) × (length bytes < e.room → length file ≡ length bytes)
+  read_many =
+      let k = ap length e.front ∙ length-take e.room file in
       (omega (arith, k), λ h. omega (arith, k))
 
-  -- a longer file is refused, whatever it holds
-  pub long_read : 1048576 < n → FromDimacsRead buffer n (refusal_text 109)
-  unfolding from_dimacs_printed is_long
-  long_read h = record { due = λ file e. rw (lt-ltb 1048576 (length file) (omega (arith, (read_many e).0))) }
+  -- what is not too long was read whole
+  read_whole : length bytes ≤ 1048576 → bytes ≡ file
+  read_whole h = e.front ∙ take_all e.room file (omega (arith, read_many.1 (omega (arith, e.enough)), e.enough))
 
-  -- and any other was read whole
-  pub from_dimacs_read : {text : List ℕ} → n ≤ 1048576 → text ≡ converted pair_file (read_dimacs 4096 (take n buffer)) → FromDimacsRead buffer n text
-  unfolding from_dimacs_printed is_long
-  from_dimacs_read h is = record {
-    due = λ file e.
-        let k : length file ≡ n = (read_many e).1 (omega arith) in
-        let whole : take n buffer ≡ file = e.front ∙ take_all (length buffer) file (omega (arith, k)) in
-        is ∙ rw (le-ltb 1048576 (length file) (omega (arith, k)), whole);
-  }
+-- a longer file is refused, whatever it holds
+pub long_read : {bytes : List ℕ} → 1048576 < length bytes → FromDimacsRead bytes (refusal_text 109)
+unfolding from_dimacs_printed is_long
+long_read h = record { due = λ file e. rw (lt-ltb 1048576 (length file) (omega (arith, (read_many e).0))) refl }
 
-pub to_dimacs_read : {buffer : List ℕ} {n : ℕ} {text : List ℕ} → 65536 ≤ length buffer → text ≡ converted dimacs_of (read_file 4096 (take n buffer)) →
-    ToDimacsRead buffer n text
+-- and any other was read whole
+pub from_dimacs_read : {bytes text : List ℕ} → length bytes ≤ 1048576 → text ≡ converted pair_file (read_dimacs 4096 bytes) → FromDimacsRead bytes text
+unfolding from_dimacs_printed is_long
+from_dimacs_read {bytes} h is = record {
+  due = λ file e.
+      let whole : bytes ≡ file = read_whole e h in
+      is ∙ rw (le-ltb 1048576 (length file) (omega (arith, ap length whole)), ← whole) refl;
+}
+
+pub to_dimacs_read : {bytes text : List ℕ} → text ≡ converted dimacs_of (read_file 4096 bytes) → ToDimacsRead bytes text
 unfolding to_dimacs_printed
-to_dimacs_read room is = record { due = λ file e. is ∙ ap (converted dimacs_of) (read_as room e) }
+to_dimacs_read is = record { due = λ file e. is ∙ ap (converted dimacs_of) (read_as e) }
 
 -- ---- the promises
 

@@ -1,9 +1,10 @@
 -- What is printed of a pair file.
---   prints                                       a right text that has been written
+--   prints, prints_lent                          a right text that has been written
 --   group_first                                  GroupFirst: a sheet's text begins with the group's
 --   refusal_printed, refusal_due                 a refused file
 --   modules_few, answer_length, group_lines      the group of a file that names a list
---   pairs_few, lines_length, sheet_due           and its sheet
+--   pairs_few, shares_count, list_held           how many pairs and shares it has, and where its list lies
+--   lines_length, sheet_due                      and its sheet
 -- Assumes nothing.
 use mathlib.Core.Path.{◌≡◌, refl, sym, ap, ◌∙◌}
 use mathlib.Core.Bool.{true}
@@ -11,29 +12,34 @@ use mathlib.Core.List.{List, append_assoc}
 use Prim.Native.Nat.{ℕ, ◌≤◌}
 use native.Mathlib.Omega.{arith}
 use lib.ListN.{length, take}
+use Rattle.std.proofs.Common.{Ok, Err}
 use lib.Seq.{length-take-le, take_at}
 use Rattle.theory.specs.Lists.{Pairs, is_list}
 use Rattle.theory.specs.Groups.{inside, size, Found, found_of}
 use Rattle.theory.specs.Cores.{core_number, core_numbers}
 use Rattle.theory.specs.Promise.{Optimal, SplitThere, FoundOutright}
-use Rattle.theory.specs.Words.{laid_pairs}
+use Rattle.theory.specs.Words.{laid_list, HoldsList}
 use Rattle.theory.proofs.Lists.{Listed, listed}
 use Rattle.theory.proofs.Tables.{length_table}
 use Rattle.theory.proofs.Duality.{optimal}
 use Rattle.theory.proofs.Promises.{split_there, found_outright}
-use Rattle.lines.specs.Outcomes.{Outcome, refused, taken}
+use Rattle.refusals.specs.declared.Refusal.{Refusal}
+use Rattle.refusals.specs.Numbers.{number_of}
+use Rattle.lines.specs.Outcomes.{Outcome, refused, taken, number_given, outcome_of}
+use Rattle.lines.proofs.Taken.{refused_not_taken, taken_same}
 use Rattle.pairfile.specs.File.{read_file}
 use Rattle.pairfile.proofs.Accepts.{accepted}
-use Rattle.pairfile.proofs.Readings.{file_numbers}
 use Rattle.on_words.specs.Buffers.{in_front}
-use Rattle.lines.specs.Putting.{Puts}
+use Rattle.lines.specs.Putting.{Puts, Writes}
+use Rattle.lines.specs.declared.writer.Writer.{Writer}
+use Rattle.lines.proofs.Parts.{lent_back}
 use Rattle.lines.proofs.Putting.{puts_length, puts_front}
 use Rattle.sheetfile.specs.Writer.{sheet_file, Writable, AcceptsBack}
 use Rattle.sheetfile.specs.Audit.{audit}
 use Rattle.sheetfile.proofs.BestSheets.{best_writable}
 use Rattle.sheetfile.proofs.ReadsBack.{accepts_back}
 use Rattle.answer.specs.declared.Answer.{Answer}
-use Rattle.answer.specs.Answers.{refusal_of, group_answer, answer_to, members_after, Answers, solved_of, Sheeted}
+use Rattle.answer.specs.Answers.{group_answer, answer_to, members_after, Answers, solved_of, HandedOver, Sheeted}
 use Rattle.on_words.proofs.Sheets.{found_front}
 use Rattle.texts.specs.Texts.{refusal_text, group_text, group_printed, certificate, GroupFirst}
 use Rattle.texts.specs.Printed.{Prints, SheetDue, SheetPrinted, answer_lines, sheet_lines}
@@ -51,6 +57,11 @@ prints {text = text} right p fits =
       within = omega (arith, p.end, puts_length p (omega arith));
       counted = rw front (omega (arith, p.end));
     }
+
+-- one that has been written into a lent buffer
+pub prints_lent : {Right : List ℕ → Type 0} {text out out' : List ℕ} {start : Writer} → start.out.now ≡ out → start.at ≡ 0 → (end : Writer) →
+    Writes text start end → out' ≡ end.out.now → Right text → length text ≤ length out → Prints Right out out' end.at
+prints_lent same front end written back right fits = prints right (lent_back same front end written back) fits
 
 pub group_first : GroupFirst
 unfolding GroupFirst sheet_file group_text certificate
@@ -78,52 +89,47 @@ accepted_certificate file g s xs e o = accepts_back file g (certificate g s xs) 
 
 -- ---- any file
 
-module _ {file members : List ℕ} {r : Answer} {members' : List ℕ} (a : Answers file members r members') where
-  answer_as : (o : Outcome Pairs) → read_file 4096 file ≡ o → r ≡ answer_to o
-  answer_as o e = a.answer_is ∙ ap answer_to e
-
-  refused_by : (k : ℕ) → read_file 4096 file ≡ refused k → r.number ≡ k
-  unfolding answer_to refusal_of
-  refused_by k e = ap (λ (b : Answer). b.number) (answer_as (refused k) e)
-
-  taken_by : (g : Pairs) → read_file 4096 file ≡ taken g → r ≡ group_answer g (found_of g)
-  unfolding answer_to
-  taken_by g e = answer_as (taken g) e
-
-  named : r.number ≡ 0 → (g : Pairs) × (read_file 4096 file ≡ taken g)
-  named z = go (read_file 4096 file) refl
+-- a file that is refused
+module _ {file members : List ℕ} {e : Refusal} {members' : List ℕ} (a : Answers file members (Err e) members') where
+  refused_by : read_file 4096 file ≡ refused (number_of e)
+  unfolding answer_to outcome_of number_given
+  refused_by = go (read_file 4096 file) a.answer_is
     where
-      go : (o : Outcome Pairs) → read_file 4096 file ≡ o → (g : Pairs) × (read_file 4096 file ≡ taken g)
-      go (refused k) e = absurd (omega (arith, file_numbers 4096 file k e, refused_by k e, z))
-      go (taken g) e = (g, e)
+      go : (o : Outcome Pairs) → answer_to o ≡ refused (number_of e) → o ≡ refused (number_of e)
+      go (refused k) h = ap refused (ap number_given h)
+      go (taken g) h = absurd (refused_not_taken (sym h))
 
-  module _ (n : r.number ≡ 0 → ⊥) where
-    none_taken : (g : Pairs) → read_file 4096 file ≡ taken g → ⊥
-    unfolding group_answer
-    none_taken g e = n (ap (λ (b : Answer). b.number) (taken_by g e))
+  pub refusal_due : SheetPrinted file (refusal_text (number_of e))
+  unfolding number_given
+  refusal_due = record {
+    taken = λ g t. absurd (refused_not_taken (sym refused_by ∙ t));
+    refused = λ k r. ap refusal_text (ap number_given (sym refused_by ∙ r));
+  }
 
-    pub refusal_due : SheetPrinted file (refusal_text r.number)
-    refusal_due = record { taken = λ g e. absurd (none_taken g e); refused = λ k e. ap refusal_text (refused_by k e) }
+  pub refusal_printed : refusal_text (number_of e) ≡ group_printed (read_file 4096 file)
+  unfolding group_printed
+  refusal_printed = rw refused_by refl
 
-    pub refusal_printed : refusal_text r.number ≡ group_printed (read_file 4096 file)
-    unfolding group_printed
-    refusal_printed = go (read_file 4096 file) refl
-      where
-        go : (o : Outcome Pairs) → read_file 4096 file ≡ o → refusal_text r.number ≡ group_printed (read_file 4096 file)
-        go (refused k) e = rw (refused_by k e, e)
-        go (taken g) e = absurd (none_taken g e)
+-- a file that names a list
+module _ {file members : List ℕ} {x : Answer} {members' : List ℕ} (a : Answers file members (Ok x) members') where
+  named : (g : Pairs) × (read_file 4096 file ≡ taken g) × (x ≡ group_answer g (found_of g))
+  unfolding answer_to outcome_of
+  named = go (read_file 4096 file) refl a.answer_is
+    where
+      go : (o : Outcome Pairs) → read_file 4096 file ≡ o → answer_to o ≡ taken x →
+          (g : Pairs) × (read_file 4096 file ≡ taken g) × (x ≡ group_answer g (found_of g))
+      go (refused k) e h = absurd (refused_not_taken h)
+      go (taken g) e h = (g, e, sym (taken_same h))
 
-  -- a file that names a list
-
-  module _ (g : Pairs) (e : read_file 4096 file ≡ taken g) where
+  module _ (g : Pairs) (e : read_file 4096 file ≡ taken g) (is : x ≡ group_answer g (found_of g)) where
     list : is_list g ≡ true
     list = (accepted 4096 file g e).list
 
-    n_as : r.n ≡ g.n
+    n_as : x.head.n ≡ g.n
     unfolding group_answer
-    n_as = ap (λ (b : Answer). b.n) (taken_by g e)
+    n_as = ap (λ (b : Answer). b.head.n) is
 
-    n_few : r.n ≤ 512
+    n_few : x.head.n ≤ 512
     n_few = omega (arith, n_as, (listed g list).few)
 
     -- the member bytes in front are the found group's
@@ -131,91 +137,103 @@ module _ {file members : List ℕ} {r : Answer} {members' : List ℕ} (a : Answe
     unfolding members_after
     group_as = rw (a.members_are, e) (found_front g list members)
 
-    lines_as : answer_lines r (take r.n members') ≡ group_text g (found_of g)
+    lines_as : answer_lines x (take x.head.n members') ≡ group_text g (found_of g)
     unfolding answer_lines group_text group_answer
-    lines_as = rw (n_as, group_as, taken_by g e)
+    lines_as = rw (n_as, group_as, is) refl
 
-    text_length : length (answer_lines r (take r.n members')) ≤ 6196
+    text_length : length (answer_lines x (take x.head.n members')) ≤ 6196
     unfolding group_text certificate
     text_length =
         let best = found_best g list in
         let w = certificate_writable file g (found_of g) best.0 e best.1 in
         rw lines_as (omega (arith, group_length g (certificate g (found_of g) best.0) list w, (listed g list).few))
 
-  module _ (z : r.number ≡ 0) where
-    pub modules_few : r.n ≤ 512
-    modules_few = let g = named z in n_few g.0 g.1
+  pub modules_few : x.head.n ≤ 512
+  modules_few = n_few named.0 named.1 named.2
 
-    pub answer_length : length (answer_lines r (take r.n members')) ≤ 6196
-    answer_length = let g = named z in text_length g.0 g.1
+  pub answer_length : length (answer_lines x (take x.head.n members')) ≤ 6196
+  answer_length = text_length named.0 named.1 named.2
 
-    not_refused : (k : ℕ) → read_file 4096 file ≡ refused k → ⊥
-    not_refused k e = omega (arith, file_numbers 4096 file k e, refused_by k e, z)
-
-    pub group_lines : answer_lines r (take r.n members') ≡ group_printed (read_file 4096 file)
-    unfolding group_printed
-    group_lines = let g = named z in rw g.1 (lines_as g.0 g.1)
+  pub group_lines : answer_lines x (take x.head.n members') ≡ group_printed (read_file 4096 file)
+  unfolding group_printed
+  group_lines = lines_as named.0 named.1 named.2 ∙ ap group_printed (sym named.1)
 
 -- ---- its sheet
 
-module _ {file members cores shares words : List ℕ} {r : Answer} {members' cores' shares' words' : List ℕ}
-    (s : Sheeted file members cores shares words r members' cores' shares' words')
+module _ {file members cores shares words : List ℕ} {x : Answer} {members' cores' shares' words' : List ℕ}
+    (s : Sheeted file members cores shares words (Ok x) members' cores' shares' words')
     (shares_long : 4096 ≤ length shares') (words_long : 12288 ≤ length words') where
-  module _ (g : Pairs) (e : read_file 4096 file ≡ taken g) where
+  module _ (g : Pairs) (e : read_file 4096 file ≡ taken g) (is : x ≡ group_answer g (found_of g)) where
     abbrev shares_of : List ℕ
     shares_of = take (length g.pairs) shares'
 
     held : Listed g
     held = listed g (accepted 4096 file g e).list
 
-    m_as : r.m ≡ length g.pairs
-    unfolding group_answer
-    m_as = ap (λ (b : Answer). b.m) (taken_by s.answers g e)
+    over : HandedOver g members cores shares words x members' cores' shares' words'
+    over = rw is (s.taken g e)
 
-    m_few : r.m ≤ 4096
+    m_as : x.head.m ≡ length g.pairs
+    unfolding group_answer
+    m_as = ap (λ (b : Answer). b.head.m) is
+
+    m_few : x.head.m ≤ 4096
     m_few = omega (arith, m_as, held.short)
 
-    shares_count : length (take r.m shares') ≡ r.m
-    shares_count = length-take-le r.m shares' (omega (arith, m_few))
-
-    cores_as : take r.n cores' ≡ core_numbers g
+    cores_as : take x.head.n cores' ≡ core_numbers g
     unfolding in_front core_numbers
-    cores_as = rw (n_as s.answers g e, (s.taken g e).handed.cores_are) (take_at (core_numbers g) _ _ (length_table g.n (core_number g)))
+    cores_as = rw (n_as s.answers g e is, over.handed.cores_are) (take_at (core_numbers g) _ _ (length_table g.n (core_number g)))
 
-    pairs_as : laid_pairs (length (take r.m shares')) words' ≡ g.pairs
-    pairs_as = ap (λ (m : ℕ). laid_pairs m words') shares_count ∙ (s.taken g e).pairs_are
+    -- the list lies in the words
+    laid_as : laid_list x.head.n x.head.m words' ≡ g
+    unfolding laid_list
+    laid_as i = record { n = n_as s.answers g e is i; pairs = over.pairs_are i }
 
-    sheet_as :
-        sheet_lines r (take r.n members') (take r.n cores') words' (take r.m shares') ≡ sheet_file g (certificate g (found_of g) shares_of)
+    sheet_as : sheet_lines x (take x.head.n members') (take x.head.n cores') g.pairs (take x.head.m shares') ≡
+        sheet_file g (certificate g (found_of g) shares_of)
     unfolding sheet_lines GroupFirst
-    sheet_as = rw (lines_as s.answers g e, cores_as, pairs_as, m_as) (sym (group_first g (found_of g) shares_of))
+    sheet_as = rw (lines_as s.answers g e is, cores_as, m_as) (sym (group_first g (found_of g) shares_of))
 
     own : Optimal g (found_of g) shares_of (inside g (found_of g)) (size (found_of g))
     unfolding solved_of group_answer
-    own = rw (group_as s.answers g e, taken_by s.answers g e) at (s.taken g e).handed.optimal
+    own = rw (group_as s.answers g e is, is) at over.handed.optimal
 
     written : Writable g (certificate g (found_of g) shares_of)
     written = certificate_writable file g (found_of g) shares_of e own
 
-    due_of : SheetDue file g (found_of g) (sheet_lines r (take r.n members') (take r.n cores') words' (take r.m shares'))
+    due_of : SheetDue file g (found_of g) (sheet_lines x (take x.head.n members') (take x.head.n cores') g.pairs (take x.head.m shares'))
     unfolding solved_of group_answer
     due_of = record {
       shares = shares_of;
       optimal = own;
-      outside = rw (taken_by s.answers g e) at (s.taken g e).handed.outside;
+      outside = rw is at over.handed.outside;
       is = sheet_as;
       accepted = rw sheet_as (accepted_certificate file g (found_of g) shares_of e own);
     }
 
-  module _ (z : r.number ≡ 0) where
-    pub pairs_few : r.m ≤ 4096
-    pairs_few = let g = named s.answers z in m_few g.0 g.1
+  pub pairs_few : x.head.m ≤ 4096
+  pairs_few = let k = named s.answers in m_few k.0 k.1 k.2
 
-    pub lines_length : length (sheet_lines r (take r.n members') (take r.n cores') words' (take r.m shares')) ≤ 136756
+  pub shares_count : length (take x.head.m shares') ≡ x.head.m
+  shares_count = length-take-le x.head.m shares' (omega (arith, pairs_few, shares_long))
+
+  pub list_held : HoldsList x.head.n x.head.m words'
+  list_held = let k = named s.answers in record { listed = rw (laid_as k.0 k.1 k.2) (list s.answers k.0 k.1 k.2); long = words_long }
+
+  module _ {l : Pairs} (same : l ≡ laid_list x.head.n x.head.m words') where
+    abbrev lines : List ℕ
+    lines = sheet_lines x (take x.head.n members') (take x.head.n cores') l.pairs (take x.head.m shares')
+
+    pub lines_length : length lines ≤ 136756
     lines_length =
-        let g = named s.answers z in
-        let best = certificate g.0 (found_of g.0) (shares_of g.0 g.1) in
-        rw (sheet_as g.0 g.1) (sheet_length g.0 best (accepted 4096 file g.0 g.1).list (written g.0 g.1))
+        let k = named s.answers in
+        let best = certificate k.0 (found_of k.0) (shares_of k.0 k.1 k.2) in
+        rw (same, laid_as k.0 k.1 k.2, sheet_as k.0 k.1 k.2) (sheet_length k.0 best (list s.answers k.0 k.1 k.2) (written k.0 k.1 k.2))
 
-    pub sheet_due : SheetPrinted file (sheet_lines r (take r.n members') (take r.n cores') words' (take r.m shares'))
-    sheet_due = record { taken = due_of; refused = λ k e. absurd (not_refused s.answers z k e) }
+    pub sheet_due : SheetPrinted file lines
+    sheet_due =
+        let k = named s.answers in
+        record {
+          taken = λ u t. let own : k.0 ≡ u = taken_same (sym k.1 ∙ t) in rw (same, laid_as k.0 k.1 k.2, ← own) (due_of k.0 k.1 k.2);
+          refused = λ j r. absurd (refused_not_taken (sym r ∙ k.1));
+        }

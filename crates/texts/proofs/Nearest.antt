@@ -7,12 +7,13 @@
 use mathlib.Core.Path.{◌≡◌, refl, sym, ap, ◌∙◌}
 use mathlib.Core.Bool.{Bool, true, false, ◌&&◌}
 use mathlib.Core.List.{List, ◌++◌}
-use mathlib.Core.Option.{Option, none, some}
 use Prim.Native.Nat.{ℕ, zero, suc, ◌+◌, ◌<◌}
 use native.Mathlib.Omega.{arith}
 use borrow.Author.Tests.{ltb-true, ltb-false, lt-ltb, le-ltb}
 use lib.Dec.{ltb}
-use lib.ListN.{length, get_or, get_elem?}
+use lib.ListN.{length, get_or}
+use Rattle.std.specs.Prelude.{Option, Some, None}
+use Rattle.std.specs.List.{slice_get}
 use Rattle.theory.specs.Basics.{mark}
 use Rattle.theory.specs.Lists.{Pair, Pairs, stands_before, rising}
 use Rattle.theory.specs.Refusals.{refusal, if_taken}
@@ -25,8 +26,6 @@ use Rattle.pairs.proofs.Order.{before_not_after, order_cases}
 use Rattle.pairs.proofs.Rising.{place_le, place_before, place_from, held_at, held_place, place_at, entry_held, held_before, entry_before}
 use Rattle.pairs.specs.Causes.{pair_causes}
 use Rattle.lines.specs.Outcomes.{Outcome, refused, taken}
-use Rattle.on_words.specs.declared.Placed.{Placed}
-use Rattle.on_words.specs.Edits.{placed_of}
 use Rattle.kandurzo.proofs.Placings.{lent_placed}
 use Rattle.pairfile.specs.File.{read_file}
 use Rattle.pairfile.specs.Promise.{ReadsLists}
@@ -57,7 +56,7 @@ use Rattle.texts.proofs.Places.{entry_some, entry_none, pair_refused, pair_shown
 module _ (ps : List Pair) (up : rising ps ≡ true) (p : Pair) where
   -- a record is the nearest on its side where no held record stands between
   nearest_at : (side : Pair → Pair → Bool) (j : ℕ) → j < length ps → side (get_or ps j p) p ≡ true →
-      ((r : Pair) → is_held r ps ≡ true → side (get_or ps j p) r ≡ true → side r p ≡ true → ⊥) → Nearest side p ps (get_elem? ps j)
+      ((r : Pair) → is_held r ps ≡ true → side (get_or ps j p) r ≡ true → side r p ≡ true → ⊥) → Nearest side p ps (slice_get ps j)
   unfolding Nearest
   nearest_at side j h s n =
       rw (entry_some ps j p h)
@@ -140,16 +139,16 @@ neighbours_nearest file first second g a b e f s z =
     }
 
 pub neighbours_placed : NeighboursPlaced
-unfolding NeighboursPlaced converted place_text located placed_of if_taken
+unfolding NeighboursPlaced converted place_text located if_taken
 neighbours_placed file first second g a b h ps r e f s lent says =
     let is = lent_placed a b lent says in
     let l = located (smaller_first_pair a b) g.pairs in
-    let k : r.number ≡ refusal (pair_causes 0 g.n a b) = ap (λ (x : Placed). x.number) is in (
+    let k : r.number ≡ refusal (pair_causes 0 g.n a b) = is.0 in (
       λ some. neighbours_as file first second ∙ rw e (both_named first second g f s ∙ pair_refused g a b k some),
       λ z.
           let taken : refusal (pair_causes 0 g.n a b) ≡ 0 = sym k ∙ z in
-          let held : r.held ≡ mark l.held = rw taken at (ap (λ (x : Placed). x.held) is) in
-          let at : r.at ≡ l.at = rw taken at (ap (λ (x : Placed). x.at) is) in (
+          let held : r.held ≡ mark l.held = rw taken at is.1 in
+          let at : r.at ≡ l.at = rw taken at is.2 in (
             record_line before_form (predecessor l g.pairs) ++ record_line after_form (successor l g.pairs),
             neighbours_as file first second ∙ rw (e, held, at) (both_named first second g f s ∙ pair_shown g a b taken),
           ),
@@ -165,10 +164,10 @@ list_turned : (first second : List ℕ) (g : Pairs) → list_printed first secon
 list_turned first second g = go (argument_number first) refl (argument_number second) refl
   where
     go : (o : Option ℕ) → argument_number first ≡ o → (u : Option ℕ) → argument_number second ≡ u → list_printed first second g ≡ list_printed second first g
-    go none e none d = first_none first second g e ∙ sym (first_none second first g d)
-    go none e (some b) d = first_none first second g e ∙ sym (second_none second first g d e)
-    go (some a) e none d = second_none first second g e d ∙ sym (first_none second first g d)
-    go (some a) e (some b) d = both_named first second g e d ∙ ap printed (pair_turned g a b) ∙ sym (both_named second first g d e)
+    go None e None d = first_none first second g e ∙ sym (first_none second first g d)
+    go None e (Some b) d = first_none first second g e ∙ sym (second_none second first g d e)
+    go (Some a) e None d = second_none first second g e d ∙ sym (first_none second first g d)
+    go (Some a) e (Some b) d = both_named first second g e d ∙ ap printed (pair_turned g a b) ∙ sym (both_named second first g d e)
 
 pub neighbours_round : NeighboursRound
 unfolding NeighboursRound converted

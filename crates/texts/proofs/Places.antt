@@ -1,50 +1,52 @@
 -- The text of a pair's place, part by part.
---   argument_none, argument_more, argument_alone   the number that an argument spells
+--   argument_none, argument_more, argument_alone   the module that an argument names
 --   entry_some, entry_none                         the entry at an index of a list, if it has one
---   none_first, none_past, line_there              the line of the k-th record in words
+--   none_there, line_there                         the line of the k-th record in words
 --   successor_next                                 the record after a pair, counted from 1
---   found_within                                   a place that lookup answers
+--   found_within, found_there                      a place that lookup answers
 --   head_room, before_room, after_left             the first lines have room, then the line before, and the line after is left
---   place_length, pair_length, list_length         how long the texts are
+--   place_length, pair_length                      how long the texts are
 --   pair_refused, pair_shown                       the text of two module numbers
 --   first_none, second_none, both_named            and of two arguments
---   neighbours_as, neighbours_read                 a file's text by what is read, and NeighboursRead
+--   file_refused, first_refused, second_refused, modules_refused, modules_placed    and of these and a file, or the refusal
+--   refused_written, text_written                  the text in a buffer
+--   neighbours_as, neighbours_length, neighbours_read, refusal_shown, text_shown    a file's text by what is read, and NeighboursRead
 -- Assumes nothing.
 use mathlib.Core.Path.{◌≡◌, refl, sym, ap, ◌∙◌}
 use mathlib.Core.Bool.{true, cond}
 use mathlib.Core.List.{List, [], ◌∷◌, ◌++◌}
-use mathlib.Core.Option.{Option, none, some}
 use Prim.Native.Nat.{ℕ, zero, suc, ◌+◌, ◌*◌, ◌-◌, ◌≤◌, ◌<◌, min, max}
 use native.Mathlib.Numerals.{add-one}
 use native.Mathlib.Omega.{arith}
 use borrow.Author.Tests.{leb-true, eqb-true, eqb-false, eq-eqb, ne_eqb}
 use lib.Dec.{eqb}
-use lib.ListN.{length, get_or, take, drop, get_elem?, length-drop, length-append}
+use lib.ListN.{length, get_or, length-append}
+use Rattle.std.specs.Prelude.{Option, Some, None, Ok, Err}
+use Rattle.std.specs.List.{slice_get}
 use Rattle.theory.specs.Basics.{all, mark}
 use Rattle.theory.specs.Lists.{Pair, Pairs, pair, ends_in_range, is_list}
 use Rattle.theory.specs.Refusals.{refusal}
-use Rattle.theory.specs.Words.{laid_pairs}
+use Rattle.theory.specs.Words.{word_pair, pairs_in}
 use Rattle.theory.proofs.Lists.{listed}
 use Rattle.theory.proofs.Tests.{tests, by_test, mark_le}
-use Rattle.theory.proofs.Words.{length_laid, laid_at}
+use Rattle.theory.proofs.Words.{length_pairs_in, pairs_in_at}
+use Rattle.refusals.specs.declared.Refusal.{Refusal}
+use Rattle.refusals.specs.Numbers.{number_of as refusal_number}
 use Rattle.pairs.specs.Held.{smaller_first_pair}
 use Rattle.pairs.specs.Causes.{pair_causes}
-use Rattle.pairs.specs.Located.{located}
-use Rattle.pairs.specs.declared.Place.{Place}
+use Rattle.pairs.specs.Located.{Place, located}
 use Rattle.pairs.proofs.Rising.{place_le}
-use Rattle.pairs.proofs.Words.{place_within}
 use Rattle.lines.specs.Text.{text, between}
 use Rattle.lines.specs.Numbers.{number_of}
 use Rattle.lines.specs.Lines.{is_place, places, filled}
-use Rattle.lines.specs.Outcomes.{Outcome, refused, taken, ◌>>=◌, ◌>>◌}
-use Rattle.lines.specs.Putting.{Puts}
-use Rattle.lines.specs.Answers.{number_in, number_end, NumberFound}
-use Rattle.lines.specs.declared.FoundNumber.{FoundNumber}
-use Rattle.lines.specs.declared.FoundNumber.TheVariants.{Number as number, Missing}
-use Rattle.lines.proofs.Found.{judge_refused, judge_passed}
+use Rattle.lines.specs.Outcomes.{Outcome, refused, taken, ◌>>=◌, ◌>>◌, outcome_of}
+use Rattle.lines.specs.Putting.{Puts, HasRoom, Writes}
+use Rattle.lines.specs.declared.writer.Writer.{Writer}
+use Rattle.lines.proofs.Found.{judge_refused, judged_by, judge_passed}
 use Rattle.lines.proofs.Lengths.{no_more, and_small, filled_length}
-use Rattle.lines.proofs.Parts.{Left, left_start, left_front, left_step}
+use Rattle.lines.proofs.Parts.{Left, left_front, left_step}
 use Rattle.pairfile.specs.File.{read_file}
+use Rattle.pairfile.proofs.Accepts.{accepted}
 use Rattle.texts.specs.Texts.{refusal_text}
 use Rattle.texts.specs.Converted.{converted}
 use Rattle.texts.specs.Neighbours.{
@@ -66,105 +68,113 @@ use Rattle.texts.specs.Neighbours.{
   list_printed,
   neighbours_printed,
   NeighboursRead,
+  TextWritten,
 }
 use Rattle.texts.proofs.Lengths.{refusal_length}
 use Rattle.texts.proofs.Whole.{read_as}
 
--- ---- an argument, by what number_at has found
+-- ---- an argument, by the number that has been found in front
 
-module _ {bytes : List ℕ} {r : FoundNumber} (f : NumberFound 4 bytes 0 r) where
-  -- no number stands there
-  pub argument_none : r ≡ Missing → argument_number bytes ≡ none
-  unfolding argument_number alone number_in
-  argument_none e = let e' : number_of 4 bytes ≡ none = f.found ∙ ap (number_in bytes) e in rw e'
+-- no number stands there
+pub argument_none : (bytes : List ℕ) → number_of 4 bytes ≡ None → module_due (argument_number bytes) ≡ refused 110
+unfolding argument_number alone module_due
+argument_none bytes e = rw e refl
 
-  module _ {v i : ℕ} (e : r ≡ number v i) where
-    found : argument_number bytes ≡ cond (eqb (length (drop i bytes)) 0) (some v) none
-    unfolding argument_number alone number_in
-    found = let e' : number_of 4 bytes ≡ some (record { value = v; rest = drop i bytes }) = f.found ∙ ap (number_in bytes) e in rw e'
+module _ (bytes : List ℕ) {v : ℕ} {left : List ℕ} (e : number_of 4 bytes ≡ Some (record { value = v; rest = left })) where
+  found : argument_number bytes ≡ cond (eqb (length left) 0) (Some v) None
+  unfolding argument_number alone
+  found = rw e refl
 
-    -- one with bytes behind it
-    pub argument_more : (i ≡ length bytes → ⊥) → argument_number bytes ≡ none
-    unfolding number_end
-    argument_more h =
-        found ∙ rw (ne_eqb (length (drop i bytes)) 0 (λ z. h (omega (arith, z, length-drop i bytes, f.within, ap number_end e))))
+  -- one with bytes behind it
+  pub argument_more : (length left ≡ 0 → ⊥) → module_due (argument_number bytes) ≡ refused 110
+  unfolding module_due
+  argument_more h = rw (found, ne_eqb (length left) 0 h) refl
 
-    -- one alone
-    pub argument_alone : i ≡ length bytes → argument_number bytes ≡ some v
-    argument_alone h = found ∙ rw (eq-eqb (length (drop i bytes)) 0 (omega (arith, length-drop i bytes)))
+  -- one alone
+  pub argument_alone : length left ≡ 0 → module_due (argument_number bytes) ≡ taken v
+  unfolding module_due
+  argument_alone h = rw (found, eq-eqb (length left) 0 h) refl
 
 -- ---- the records next to a place
 
-pub entry_some : {A : Type 0} (xs : List A) (i : ℕ) (d : A) → i < length xs → get_elem? xs i ≡ some (get_or xs i d)
+pub entry_some : {A : Type 0} (xs : List A) (i : ℕ) (d : A) → i < length xs → slice_get xs i ≡ Some (get_or xs i d)
 entry_some [] i d h = absurd (omega arith)
 entry_some (x ∷ xs) zero d h = refl
 entry_some (x ∷ xs) (suc i) d h = entry_some xs i d (omega arith)
 
-pub entry_none : {A : Type 0} (xs : List A) (i : ℕ) → length xs ≤ i → get_elem? xs i ≡ none
+pub entry_none : {A : Type 0} (xs : List A) (i : ℕ) → length xs ≤ i → slice_get xs i ≡ None
 entry_none [] i h = refl
 entry_none (x ∷ xs) zero h = absurd (omega arith)
 entry_none (x ∷ xs) (suc i) h = entry_none xs i (omega arith)
 
-module _ (form : List ℕ) (m : ℕ) (words : List ℕ) where
-  -- there is no record before the first
-  pub none_first : (k : ℕ) → k ≡ 0 → record_line form (record_before k (laid_pairs m words)) ≡ []
-  unfolding record_line record_before
-  none_first k e = rw e
+module _ (form : List ℕ) (m : ℕ) (es ws : List ℕ) where
+  abbrev pairs : List Pair
+  pairs = pairs_in m es ws
 
-  -- nor one past the last
-  pub none_past : (k : ℕ) → m < k → record_line form (record_before k (laid_pairs m words)) ≡ []
+  -- there is no record before the first, nor one past the last
+  pub none_there : (k : ℕ) → (1 ≤ k → k ≤ m → ⊥) → record_line form (record_before k pairs) ≡ []
   unfolding record_line record_before
-  none_past zero h = absurd (omega arith)
-  none_past (suc j) h = rw (entry_none (laid_pairs m words) j (omega (arith, length_laid m words)))
+  none_there zero h = refl
+  none_there (suc j) h = rw (entry_none pairs j (omega (arith, length_pairs_in m es ws, h))) refl
 
   -- elsewhere the words have it
-  pub line_there : (k : ℕ) → (k ≡ 0 → ⊥) → k ≤ m →
-      record_line form (record_before k (laid_pairs m words)) ≡ filled form (get_or words (2 * (k - 1)) 0 ∷ get_or words (2 * (k - 1) + 1) 0 ∷ [])
-  unfolding record_line record_before
-  line_there zero n h = absurd (n refl)
-  line_there (suc j) n h =
+  pub line_there : (k : ℕ) → 1 ≤ k → k ≤ m →
+      record_line form (record_before k pairs) ≡ filled form (get_or es (2 * (k - 1)) 0 ∷ get_or es (2 * (k - 1) + 1) 0 ∷ [])
+  unfolding record_line record_before word_pair
+  line_there zero l h = absurd (omega arith)
+  line_there (suc j) l h =
       let e : suc j - 1 ≡ j = omega arith in
-      rw (entry_some (laid_pairs m words) j (pair 0 0) (omega (arith, length_laid m words)), laid_at m words j (pair 0 0) (omega arith), e)
+      rw (entry_some pairs j (pair 0 0) (omega (arith, length_pairs_in m es ws)), pairs_in_at m es ws j (pair 0 0) (omega arith), e) refl
 
 -- the record after a pair, counted from 1
 pub successor_next : (l : Place) (ps : List Pair) → record_before (l.at + mark l.held + 1) ps ≡ successor l ps
 unfolding successor record_before
 successor_next l ps = rw (add-one (l.at + mark l.held))
 
--- what lookup answers is a place among the m records, or behind them
-pub found_within : (m : ℕ) (p : Pair) (words : List ℕ) {l : Place} → l ≡ located p (laid_pairs m words) → l.at ≤ m
+-- what lookup answers is a place among the records, or behind them
+pub found_within : (p : Pair) (ps : List Pair) {l : Place} → l ≡ located p ps → l.at ≤ length ps
 unfolding located
-found_within m p words e = omega (arith, ap (λ (l : Place). l.at) e, place_within m p words)
+found_within p ps e = omega (arith, ap (λ (l : Place). l.at) e, place_le p ps)
+
+-- as lookup answers it of two modules, the smaller first
+pub found_there : (a b : ℕ) (ps : List Pair) {c d : ℕ} {l : Place} → c ≡ min a b → d ≡ max a b → l ≡ located (pair c d) ps →
+    l ≡ located (smaller_first_pair a b) ps
+unfolding smaller_first_pair
+found_there a b ps ec ed e = e ∙ rw (ec, ed) refl
 
 -- ---- what is left to write
 
--- x is 1 or 0, whether the pair is held
-module _ (l : Place) (ps : List Pair) (out : List ℕ) (h : length (place_text l ps) ≤ length out) {x : ℕ} (e : x ≡ mark l.held) where
+-- x is 1 or 0, whether the pair is held, and i its place
+module _ (l : Place) (ps : List Pair) (x i : ℕ) where
+  abbrev head_lines : List ℕ
+  head_lines = filled place_form (x ∷ i ∷ [])
+
   abbrev before_line : List ℕ
-  before_line = record_line before_form (record_before l.at ps)
+  before_line = record_line before_form (record_before i ps)
 
   abbrev after_line : List ℕ
-  after_line = record_line after_form (record_before (l.at + x + 1) ps)
+  after_line = record_line after_form (record_before (i + x + 1) ps)
 
-  all_left : Left (place_text l ps) out 0 (filled place_form (x ∷ l.at ∷ []) ++ (before_line ++ after_line)) out 0
+  text_parts : (x ≡ mark l.held) × (i ≡ l.at) → place_text l ps ≡ head_lines ++ (before_line ++ after_line)
   unfolding place_text predecessor
-  all_left = rw (e, successor_next l ps) (left_start (place_text l ps) out 0 (omega arith))
+  text_parts e = rw (e.0, e.1, successor_next l ps) refl
 
-  -- the first lines have room
-  pub head_room : 0 + length (filled place_form (x ∷ l.at ∷ [])) ≤ length out
-  head_room = left_front all_left (filled place_form (x ∷ l.at ∷ [])) _ refl
+  module _ (e : (x ≡ mark l.held) × (i ≡ l.at)) {w : Writer} (all : Left (place_text l ps) w (place_text l ps) w) where
+    -- the first lines have room
+    pub head_room : HasRoom head_lines w
+    head_room = left_front all _ _ (text_parts e)
 
-  module _ {out₁ : List ℕ} {i : ℕ} (p : Puts (filled place_form (x ∷ l.at ∷ [])) out 0 out₁ i) where
-    records_left : Left (place_text l ps) out 0 (before_line ++ after_line) out₁ i
-    records_left = left_step all_left (filled place_form (x ∷ l.at ∷ [])) _ refl p
+    module _ {w' : Writer} (p : Writes head_lines w w') where
+      before_left : Left (place_text l ps) w (before_line ++ after_line) w'
+      before_left = left_step all _ _ (text_parts e) p
 
-    -- behind them the line of the record before the pair
-    pub before_room : i + length before_line ≤ length out₁
-    before_room = left_front records_left before_line _ refl
+      -- behind them the line of the record before the pair
+      pub before_room : HasRoom before_line w'
+      before_room = left_front before_left _ _ refl
 
-    -- and then that of the record after it
-    pub after_left : {out₂ : List ℕ} {j : ℕ} → Puts before_line out₁ i out₂ j → Left (place_text l ps) out 0 after_line out₂ j
-    after_left q = left_step records_left before_line _ refl q
+      -- and then that of the record after it
+      pub after_left : {w'' : Writer} → Writes before_line w' w'' → Left (place_text l ps) w after_line w''
+      after_left q = left_step before_left before_line _ refl q
 
 -- ---- how long the texts are
 
@@ -206,12 +216,6 @@ module _ (g : Pairs) (a b : ℕ) where
   unfolding pair_placed printed ◌>>◌
   pair_shown e = rw (judge_passed (pair_causes 0 g.n a b) e)
 
-  -- as lookup answers it
-  pub pair_found : {c d : ℕ} {l : Place} → c ≡ min a b → d ≡ max a b → l ≡ located (pair c d) g.pairs →
-      refusal (pair_causes 0 g.n a b) ≡ 0 → place_text l g.pairs ≡ printed (pair_placed g a b)
-  unfolding smaller_first_pair
-  pair_found ec ed el e = rw (el, ec, ed) (sym (pair_shown e))
-
   pub pair_length : is_list g ≡ true → length (printed (pair_placed g a b)) ≤ 64
   unfolding located
   pair_length e =
@@ -226,27 +230,74 @@ module _ (g : Pairs) (a b : ℕ) where
 
 module _ (first second : List ℕ) (g : Pairs) where
   -- 110
-  pub first_none : argument_number first ≡ none → list_printed first second g ≡ refusal_text 110
+  pub first_none : argument_number first ≡ None → list_printed first second g ≡ refusal_text 110
   unfolding list_printed arguments_placed module_due ◌>>=◌ printed
-  first_none e = rw e
+  first_none e = rw e refl
 
-  module _ {a : ℕ} (e : argument_number first ≡ some a) where
-    pub second_none : argument_number second ≡ none → list_printed first second g ≡ refusal_text 110
+  module _ {a : ℕ} (e : argument_number first ≡ Some a) where
+    pub second_none : argument_number second ≡ None → list_printed first second g ≡ refusal_text 110
     unfolding list_printed arguments_placed module_due ◌>>=◌ printed
-    second_none d = rw (e, d)
+    second_none d = rw (e, d) refl
 
     -- both are numbers
-    pub both_named : {b : ℕ} → argument_number second ≡ some b → list_printed first second g ≡ printed (pair_placed g a b)
+    pub both_named : {b : ℕ} → argument_number second ≡ Some b → list_printed first second g ≡ printed (pair_placed g a b)
     unfolding list_printed arguments_placed module_due ◌>>=◌
-    both_named d = rw (e, d)
+    both_named d = rw (e, d) refl
 
-  pub list_length : is_list g ≡ true → length (list_printed first second g) ≤ 64
+  list_length : is_list g ≡ true → length (list_printed first second g) ≤ 64
   list_length list = go (argument_number first) refl (argument_number second) refl
     where
       go : (o : Option ℕ) → argument_number first ≡ o → (u : Option ℕ) → argument_number second ≡ u → length (list_printed first second g) ≤ 64
-      go none e u d = rw (first_none e) (omega (arith, refusal_length 110))
-      go (some a) e none d = rw (second_none e d) (omega (arith, refusal_length 110))
-      go (some a) e (some b) d = rw (both_named e d) (pair_length g a b list)
+      go None e u d = rw (first_none e) (omega (arith, refusal_length 110))
+      go (Some a) e None d = rw (second_none e d) (omega (arith, refusal_length 110))
+      go (Some a) e (Some b) d = rw (both_named e d) (pair_length g a b list)
+
+-- ---- the text of a file and two arguments, by what is read
+
+module _ (file first second : List ℕ) where
+  -- a refused file
+  pub file_refused : {k : ℕ} → read_file 4096 file ≡ refused k → file_placed file first second ≡ refused k
+  unfolding file_placed ◌>>=◌
+  file_refused e = rw e refl
+
+  module _ {g : Pairs} (e : read_file 4096 file ≡ taken g) where
+    -- a refused argument
+    pub first_refused : {k : ℕ} → module_due (argument_number first) ≡ refused k → file_placed file first second ≡ refused k
+    unfolding file_placed arguments_placed ◌>>=◌
+    first_refused f = rw (e, f) refl
+
+    module _ {a : ℕ} (f : module_due (argument_number first) ≡ taken a) where
+      pub second_refused : {k : ℕ} → module_due (argument_number second) ≡ refused k → file_placed file first second ≡ refused k
+      unfolding file_placed arguments_placed ◌>>=◌
+      second_refused s = rw (e, f, s) refl
+
+      -- two modules
+      module _ {b : ℕ} (s : module_due (argument_number second) ≡ taken b) where
+        placed : file_placed file first second ≡ pair_placed g a b
+        unfolding file_placed arguments_placed ◌>>=◌
+        placed = rw (e, f, s) refl
+
+        -- refused by 5 or 4
+        pub modules_refused : (r : Refusal) → refusal_number r ≡ refusal (pair_causes 0 g.n a b) → file_placed file first second ≡ refused (refusal_number r)
+        unfolding pair_placed ◌>>◌
+        modules_refused r h = placed ∙ rw (judged_by r (pair_causes 0 g.n a b) h) refl
+
+        -- their pair's place
+        pub modules_placed : {l : Place} → refusal (pair_causes 0 g.n a b) ≡ 0 → l ≡ located (smaller_first_pair a b) g.pairs →
+            file_placed file first second ≡ taken (place_text l g.pairs)
+        unfolding pair_placed ◌>>◌
+        modules_placed h is = placed ∙ rw (judge_passed (pair_causes 0 g.n a b) h, is) refl
+
+-- ---- in a buffer
+
+module _ {due : Outcome (List ℕ)} {out : List ℕ} where
+  pub refused_written : {r : Refusal} → due ≡ refused (refusal_number r) → TextWritten due out out (Err r)
+  unfolding outcome_of
+  refused_written e = record { text = []; found = e; puts = tt; kept = refl }
+
+  pub text_written : {text out' : List ℕ} {k : ℕ} → due ≡ taken text → Puts text out 0 out' k → TextWritten due out out' (Ok k)
+  unfolding outcome_of
+  text_written {text} e p = record { text = text; found = e; puts = p; kept = tt }
 
 -- ---- the file that was read
 
@@ -259,7 +310,28 @@ neighbours_as file first second = go (read_file 4096 file)
     go (refused k) = refl
     go (taken g) = refl
 
-pub neighbours_read : {buffer : List ℕ} {n : ℕ} {first second text : List ℕ} → 65536 ≤ length buffer →
-    text ≡ converted (list_printed first second) (read_file 4096 (take n buffer)) → NeighboursRead buffer n first second text
-neighbours_read {first = first} {second = second} room is =
-    record { due = λ file e. is ∙ ap (converted (list_printed first second)) (read_as room e) ∙ sym (neighbours_as file first second) }
+-- 64 bytes hold it
+pub neighbours_length : (file first second : List ℕ) → length (neighbours_printed file first second) ≤ 64
+unfolding converted
+neighbours_length file first second = rw (neighbours_as file first second) (go (read_file 4096 file) refl)
+  where
+    go : (o : Outcome Pairs) → read_file 4096 file ≡ o → length (converted (list_printed first second) o) ≤ 64
+    go (refused k) e = omega (arith, refusal_length k)
+    go (taken g) e = list_length first second g (accepted 4096 file g e).list
+
+module _ (bytes first second : List ℕ) where
+  pub neighbours_read : {text : List ℕ} → text ≡ neighbours_printed bytes first second → NeighboursRead bytes first second text
+  neighbours_read is = record {
+    due = λ file e.
+        is ∙ neighbours_as bytes first second ∙ ap (converted (list_printed first second)) (read_as e) ∙ sym (neighbours_as file first second);
+  }
+
+  -- the status line
+  pub refusal_shown : {k : ℕ} → file_placed bytes first second ≡ refused k → refusal_text k ≡ neighbours_printed bytes first second
+  unfolding neighbours_printed printed
+  refusal_shown e = rw e refl
+
+  -- the text of a place
+  pub text_shown : {text : List ℕ} → file_placed bytes first second ≡ taken text → text ≡ neighbours_printed bytes first second
+  unfolding neighbours_printed printed
+  text_shown e = rw e refl

@@ -38,12 +38,12 @@ unfoldable pub to_dimacs_printed : (file : List ℕ) → List ℕ
 to_dimacs_printed file = converted dimacs_of (read_file 4096 file)
 
 -- WHATEVER FILE WAS READ, the text of `from_dimacs` is that of the whole file,
-pub record FromDimacsRead (buffer : List ℕ) (n : ℕ) (text : List ℕ) : Type 0 where
-  pub due : (file : List ℕ) → ReadOf buffer n file → text ≡ from_dimacs_printed file
+pub record FromDimacsRead (bytes text : List ℕ) : Type 0 where
+  pub due : (file : List ℕ) → ReadOf 1048577 bytes file → text ≡ from_dimacs_printed file
 
 -- and so is the text of `to_dimacs`
-pub record ToDimacsRead (buffer : List ℕ) (n : ℕ) (text : List ℕ) : Type 0 where
-  pub due : (file : List ℕ) → ReadOf buffer n file → text ≡ to_dimacs_printed file
+pub record ToDimacsRead (bytes text : List ℕ) : Type 0 where
+  pub due : (file : List ℕ) → ReadOf 65536 bytes file → text ≡ to_dimacs_printed file
 
 -- WHAT `from_dimacs` PRINTS OF AN ACCEPTED FILE, the reader of pair files reads as the same list; each pair has the count 1
 unfoldable pub FromDimacsSame : Type 0

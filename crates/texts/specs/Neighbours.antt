@@ -9,22 +9,22 @@
 --   stands_after, Nearest, Shown                the records nearest to a pair, and a text that shows them and the pair's place
 --   NeighboursNearest, NeighboursRound        the text shows the nearest records; the modules may be named in either order
 --   NeighboursPlaced                           number, held and place are what the call place answers
---   module_in                                   what argument_number answers
+--   TextWritten                                 a text in a buffer, or a refusal
 -- proofs/Nearest.antt has a theorem for each promise, of the same name in small letters. Assumes nothing: these are definitions.
-use Rattle.std.specs.Prelude.{◌≡◌, Bool, true, false, ◌&&◌, cond, List, [], ◌∷◌, ◌++◌, ℕ, zero, suc, ◌+◌, ◌≤◌, ◌<◌, eqb, length, get_or}
-use Rattle.std.proofs.Math.Option.{Option, none, some}
-use Rattle.std.proofs.Math.ListN.{get_elem?}
+use Rattle.std.specs.Prelude.{◌≡◌, Bool, true, false, ◌&&◌, cond, List, [], ◌∷◌, ◌++◌, ℕ, zero, suc, ◌+◌, ◌≤◌, ◌<◌, eqb, length, get_or, Option, Some, None, Result, IfOk, OnErr}
+use Rattle.std.specs.List.{slice_get}
 use Rattle.theory.specs.Basics.{mark}
 use Rattle.theory.specs.Lists.{Pair, Pairs, stands_before}
 use Rattle.theory.specs.Refusals.{refusal}
+use Rattle.refusals.specs.declared.Refusal.{Refusal}
 use Rattle.pairs.specs.Held.{is_held, smaller_first_pair}
 use Rattle.pairs.specs.Causes.{pair_causes}
-use Rattle.pairs.specs.Located.{located}
-use Rattle.pairs.specs.declared.Place.{Place}
+use Rattle.pairs.specs.Located.{Place, located}
 use Rattle.lines.specs.Text.{text}
 use Rattle.lines.specs.Numbers.{Number, number_of}
 use Rattle.lines.specs.Lines.{filled}
-use Rattle.lines.specs.Outcomes.{Outcome, refused, taken, ◌>>=◌, ◌>>◌, judge}
+use Rattle.lines.specs.Outcomes.{Outcome, refused, taken, ◌>>=◌, ◌>>◌, judge, outcome_of}
+use Rattle.lines.specs.Putting.{Puts}
 use Rattle.pairfile.specs.File.{read_file}
 use Rattle.records.specs.declared.Pair.{Pair as Record}
 use Rattle.records.specs.declared.Head.{Head}
@@ -33,15 +33,13 @@ use Rattle.kandurzo.specs.Placing.{PlaceSays}
 use Rattle.kandurzo.specs.Promise.{Lent}
 use Rattle.texts.specs.Texts.{refusal_text}
 use Rattle.texts.specs.Printed.{ReadOf}
-use Rattle.texts.specs.declared.neighbours.Argument.{Argument}
-use Rattle.texts.specs.declared.neighbours.Argument.TheVariants.{Module, Malformed}
 
 -- ---- the arguments
 
 -- a number with nothing behind it
 unfoldable pub alone : Option Number → Option ℕ
-alone none = none
-alone (some x) = cond (eqb (length x.rest) 0) (some x.value) none
+alone None = None
+alone (Some x) = cond (eqb (length x.rest) 0) (Some x.value) None
 
 -- the number that an argument spells, as a pair file spells it: 1 to 4 digits, no leading zero unless it is 0, nothing before or behind it
 unfoldable pub argument_number : (argument : List ℕ) → Option ℕ
@@ -49,15 +47,15 @@ argument_number bytes = alone (number_of 4 bytes)
 
 -- 110: an argument spells no number. One that is missing is empty, and an empty one spells none
 unfoldable pub module_due : Option ℕ → Outcome ℕ
-module_due none = refused 110
-module_due (some a) = taken a
+module_due None = refused 110
+module_due (Some a) = taken a
 
 -- ---- a pair's place, and the records next to it
 
 -- the record at the place before i, and none before the first
 unfoldable pub record_before : (i : ℕ) → List Pair → Option Pair
-record_before zero ps = none
-record_before (suc i) ps = get_elem? ps i
+record_before zero ps = None
+record_before (suc i) ps = slice_get ps i
 
 -- the record before a pair: at the place before the pair's, if there is one
 unfoldable pub predecessor : Place → List Pair → Option Pair
@@ -65,7 +63,7 @@ predecessor l ps = record_before l.at ps
 
 -- the record after it: at the pair's own place where the pair is not held, and at the next where it is, if there is one
 unfoldable pub successor : Place → List Pair → Option Pair
-successor l ps = get_elem? ps (l.at + mark l.held)
+successor l ps = slice_get ps (l.at + mark l.held)
 
 -- ---- the text
 
@@ -83,8 +81,8 @@ after_form = text "after=A,B\n"
 
 -- a record's line, if there is a record
 unfoldable pub record_line : (form : List ℕ) → Option Pair → List ℕ
-record_line form none = []
-record_line form (some r) = filled form (r.a ∷ r.b ∷ [])
+record_line form None = []
+record_line form (Some r) = filled form (r.a ∷ r.b ∷ [])
 
 -- THE TEXT OF A PLACE: status 0; held or not, 1 or 0; the place, counted from 0; the records next to it
 unfoldable pub place_text : Place → List Pair → List ℕ
@@ -124,8 +122,8 @@ unfoldable pub neighbours_printed : (file first second : List ℕ) → List ℕ
 neighbours_printed file first second = printed (file_placed file first second)
 
 -- WHATEVER PAIR FILE WAS READ, the text of `neighbours` is that of the whole file
-pub record NeighboursRead (buffer : List ℕ) (n : ℕ) (first second text : List ℕ) : Type 0 where
-  pub due : (file : List ℕ) → ReadOf buffer n file → text ≡ neighbours_printed file first second
+pub record NeighboursRead (bytes first second text : List ℕ) : Type 0 where
+  pub due : (file : List ℕ) → ReadOf 65536 bytes file → text ≡ neighbours_printed file first second
 
 -- ---- the promises
 
@@ -136,8 +134,8 @@ stands_after p r = stands_before r p
 -- the held record nearest to p on one side (by stands_before the predecessor, by stands_after the successor): it is held and stands on that side, and no
 -- held record stands between it and p; none where no held record stands on that side
 unfoldable pub Nearest : (side : Pair → Pair → Bool) → Pair → List Pair → Option Pair → Type 0
-Nearest side p ps none = (r : Pair) → is_held r ps ≡ true → side r p ≡ false
-Nearest side p ps (some q) = (is_held q ps ≡ true) × (side q p ≡ true) × ((r : Pair) → is_held r ps ≡ true → (side q r && side r p) ≡ false)
+Nearest side p ps None = (r : Pair) → is_held r ps ≡ true → side r p ≡ false
+Nearest side p ps (Some q) = (is_held q ps ≡ true) × (side q p ≡ true) × ((r : Pair) → is_held r ps ≡ true → (side q r && side r p) ≡ false)
 
 -- a text shows p among the records ps: whether it is held, its place, and the records nearest to it
 pub record Shown (p : Pair) (ps : List Pair) (text : List ℕ) : Type 0 where
@@ -158,14 +156,14 @@ pub record Shown (p : Pair) (ps : List Pair) (text : List ℕ) : Type 0 where
 unfoldable pub NeighboursNearest : Type 0
 NeighboursNearest =
     (file first second : List ℕ) (g : Pairs) (a b : ℕ) → read_file 4096 file ≡ taken g →
-    argument_number first ≡ some a → argument_number second ≡ some b → refusal (pair_causes 0 g.n a b) ≡ 0 →
+    argument_number first ≡ Some a → argument_number second ≡ Some b → refusal (pair_causes 0 g.n a b) ≡ 0 →
     Shown (smaller_first_pair a b) g.pairs (neighbours_printed file first second)
 
 -- WHAT `neighbours` PRINTS IS WHAT PLACE ANSWERS of that list where it is lent: the number alone, or else held and the place
 unfoldable pub NeighboursPlaced : Type 0
 NeighboursPlaced =
     (file first second : List ℕ) (g : Pairs) (a b : ℕ) (h : Head) (ps : List Record) (r : Placed) → read_file 4096 file ≡ taken g →
-    argument_number first ≡ some a → argument_number second ≡ some b → Lent g h ps → PlaceSays h ps a b r →
+    argument_number first ≡ Some a → argument_number second ≡ Some b → Lent g h ps → PlaceSays h ps a b r →
     ((r.number ≡ 0 → ⊥) → neighbours_printed file first second ≡ refusal_text r.number)
     × (r.number ≡ 0 → (rest : List ℕ) × (neighbours_printed file first second ≡ filled place_form (r.held ∷ r.at ∷ []) ++ rest))
 
@@ -175,7 +173,9 @@ NeighboursRound = (file first second : List ℕ) → neighbours_printed file fir
 
 -- ---- the functions
 
--- ARGUMENT_NUMBER: the number of a module, or none
-unfoldable pub module_in : Argument → Option ℕ
-module_in Malformed = none
-module_in (Module a) = some a
+-- a text written into the front of a buffer, or a refusal, which leaves the buffer
+pub record TextWritten (due : Outcome (List ℕ)) (out out' : List ℕ) (r : Result ℕ Refusal) : Type 0 where
+  pub text : List ℕ
+  pub found : due ≡ outcome_of (λ k. text) r
+  pub puts : IfOk r (λ k. Puts text out 0 out' k)
+  pub kept : OnErr r (out' ≡ out)

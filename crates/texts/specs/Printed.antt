@@ -1,18 +1,16 @@
 -- What the functions promise that write the programs' texts into a lent buffer.
 --   Prints                     a right text stands in front of the buffer, and the rest is as it was
 --   SheetDue, SheetPrinted   a sheet of a list that is right, and that `audit` accepts it; what `sheet` prints of a file
---   Input                      a buffer with room for every byte that decides, and how many bytes were read into it
---   ReadOf                    these bytes are a file's, to its end or the buffer's
+--   ReadOf                    these bytes are a file's, to its end or as many as decide
 --   GroupRead, SheetRead, AuditRead    what is right of whatever files were read
 --   SheetAnswered             what `audit` prints of it; the theorem is `sheet_answered`
---   answer_lines, sheet_lines  the lines by the answer to a pair file and the buffers beside it
+--   answer_lines, sheet_lines  the lines by the answer to a pair file and what stands beside it
 -- Assumes nothing: these are definitions.
 use Rattle.std.specs.Prelude.{◌≡◌, true, List, [], ◌∷◌, ◌++◌, ℕ, ◌≤◌, length, take}
-use Rattle.theory.specs.Lists.{Pairs}
+use Rattle.theory.specs.Lists.{Pair, Pairs}
 use Rattle.theory.specs.Groups.{inside, size, found_of}
 use Rattle.theory.specs.Splits.{core_order, outside_good}
 use Rattle.theory.specs.Promise.{Optimal}
-use Rattle.theory.specs.Words.{laid_pairs}
 use Rattle.lines.specs.Outcomes.{refused, taken}
 use Rattle.pairfile.specs.File.{read_file}
 use Rattle.lines.specs.Putting.{Puts}
@@ -49,38 +47,35 @@ pub record SheetPrinted (file text : List ℕ) : Type 0 where
   pub taken : (g : Pairs) → read_file 4096 file ≡ taken g → SheetDue file g (found_of g) text
   pub refused : (k : ℕ) → read_file 4096 file ≡ refused k → text ≡ refusal_text k
 
--- n bytes were read into a buffer that has room for the first `decide` bytes of a file
-abbrev pub Input : (decide : ℕ) (buffer : List ℕ) (n : ℕ) → Type 0
-Input decide buffer n = (decide ≤ length buffer) × (n ≤ length buffer)
-
--- the n bytes in front are the file's, to its end or as many as the buffer holds: so a file is read. These n bytes are such a file themselves, and the only
--- one where n is below the buffer's length
-pub record ReadOf (buffer : List ℕ) (n : ℕ) (file : List ℕ) : Type 0 where
-  pub front : take n buffer ≡ take (length buffer) file
+-- these bytes are a file's: all of it, or as many in front as a buffer holds that has room for the first `decide`: so a file is read
+pub record ReadOf (decide : ℕ) (bytes file : List ℕ) : Type 0 where
+  pub room : ℕ
+  pub enough : decide ≤ room
+  pub front : bytes ≡ take room file
 
 -- WHATEVER PAIR FILE WAS READ, the text of `group` is that of the whole file,
-pub record GroupRead (buffer : List ℕ) (n : ℕ) (text : List ℕ) : Type 0 where
-  pub due : (file : List ℕ) → ReadOf buffer n file → text ≡ group_printed (read_file 4096 file)
+pub record GroupRead (bytes text : List ℕ) : Type 0 where
+  pub due : (file : List ℕ) → ReadOf 65536 bytes file → text ≡ group_printed (read_file 4096 file)
 
 -- the text of `sheet` is one that is due of it,
-pub record SheetRead (buffer : List ℕ) (n : ℕ) (text : List ℕ) : Type 0 where
-  pub due : (file : List ℕ) → ReadOf buffer n file → SheetPrinted file text
+pub record SheetRead (bytes text : List ℕ) : Type 0 where
+  pub due : (file : List ℕ) → ReadOf 65536 bytes file → SheetPrinted file text
 
 -- and the text of `audit` is that of both files
-pub record AuditRead (buffer : List ℕ) (n : ℕ) (buffer' : List ℕ) (k : ℕ) (text : List ℕ) : Type 0 where
-  pub due : (file sheet : List ℕ) → ReadOf buffer n file → ReadOf buffer' k sheet → text ≡ audit_text (audit file sheet)
+pub record AuditRead (bytes bytes' text : List ℕ) : Type 0 where
+  pub due : (file sheet : List ℕ) → ReadOf 65536 bytes file → ReadOf 140000 bytes' sheet → text ≡ audit_text (audit file sheet)
 
 -- WHAT `sheet` PRINTS, `audit` ANSWERS by 0 and the found group's ratio
 unfoldable pub SheetAnswered : Type 0
 SheetAnswered =
-    (buffer : List ℕ) (n : ℕ) (out out' : List ℕ) (r : ℕ) → Prints (SheetRead buffer n) out out' r →
-    (file : List ℕ) → ReadOf buffer n file → (g : Pairs) → read_file 4096 file ≡ taken g →
+    (bytes out out' : List ℕ) (r : ℕ) → Prints (SheetRead bytes) out out' r →
+    (file : List ℕ) → ReadOf 65536 bytes file → (g : Pairs) → read_file 4096 file ≡ taken g →
     audit_text (audit file (take r out')) ≡ filled accepted_form (inside g (found_of g) ∷ size (found_of g) ∷ [])
 
 -- the lines of an answer and of member bytes
 unfoldable pub answer_lines : Answer → (members : List ℕ) → List ℕ
-answer_lines r s = filled head_form (r.p ∷ r.q ∷ r.k ∷ r.coresize ∷ []) ++ member_lines 0 s
+answer_lines a s = filled head_form (a.ratio.p ∷ a.ratio.q ∷ a.k ∷ a.coresize ∷ []) ++ member_lines 0 s
 
--- and of the buffers beside it: the core numbers, the pairs in words, the shares
-unfoldable pub sheet_lines : Answer → (members cores words shares : List ℕ) → List ℕ
-sheet_lines r s cs ws xs = answer_lines r s ++ (number_lines cs ++ share_lines (laid_pairs (length xs) ws) xs)
+-- and of what stands beside it: the core numbers, the pairs, the shares
+unfoldable pub sheet_lines : Answer → (members cores : List ℕ) → List Pair → (shares : List ℕ) → List ℕ
+sheet_lines a s cs ps xs = answer_lines a s ++ (number_lines cs ++ share_lines ps xs)

@@ -1,14 +1,22 @@
-// How the programs read: into a lent buffer, to the input's end or the buffer's.
-ghost use Rattle.std.specs.Prelude.{◌≤◌, IfOk, IfSome, length};
+// How the programs read: into a lent buffer, to the input's end or the buffer's; a file that an argument names, or nothing where it cannot be read.
+ghost use Rattle.std.specs.Prelude.{◌≡◌, ◌≤◌, IfOk, IfSome, length, take};
 ghost use Rattle.texts.specs.Printed.{ReadOf};
 
-use std::io;
+use std::env::Env;
+use std::fs::File;
 use std::io::Read;
+use std::{io, str};
 
-// Reads until the buffer is full or the input ends; answers how many bytes were read.
-pub fn read_full<R: Read>(input: &mut R, buffer: &mut [u8]) -> io::Result<usize>
+// Reads until the buffer, which has room for the first DECIDE bytes, is full or the input ends; answers how many bytes were read. (Each read says
+// by how many `done` grows: it is no index that is counted.)
+pub fn read_full<const DECIDE: usize, R: Read>(
+    input: &mut R,
+    buffer: &mut [u8],
+) -> io::Result<usize>
+    requires decides { DECIDE ≤ length buffer.old }
     ensures within { IfOk result (λ n. n ≤ length buffer.new) }
-    ensures read { IfOk result (λ n. IfSome (R.remaining input.old) (λ file. ReadOf buffer.new n file)) }
+    ensures front { IfOk result (λ n. IfSome (R.remaining input.old) (λ file. take n buffer.new ≡ take (length buffer.new) file)) }
+    ensures read { IfOk result (λ n. IfSome (R.remaining input.old) (λ file. ReadOf DECIDE (take n buffer.new) file)) }
 {
     let mut done = 0;
     while done < buffer.len() {
@@ -19,4 +27,52 @@ pub fn read_full<R: Read>(input: &mut R, buffer: &mut [u8]) -> io::Result<usize>
         done += n;
     }
     Ok(done)
+}
+
+// Reads the file of a path.
+fn read_path<const DECIDE: usize>(
+    rt: &HostRuntime,
+    path: &[u8],
+    buffer: &mut [u8],
+) -> io::Result<usize>
+    requires decides { DECIDE ≤ length buffer.old }
+    ensures within { IfOk result (λ n. n ≤ length buffer.new) }
+{
+    match str::from_utf8(path) {
+        Ok(name) => read_full::<DECIDE, _>(&mut File::open(rt, name)?, buffer),
+        Err(_) => Err(io::Error::from(io::ErrorKind::InvalidFilename)),
+    }
+}
+
+// What is said of an error of the system, without its number.
+fn cause(said: &str) -> &str {
+    match said.rsplit_once(" (os error ") {
+        Some((text, _)) => text,
+        None => said,
+    }
+}
+
+// A line on standard error: the path, a colon, and why its file cannot be opened or read.
+fn fail(rt: &HostRuntime, path: &[u8], error: io::Error) -> io::Result<()> {
+    let said = format!(in rt.alloc(); "{error}")?;
+    let text = cause(said.as_str());
+    rt.stderr().write_all(path)?;
+    eprintln!(rt; ": {text}")
+}
+
+// Reads the file that argument i names, or says why it cannot; answers how many bytes were read.
+pub fn read_argument<const DECIDE: usize>(rt: &HostRuntime, i: usize, buffer: &mut [u8]) -> usize
+    requires decides { DECIDE ≤ length buffer.old }
+    ensures within { result ≤ length buffer.new }
+    ensures front { result ≡ length (take result buffer.new) }
+{
+    let mut path = [0; 4096];
+    let length = rt.arg(i, &mut path).unwrap_or(0);
+    match read_path::<DECIDE>(rt, &path[..length], buffer) {
+        Ok(n) => n,
+        Err(error) => {
+            let _ = fail(rt, &path[..length], error);
+            0
+        }
+    }
 }

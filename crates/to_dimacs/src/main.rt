@@ -9,7 +9,7 @@ use std::io;
 fn main(rt: HostRuntime) -> io::Result<()> {
     let mut file = [0u8; 65536];
     let mut out = [0u8; 65536];
-    let n = texts::read_full(&mut rt.stdin(), &mut file)?;
-    let r = texts::to_dimacs_text(&file, n, &mut out);
+    let n = texts::read_full::<65536, _>(&mut rt.stdin(), &mut file)?;
+    let r = texts::to_dimacs_text(&file[..n], &mut out);
     rt.write_all(&out[..r])
 }

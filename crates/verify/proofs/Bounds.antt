@@ -1,74 +1,90 @@
--- How large the sums over a held list can be: at most 512 modules and 4,096 pairs, each of weight 1 to 1,000.
---   load_le                        no load is above 1,000 times the share size for each pair
---   lent_light                     no weight is above 1,000
---   counted_small, inside_small, units_small, load_small    so every sum fits 32 bits
+-- How large the numbers of a held list can be: at most 512 modules and 4,096 pairs, each of weight 1 to 1,000.
+--   product_small            a size times an inside count
+--   few                      its modules
+--   ends_rise, units_small   a pair's ends, and its units
+--   share_within             a share that is good is at most those
+--   load_next, loads_few     the loads of the first pairs
 -- Assumes nothing.
-use mathlib.Core.Path.{◌≡◌, refl}
+use mathlib.Core.Path.{◌≡◌}
 use mathlib.Core.Bool.{Bool, true, false, cond}
 use mathlib.Core.List.{List, [], ◌∷◌}
-use Prim.Native.Nat.{ℕ, ◌*◌, ◌-◌, ◌≤◌}
+use Prim.Native.Nat.{ℕ, zero, suc, ◌+◌, ◌*◌, ◌-◌, ◌≤◌, ◌<◌}
 use native.Mathlib.Nat.{mul-le-mul_right}
 use native.Mathlib.Omega.{arith}
 use lib.Dec.{eqb}
-use lib.ListN.{length, take, length-take}
-use Rattle.theory.specs.Basics.{all}
-use Rattle.theory.specs.Lists.{Pair, weight_in_range}
-use Rattle.theory.specs.Groups.{size, bytes_good, inside}
+use lib.ListN.{length, get_or, take}
+use Rattle.theory.specs.Basics.{table}
+use Rattle.theory.specs.Lists.{Pair}
 use Rattle.theory.specs.Splits.{units, received, shares_good, load_of}
-use Rattle.theory.specs.Words.{pairs_in, list_in, HeldWords, Light}
+use Rattle.theory.specs.Words.{word_pair, pairs_in, list_in, HeldWords}
 use Rattle.theory.proofs.Tests.{tests, no}
-use Rattle.theory.proofs.Lists.{listed}
-use Rattle.theory.proofs.Bounds.{inside_bound, size_le_length}
-use Rattle.slots.proofs.Words.{few_modules, good_pair}
-use Rattle.verify.specs.Counts.{counted}
+use Rattle.slots.specs.Rows.{first_end, second_end}
+use Rattle.slots.proofs.Words.{few_modules, few_pairs, good_pair}
 
--- nobody receives more of a pair than its units
-received_le : (q v : ℕ) (p : Pair) (x : ℕ) → x ≤ units q p → received q v p x ≤ units q p
-unfolding received
-received_le q v p x h = go (eqb p.a v) (eqb p.b v)
-  where
-    go : (a b : Bool) → cond a x (cond b (units q p - x) 0) ≤ units q p
-    go true b = omega arith
-    go false true = omega arith
-    go false false = omega arith
+-- each good share of a table of pairs is at most the pair's units
+within_units : (q m : ℕ) (f : ℕ → Pair) (xs : List ℕ) (j : ℕ) → shares_good q (table m f) xs ≡ true → j < m → get_or xs j 0 ≤ units q (f j)
+unfolding shares_good table
+within_units q zero f xs j e h = absurd (omega arith)
+within_units q (suc m) f [] j e h = no e
+within_units q (suc m) f (x ∷ xs) zero e h = (simp tests at e).0
+within_units q (suc m) f (x ∷ xs) (suc j) e h = within_units q m (λ i. f (suc i)) xs j (simp tests at e).1 (omega arith)
 
--- no load is above 1,000 times the share size for each pair
-pub load_le : (q v : ℕ) (ps : List Pair) (xs : List ℕ) → all weight_in_range ps ≡ true → shares_good q ps xs ≡ true →
-    load_of q v ps xs ≤ length ps * (1000 * q)
-unfolding all weight_in_range shares_good load_of units
-load_le q v [] xs e g = omega arith
-load_le q v (p ∷ ps) [] e g = no g
-load_le q v (p ∷ ps) (x ∷ xs) e g =
-    let e' = simp tests at e in
-    let g' = simp tests at g in
-    omega (arith, received_le q v p x g'.0, mul-le-mul_right q e'.0.1, load_le q v ps xs e'.1 g'.1)
+-- one pair more adds what the module receives of it
+pub load_next : (q v j : ℕ) (f : ℕ → Pair) (xs : List ℕ) → j < length xs →
+    load_of q v (table (suc j) f) (take (suc j) xs) ≡ load_of q v (table j f) (take j xs) + received q v (f j) (get_or xs j 0)
+unfolding load_of table
+load_next q v j f [] h = absurd (omega arith)
+load_next q v zero f (x ∷ xs) h = omega arith
+load_next q v (suc j) f (x ∷ xs) h = omega (arith, load_next q v j (λ i. f (suc i)) xs (omega arith))
 
--- the units of a pair fit
-pub units_small : (w q : ℕ) → w ≤ 1000 → q ≤ 512 → w * q ≤ 512000
-units_small w q h k = omega (arith, mul-le-mul_right q h)
+-- a size times an inside count
+pub product_small : (q p : ℕ) → q ≤ 512 → p ≤ 4096000 → q * p ≤ 2097152000
+product_small q p h k = omega (arith, mul-le-mul_right p h)
 
--- ---- of a lent list
+module _ (n m : ℕ) (es ws : List ℕ) (held : HeldWords n m es ws) where
+  -- its modules
+  pub few : n ≤ 512
+  few = few_modules n m es ws held.listed
 
-module _ (n m : ℕ) (es ws : List ℕ) (lent : HeldWords n m es ws) where
-  pub lent_light : Light m ws
-  unfolding Light
-  lent_light j l = (good_pair n m es ws lent.listed j l).light
+  -- the ends of a pair
+  pub ends_rise : (j : ℕ) → j < m → first_end es j < second_end es j
+  unfolding first_end second_end
+  ends_rise j h = (good_pair n m es ws held.listed j h).first
 
-  -- a count of members is at most n
-  pub counted_small : (s : List ℕ) → counted (take n s) ≤ 512
-  unfolding counted
-  counted_small s = go (bytes_good (take n s)) refl
-    where
-      go : (b : Bool) → bytes_good (take n s) ≡ b → cond b (size (take n s)) 0 ≤ 512
-      go true e = omega (arith, size_le_length (take n s) e, length-take n s, few_modules n m es ws lent.listed)
-      go false e = omega arith
+  -- a pair's units are at most 1,000 times 512
+  pub units_small : (q j : ℕ) → q ≤ 512 → j < m → get_or ws j 0 * q ≤ 512000
+  units_small q j small h = omega (arith, mul-le-mul_right q (good_pair n m es ws held.listed j h).light)
 
-  pub inside_small : (s : List ℕ) → inside (list_in n m es ws) s ≤ 4096000
-  inside_small s = inside_bound (list_in n m es ws) s lent.listed
+  module _ (q : ℕ) (xs : List ℕ) (good : shares_good q (list_in n m es ws).pairs xs ≡ true) where
+    -- a good share is at most its pair's units
+    pub share_within : (j : ℕ) → j < m → get_or xs j 0 ≤ get_or ws j 0 * q
+    unfolding list_in pairs_in units word_pair
+    share_within j h = within_units q m (word_pair es ws) xs j good h
 
-  -- no load is above 4,096 times 1,000 times 512
-  pub load_small : (q v : ℕ) (xs : List ℕ) → q ≤ 512 → shares_good q (pairs_in m es ws) xs ≡ true → load_of q v (pairs_in m es ws) xs ≤ 2097152000
-  unfolding list_in
-  load_small q v xs h good =
-      let g = listed (list_in n m es ws) lent.listed in
-      omega (arith, load_le q v (pairs_in m es ws) xs g.weights good, mul-le-mul_right (1000 * q) g.short)
+    -- pair j gives a module at most its units
+    adds_few : (j v : ℕ) → q ≤ 512 → j < m → received q v (word_pair es ws j) (get_or xs j 0) ≤ 512000
+    unfolding received units word_pair
+    adds_few j v small h =
+        go (eqb (get_or es (2 * j) 0) v) (eqb (get_or es (2 * j + 1) 0) v) (share_within j h) (units_small q j small h)
+      where
+        go : (a b : Bool) → get_or xs j 0 ≤ get_or ws j 0 * q → get_or ws j 0 * q ≤ 512000 →
+            cond a (get_or xs j 0) (cond b (get_or ws j 0 * q - get_or xs j 0) 0) ≤ 512000
+        go true b s u = omega arith
+        go false true s u = omega arith
+        go false false s u = omega arith
+
+    -- and so all of the first j pairs give it at most j times as many
+    loads_upto : (j v : ℕ) → q ≤ 512 → length xs ≡ m → j ≤ m → load_of q v (pairs_in j es ws) (take j xs) ≤ 512000 * j
+    unfolding load_of pairs_in table
+    loads_upto zero v small all h = omega arith
+    loads_upto (suc j) v small all h =
+        omega (
+          arith,
+          load_next q v j (word_pair es ws) xs (omega arith),
+          adds_few j v small (omega arith),
+          loads_upto j v small all (omega arith),
+        )
+
+    -- no load is above 4,096 times 1,000 times 512
+    pub loads_few : (j v : ℕ) → q ≤ 512 → length xs ≡ m → j ≤ m → load_of q v (pairs_in j es ws) (take j xs) ≤ 2097152000
+    loads_few j v small all h = omega (arith, loads_upto j v small all h, few_pairs n m es ws held.listed)

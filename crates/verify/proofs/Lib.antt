@@ -1,7 +1,6 @@
 -- The theorems; each file opens with what it gives.
-pub mod Words
 pub mod Bounds
-pub mod Members
+pub mod Chains
 pub mod Loading
-pub mod Products
+pub mod Groups
 pub mod Answers

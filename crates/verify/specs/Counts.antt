@@ -1,9 +1,19 @@
--- What the contract of the count of members cites.
---   counted    the size of a group, and 0 where the bytes make none
--- Assumes nothing: this is a definition.
-use Rattle.std.specs.Prelude.{cond, List, ℕ}
-use Rattle.theory.specs.Groups.{size, bytes_good}
+-- What the contracts of the count of a group cite.
+--   ratio_of    a group's inside count and size, or the refusal of what is no group
+--   IsSmall     the bounds of both
+-- Assumes nothing: these are definitions.
+use Rattle.std.specs.Prelude.{◌≤◌, cond, List, ℕ, Result, Ok, Err}
+use Rattle.theory.specs.Lists.{Pairs}
+use Rattle.theory.specs.Groups.{is_group, inside, size}
+use Rattle.refusals.specs.declared.Refusal.{Refusal}
+use Rattle.refusals.specs.declared.Refusal.TheVariants.{NoGroup}
+use Rattle.numbers.specs.declared.Ratio.{Ratio}
 
--- the number of members, and 0 where a byte is above 1: so it is 0 exactly where the bytes make no group
-unfoldable pub counted : (members : List ℕ) → ℕ
-counted s = cond (bytes_good s) (size s) 0
+-- the ratio of a group (its density), and refusal 7 where the bytes make none
+unfoldable pub ratio_of : Pairs → (members : List ℕ) → Result Ratio Refusal
+ratio_of g s = cond (is_group g s) (Ok (record { p = inside g s; q = size s })) (Err NoGroup)
+
+-- no larger than an inside count over a size can be: up to 4,096 pairs, each up to 1,000 times, and up to 512 modules
+pub record IsSmall (r : Ratio) : Type 0 where
+  pub inside : r.p ≤ 4096000
+  pub modules : r.q ≤ 512

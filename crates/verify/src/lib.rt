@@ -2,193 +2,128 @@
 // Check counts P and Q of the group itself (crate `groups`), tests each share against its pair's units at share size Q, adds up the load of each
 // module, and accepts where no load is above P: then group and split are both best (demand 3, `Optimal`). Surplus is the
 // difference of two products, as i64. Both cost a few passes over modules and pairs, and write nothing.
-// Pair j has its ends at slots 2j and 2j + 1 of `ends`, its weight at place j of `weights`, and its smaller end's units at place j of `shares`. The
-// list has been found good and every buffer long enough (13 and 12 are the caller's); the refusals here are 7, 8 and 9, in document 01's order.
+// A share is the units of its pair's smaller end. The list has been found good and every buffer long enough (13 and 12 are the caller's); the refusals here
+// are 7, 8 and 9, in document 01's order.
 #![tactic(auto)]
 
-ghost use Rattle.std.specs.Prelude.{◌≡◌, true, List, ℕ, ◌*◌, ◌≤◌, length, get_or, take, pos, ◌-ℤ◌};
-ghost use Rattle.theory.specs.Basics.{greatest};
-ghost use Rattle.theory.specs.Groups.{bytes_good};
-ghost use Rattle.theory.specs.Splits.{shares_good, load};
-ghost use Rattle.theory.specs.Words.{list_in, pairs_in, HeldWords, Light};
-ghost use Rattle.verify.specs.Counts.{counted};
-ghost use Rattle.verify.specs.Answers.{refused_by, CheckSays, SurplusSays};
+mod split;
 
-// Check's answer: 0 and the group's inside count p and size q, or a refusal number and zeros.
+ghost use Rattle.std.specs.Prelude.{◌≡◌, ◌*◌, ◌≤◌, length, take, pos, ◌-ℤ◌};
+ghost use Rattle.theory.specs.Groups.{bytes_good};
+ghost use Rattle.lists.specs.Listed.{listed};
+ghost use Rattle.verify.specs.Counts.{ratio_of, IsSmall};
+ghost use Rattle.verify.specs.Answers.{verdict_of, difference_of, CheckSays, SurplusSays};
+
+use lists::List;
+use numbers::Ratio;
+use refusals::Refusal;
+use split::Split;
+
+// Check's answer as C has it: 0 and the group's inside count p and size q, or a refusal number and zeros.
 #[repr(C)]
-#[derive(Clone, Copy)]
+#[derive(Clone, Copy, Debug, PartialEq, Eq)]
 pub struct Verdict {
     pub number: u32,
     pub p: u32,
     pub q: u32,
 }
 
-// Surplus's answer: 0 and the value, or a refusal number and zero.
+// Surplus's answer as C has it: 0 and the value, or a refusal number and zero.
 #[repr(C)]
-#[derive(Clone, Copy)]
+#[derive(Clone, Copy, Debug, PartialEq, Eq)]
 pub struct Difference {
     pub number: u32,
     pub value: i64,
 }
 
-// Whether the first n bytes are member bytes, 0 or 1.
-fn bytes_good(n: usize, members: &[u8]) -> bool
-    requires { n ≤ length members.now }
-    ensures { result ≡ bytes_good (take n members.now) }
-{
-    let mut i: usize = 0;
-    while i < n {
-        if 1 < members[i] {
-            return false;
+impl From<Result<Ratio, Refusal>> for Verdict {
+    ghost from_gives = { λ answer verdict. verdict ≡ verdict_of answer };
+
+    fn from(answer: Result<Ratio, Refusal>) -> Verdict {
+        match answer {
+            Ok(Ratio { p, q }) => Verdict { number: 0, p, q },
+            Err(refusal) => Verdict {
+                number: u32::from(refusal),
+                p: 0,
+                q: 0,
+            },
         }
-        i += 1;
     }
-    true
 }
 
-// The size of a group, or 0 where the first n bytes make none.
-fn counted(n: usize, members: &[u8]) -> u32
-    requires n_bound { n ≤ 512 }
-    requires n_in_bounds { n ≤ length members.now }
-    ensures { result ≡ counted (take n members.now) }
-{
-    if bytes_good(n, members) {
-        return groups::group_size(n, &members[..n]);
-    }
-    0
-}
+impl From<Result<i64, Refusal>> for Difference {
+    ghost from_gives = { λ answer difference. difference ≡ difference_of answer };
 
-// Whether no share is above its pair's units at share size q. The ends do not matter.
-fn shares_fit(m: usize, weights: &[u32], shares: &[u32], q: u32) -> bool
-    requires m_in_bounds { (m ≤ length weights.now) × (m ≤ length shares.now) }
-    requires light { Light m weights.now }
-    requires q_bound { q ≤ 512 }
-    ensures { (ends : List ℕ) → result ≡ shares_good q (pairs_in m ends weights.now) (take m shares.now) }
-{
-    let mut j: usize = 0;
-    while j < m {
-        if weights[j] * q < shares[j] {
-            return false;
+    fn from(answer: Result<i64, Refusal>) -> Difference {
+        match answer {
+            Ok(value) => Difference { number: 0, value },
+            Err(refusal) => Difference {
+                number: u32::from(refusal),
+                value: 0,
+            },
         }
-        j += 1;
     }
-    true
 }
 
-// The load of every module, the smaller end's share of each pair and the rest for the other end.
-fn loads_of(n: usize, m: usize, ends: &[u32], weights: &[u32], shares: &[u32], q: u32) -> [u32; 512]
-    requires held_words { HeldWords n m ends.now weights.now }
-    requires m_in_bounds { m ≤ length shares.now }
-    requires q_bound { q ≤ 512 }
-    requires shares_value { shares_good q (pairs_in m ends.now weights.now) (take m shares.now) ≡ true }
-    ensures { (v : ℕ) → get_or result v 0 ≡ load (list_in n m ends.now weights.now) q (take m shares.now) v }
+// Whether the bytes are member bytes, 0 or 1.
+fn bytes_good(members: &[u8]) -> bool
+    ensures { result ≡ bytes_good members.now }
 {
-    let mut loads = [0u32; 512];
-    let mut j: usize = 0;
-    while j < m {
-        let pair = groups::two_ends(n, m, j, ends);
-        let a = pair.a;
-        let b = pair.b;
-        let x = shares[j];
-        let rest = weights[j] * q - x;
-        loads[a] += x;
-        loads[b] += rest;
-        j += 1;
+    members.iter().all(|&byte| byte <= 1)
+}
+
+// The inside count and size of a group: refuses by 7 where the bytes make none.
+#[tactic(auto, using(crate::proofs::Groups::counts, crate::proofs::Bounds::few))]
+fn ratio_of(list: List, members: &[u8]) -> Result<Ratio, Refusal>
+    requires { length members.now ≡ list.n }
+    ensures { result ≡ ratio_of (listed list.entry) members.now }
+{
+    if !bytes_good(members) {
+        return Err(Refusal::NoGroup);
     }
-    loads
-}
-
-// The greatest of the first n loads.
-fn greatest_of(n: usize, loads: &[u32]) -> u32
-    requires { n ≤ length loads.now }
-    ensures { result ≡ greatest n (λ (v : ℕ). get_or loads.now v 0) }
-{
-    let mut top: u32 = 0;
-    let mut v: usize = 0;
-    while v < n {
-        top = numbers::greater(top, loads[v]);
-        v += 1;
+    let q = groups::group_size(members);
+    if q == 0 {
+        return Err(Refusal::NoGroup);
     }
-    top
+    let p = groups::inside_count(list, members);
+    Ok(Ratio { p, q })
 }
 
-// The difference of two products, each of a size and an inside count: exact, since no step leaves 64 bits.
-fn cross_difference(a: u32, b: u32, c: u32, d: u32) -> i64
-    requires a_bound { (a ≤ 512) × (b ≤ 4096000) }
-    requires c_bound { (c ≤ 4096000) × (d ≤ 512) }
-    ensures { result ≡ pos (a * b) -ℤ pos (c * d) }
+// The difference of the cross products of two ratios: exact, since no product leaves 32 bits.
+#[tactic(auto, using(crate::proofs::Bounds::product_small))]
+fn cross_difference(first: Ratio, second: Ratio) -> i64
+    requires first_small { IsSmall first }
+    requires second_small { IsSmall second }
+    ensures { result ≡ pos (second.q * first.p) -ℤ pos (second.p * first.q) }
 {
-    (a as i64) * (b as i64) - (c as i64) * (d as i64)
-}
-
-// A refusal yields its number and no other value.
-fn refused(number: u32) -> Verdict
-    ensures { result ≡ refused_by number }
-{
-    Verdict { number, p: 0, q: 0 }
+    i64::from(second.q * first.p) - i64::from(second.p * first.q)
 }
 
 // Check: refuses by 7, 8, 9. All shares are looked at before any load.
-pub fn check_words(
-    n: usize,
-    m: usize,
-    ends: &[u32],
-    weights: &[u32],
-    members: &[u8],
-    shares: &[u32],
-) -> Verdict
-    requires held_words { HeldWords n m ends.now weights.now }
-    requires n_in_bounds { n ≤ length members.now }
-    requires m_in_bounds { m ≤ length shares.now }
-    ensures { CheckSays (list_in n m ends.now weights.now) (take n members.now) (take m shares.now) result }
+#[tactic(auto, using(crate::proofs::Answers::check_refuses))]
+pub fn check_words(list: List, members: &[u8], shares: &[u32]) -> Result<Ratio, Refusal>
+    requires members_len { list.n ≤ length members.now }
+    requires shares_len { list.m ≤ length shares.now }
+    ensures { CheckSays (listed list.entry)
+        (take list.entry.n members.now) (take list.entry.m shares.now) (verdict_of result) }
 {
-    let q = counted(n, members);
-    if q == 0 {
-        return refused(7);
+    let ratio = ratio_of(list, &members[..list.n])?;
+    let split = Split::of(list, &shares[..list.m], ratio.q)?;
+    if ratio.p < split.greatest_load() {
+        return Err(Refusal::LoadTooLarge);
     }
-    if !shares_fit(m, weights, shares, q) {
-        return refused(8);
-    }
-    let p = groups::inside_count(n, m, ends, weights, &members[..n]);
-    let loads = loads_of(n, m, ends, weights, shares, q);
-    if p < greatest_of(n, &loads) {
-        return refused(9);
-    }
-    Verdict { number: 0, p, q }
+    Ok(ratio)
 }
 
 // Surplus of the first group against the second: refuses by 7.
-pub fn surplus_words(
-    n: usize,
-    m: usize,
-    ends: &[u32],
-    weights: &[u32],
-    first: &[u8],
-    second: &[u8],
-) -> Difference
-    requires held_words { HeldWords n m ends.now weights.now }
-    requires n_in_bounds { n ≤ length first.now }
-    requires n_in_bounds_2 { n ≤ length second.now }
-    ensures { SurplusSays (list_in n m ends.now weights.now) (take n first.now) (take n second.now) result }
+#[tactic(auto, using(crate::proofs::Answers::surplus_refuses))]
+pub fn surplus_words(list: List, first: &[u8], second: &[u8]) -> Result<i64, Refusal>
+    requires first_len { list.n ≤ length first.now }
+    requires second_len { list.n ≤ length second.now }
+    ensures { SurplusSays (listed list.entry)
+        (take list.entry.n first.now) (take list.entry.n second.now) (difference_of result) }
 {
-    let first_size = counted(n, first);
-    let second_size = counted(n, second);
-    if first_size == 0 {
-        return Difference {
-            number: 7,
-            value: 0,
-        };
-    }
-    if second_size == 0 {
-        return Difference {
-            number: 7,
-            value: 0,
-        };
-    }
-    let first_inside = groups::inside_count(n, m, ends, weights, &first[..n]);
-    let second_inside = groups::inside_count(n, m, ends, weights, &second[..n]);
-    Difference {
-        number: 0,
-        value: cross_difference(second_size, first_inside, second_inside, first_size),
-    }
+    let first_ratio = ratio_of(list, &first[..list.n])?;
+    let second_ratio = ratio_of(list, &second[..list.n])?;
+    Ok(cross_difference(first_ratio, second_ratio))
 }

@@ -1,100 +1,65 @@
 -- `densest::solve_in` meets its contract. Assumes nothing.
-use Rattle.std.proofs.Common.{refl, ◌∙◌, arith}
-use borrow.Author.Rules.{part_to_end}
-use Rattle.theory.specs.Words.{list_in, laid_pairs, laid_list, counts_of}
-use Rattle.theory.proofs.Words.{holds_held}
-use Rattle.slots.proofs.Words.{few_modules, few_pairs}
-use Rattle.densest.proofs.Solving.{
-  peeled_cored,
-  peeled_candidate,
-  peeled_by_place,
-  peelable_zeros,
-  room_zeros,
-  gathering_bounded,
-  gathering_unpacks,
-  solution_written,
-}
+use Rattle.std.proofs.Common.{length, refl, sym, ◌∙◌, arith, length-take-le}
+use Rattle.theory.specs.Words.{list_in, laid_pairs, laid_list}
+use Rattle.theory.proofs.Words.{holds_few}
+use Rattle.densest.proofs.Gathering.{gathered_few}
+use Rattle.densest.proofs.InnerSearch.{gathering_found}
+use Rattle.densest.proofs.Solving.{peeled_cored, peeled_candidate, peeled_by_place, peelable_zeros, room_zeros, gathering_candidate, gathering_unpacks, solution_written}
 use Rattle.densest.proofs.solve_in.Goals as goal
 
-pub peel-start-requires-clause-held_words : goal.peel-start-requires-clause-held_words
-unfolding counts_of
-peel-start-requires-clause-held_words c =
-    rw (part_to_end c.args.words.now 8192) (holds_held c.args.n c.args.m c.args.words.now c.requires.holds_list)
+pub peel-requires : goal.peel-requires
+peel-requires c = peelable_zeros c.in_words-all.result c.args.cores.now (omega arith)
 
-pub peel-start-requires-clause-peelable : goal.peel-start-requires-clause-peelable
-peel-start-requires-clause-peelable c =
-    peelable_zeros _ _ _ _ _ (holds_held c.args.n c.args.m c.args.words.now c.requires.holds_list) c.requires.members_len.1
+pub gather_core-list-requires-clause-at_hand : goal.gather_core-list-requires-clause-at_hand
+gather_core-list-requires-clause-at_hand c =
+    peeled_candidate c.requires.holds_list.listed (rw c.in_words-all.ensures.value at c.peel.ensures)
 
-pub find_in_core-best-requires-clause-searchable : goal.find_in_core-best-requires-clause-searchable
-unfolding counts_of list_in
-find_in_core-best-requires-clause-searchable c =
-    let a = c.args in
-    let h = holds_held a.n a.m a.words.now c.requires.holds_list in
-    let ps = rw (part_to_end a.words.now 8192) at c.peel-start.ensures in
-    let short = few_pairs _ _ _ _ h.listed in
+pub gather_core-list-requires-clause-cored : goal.gather_core-list-requires-clause-cored
+unfolding laid_list
+gather_core-list-requires-clause-cored c = peeled_cored c.requires.holds_list.listed (rw c.in_words-all.ensures.value at c.peel.ensures)
+
+pub gather_core-list-requires-clause-kept_len : goal.gather_core-list-requires-clause-kept_len
+gather_core-list-requires-clause-kept_len c =
+    omega (arith, holds_few _ _ _ c.requires.holds_list.listed, length-take-le (length c.args.core.now) c.peel.new.cores (omega arith))
+
+pub find-found-requires : goal.find-found-requires
+find-found-requires c =
+    let g = c.gather_core-list.ensures in
+    let few = holds_few _ _ _ c.requires.holds_list.listed in
     record {
-      held = h;
-      at_hand = peeled_candidate (list_in a.n a.m a.words.now (counts_of a.words.now)) h.listed _ _ _ _ _ _ _ ps;
-      cored =
-          peeled_cored (list_in a.n a.m a.words.now (counts_of a.words.now)) h.listed _ _ _ _ _ _ _ ps
-          (omega (arith, c.peel-start.auto.cores, c.requires.members_len.1));
-      scope_long = c.requires.core_len.1;
-      group_long = c.requires.members_len.0;
-      room = room_zeros a.m 8192 (omega (arith, short));
+      scope_long = c.requires.scope_len ∙ sym g.modules;
+      group_long = c.requires.members_len ∙ sym g.modules;
+      room = room_zeros c.gather_core-list.result.m 8192 (omega (arith, few, gathered_few g.gathered.gathered));
     }
 
-pub find_in_core-best-requires-clause-leaving_room : goal.find_in_core-best-requires-clause-leaving_room
-find_in_core-best-requires-clause-leaving_room c =
-    let h = holds_held c.args.n c.args.m c.args.words.now c.requires.holds_list in
-    let few = few_modules _ _ _ _ h.listed in
-    record { order_long = omega (arith, few, c.peel-start.auto.order); place_long = omega (arith, few, c.peel-start.auto.place) }
-
 pub write_shares-requires-clause-q_bound : goal.write_shares-requires-clause-q_bound
+unfolding list_in
 write_shares-requires-clause-q_bound c =
-    (gathering_bounded _ _ _ _ (holds_held c.args.n c.args.m c.args.words.now c.requires.holds_list) _ _ _ _ _ _ _ c.find_in_core-best.ensures).small
-
-pub write_shares-requires-clause-core_len : goal.write_shares-requires-clause-core_len
-write_shares-requires-clause-core_len c =
-    let h = holds_held c.args.n c.args.m c.args.words.now c.requires.holds_list in
-    let few = few_modules _ _ _ _ h.listed in (
-      c.find_in_core-best.auto.core ∙ c.requires.core_len.0,
-      c.find_in_core-best.auto.scope ∙ c.requires.core_len.1,
-      omega (arith, few, c.peel-start.auto.place),
-    )
-
-pub write_shares-requires-clause-m_bound : goal.write_shares-requires-clause-m_bound
-write_shares-requires-clause-m_bound c =
-    let h = holds_held c.args.n c.args.m c.args.words.now c.requires.holds_list in
-    let short = few_pairs _ _ _ _ h.listed in
-    let k = c.find_in_core-best.auto in
-    (short, omega (arith, short, k.hold), omega (arith, k.shares, c.requires.members_len.2))
+    let g = c.gather_core-list.ensures in
+    let few = holds_few _ _ _ c.requires.holds_list.listed in
+    let f = gathering_candidate (gathering_found g.gathered (rw g.modules at c.find-found.ensures) g.packed) in
+    omega (arith, few, f.small)
 
 pub write_shares-requires-clause-unpacks : goal.write_shares-requires-clause-unpacks
 write_shares-requires-clause-unpacks c =
-    gathering_unpacks _ _ _ _ (holds_held c.args.n c.args.m c.args.words.now c.requires.holds_list) _ _ _ _ _ _ _ c.find_in_core-best.ensures
+    let g = c.gather_core-list.ensures in
+    rw (c.find-found.auto.scope, c.requires.scope_len, c.gather_core-list.auto.shares)
+    (gathering_unpacks (gathering_found g.gathered (rw g.modules at c.find-found.ensures) g.packed))
 
 pub rounded_up-requires : goal.rounded_up-requires
 rounded_up-requires c =
-    (gathering_bounded _ _ _ _ (holds_held c.args.n c.args.m c.args.words.now c.requires.holds_list) _ _ _ _ _ _ _ c.find_in_core-best.ensures).some
-
-pub group_size-requires : goal.group_size-requires
-group_size-requires c =
-    let h = holds_held c.args.n c.args.m c.args.words.now c.requires.holds_list in
-    (few_modules _ _ _ _ h.listed, c.find_in_core-best.auto.scope ∙ c.requires.core_len.1)
+    let g = c.gather_core-list.ensures in
+    (gathering_candidate (gathering_found g.gathered (rw g.modules at c.find-found.ensures) g.packed)).some
 
 pub returns-clause-cores_after : goal.returns-clause-cores_after
-unfolding counts_of list_in laid_list laid_pairs
-returns-clause-cores_after c = (rw (part_to_end c.args.words.now 8192) at c.peel-start.ensures).cores_are
+unfolding laid_list
+returns-clause-cores_after c = (rw c.in_words-all.ensures.value at c.peel.ensures).cores_are
 
 pub returns-clause-is_solution : goal.returns-clause-is_solution
-unfolding counts_of list_in laid_list laid_pairs
+unfolding laid_list laid_pairs list_in
 returns-clause-is_solution c =
-    let a = c.args in
-    let h = holds_held a.n a.m a.words.now c.requires.holds_list in
-    let ps = rw (part_to_end a.words.now 8192) at c.peel-start.ensures in
-    let f = c.find_in_core-best in
-    solution_written a.n a.m a.words.now (counts_of a.words.now) h _ _ _ _ _ _ _ f.ensures
-    c.peel-start.new.place c.write_shares.new.shares _
-    (peeled_by_place (list_in a.n a.m a.words.now (counts_of a.words.now)) h.listed _ _ _ _ _ _ _ ps)
-    (c.write_shares.auto.shares ∙ f.auto.shares ∙ c.requires.members_len.2)
-    c.write_shares.ensures refl refl c.rounded_up.ensures c.group_size.ensures
+    let g = c.gather_core-list.ensures in
+    solution_written (gathering_found g.gathered (rw g.modules at c.find-found.ensures) g.packed)
+    (peeled_by_place c.requires.holds_list.listed (rw c.in_words-all.ensures.value at c.peel.ensures))
+    (c.write_shares.auto.shares ∙ c.gather_core-list.auto.shares)
+    (rw c.gather_core-list.auto.shares at c.write_shares.ensures) refl refl c.rounded_up.ensures c.group_size.ensures

@@ -1,21 +1,31 @@
--- `dimacs::read_words` meets its contract: the outcomes of its lines, put together.
-use Rattle.std.proofs.Common.{[], refl}
-use Rattle.dimacs.proofs.Whole.{sizes_refused, sizes_end, sizes_le, edges_refused, edges_all}
+-- `dimacs::read_words` meets its contract: the `p` line, and the `e` lines.
+use Rattle.std.proofs.Common.{Ok, arith}
+use Rattle.lines.proofs.Found.{handed_on}
+use Rattle.pairfile.proofs.Readings.{reading_holds}
+use Rattle.dimacs.specs.Answers.{DimacsRead}
+use Rattle.dimacs.proofs.Readings.{dimacs_sound}
+use Rattle.dimacs.proofs.Whole.{sizes_refused, sizes_few, edges_refused, edges_all}
 use Rattle.dimacs.proofs.read_words.Goals as goal
+use Rattle.dimacs.proofs.read_words.Goals.{In_ok-read_edges}
 
-pub read_edges-number-requires-clause-at_in_bounds : goal.read_edges-number-requires-clause-at_in_bounds
-read_edges-number-requires-clause-at_in_bounds c = sizes_end _ _ [] c.skip_comments-at.ensures c.in-Sizes.ensures refl
+pub returns-in_err-head-clause-file : goal.returns-in_err-head-clause-file
+returns-in_err-head-clause-file c =
+    rw (handed_on c.from_residual.ensures.1) (sizes_refused _ _ _ _ c.skip_comments.ensures c.in_err-head.ensures)
 
-pub read_edges-number-requires-clause-m_bound : goal.read_edges-number-requires-clause-m_bound
-read_edges-number-requires-clause-m_bound c = sizes_le _ _ [] c.skip_comments-at.ensures c.in-Sizes.ensures refl
+pub read_edges-requires-clause-few : goal.read_edges-requires-clause-few
+read_edges-requires-clause-few c = sizes_few _ _ c.args.words.now _ c.skip_comments.ensures _ _ c.in_ok-head.ensures
 
-pub returns-then-number-ne0 : goal.returns-then-number-ne0
-returns-then-number-ne0 c =
-    edges_refused _ _ _ c.skip_comments-at.ensures c.in-Sizes.ensures refl _ _ c.read_edges-number.ensures c.if-number-ne0.true
+pub returns-in_err-read_edges-clause-file : goal.returns-in_err-read_edges-clause-file
+returns-in_err-read_edges-clause-file c =
+    rw (handed_on c.from_residual-in_err-read_edges.ensures.1)
+    (edges_refused _ _ _ _ c.skip_comments.ensures _ _ c.in_ok-head.ensures c.in_err-read_edges.ensures)
 
-pub returns-in-Refused : goal.returns-in-Refused
-returns-in-Refused c = sizes_refused _ _ _ c.skip_comments-at.ensures c.in-Refused.ensures refl
+-- the whole file
+whole : (c : In_ok-read_edges) → DimacsRead c.args.room c.args.bytes.now c.args.words.now c.read_edges.new.words (Ok c.in_ok-head.head)
+whole c = edges_all _ _ _ _ c.skip_comments.ensures _ _ c.in_ok-head.ensures c.in_ok-read_edges.ensures
 
-pub returns-else-number-ne0 : goal.returns-else-number-ne0
-returns-else-number-ne0 c =
-    edges_all _ _ _ c.skip_comments-at.ensures c.in-Sizes.ensures refl _ _ c.read_edges-number.ensures c.if-number-ne0.false
+pub returns-clause-file : goal.returns-clause-file
+returns-clause-file c = whole c
+
+pub returns-clause-held : goal.returns-clause-held
+returns-clause-held c = reading_holds (dimacs_sound c.args.room c.args.bytes.now) (whole c) (omega (arith, c.read_edges.auto.words))

@@ -1,15 +1,13 @@
 -- `dimacs::skip_comments` meets its contract, comment by comment.
 use Rattle.std.proofs.Common.{sym}
-use Rattle.dimacs.proofs.Scanning.{skipping_stop, skipping_open, skipping_step}
+use Rattle.dimacs.proofs.Scanning.{skipped_stop, skipped_open, skipped_more}
 use Rattle.dimacs.proofs.skip_comments.Goals as goal
 
-pub returns-then-end-eq0 : goal.returns-then-end-eq0
-returns-then-end-eq0 c =
-    skipping_open _ _ _ c.loop-end.invariant (sym c.loop-end-test.ensures) c.line_end-end.ensures c.if-end-eq0.true
+pub returns-in_default : goal.returns-in_default
+returns-in_default c = skipped_open _ _ c.loop-left.invariant c.in_default.ensures
 
-pub loop-end-preserved : goal.loop-end-preserved
-loop-end-preserved c =
-    skipping_step _ _ _ c.loop-end.invariant (sym c.loop-end-test.ensures) c.line_end-end.ensures c.if-end-eq0.false
+pub loop-left-preserved : goal.loop-left-preserved
+loop-left-preserved c = skipped_more _ _ c.loop-left.invariant (sym c.loop-left-test.ensures) _ c.in-Some.ensures
 
 pub returns : goal.returns
-returns c = skipping_stop _ _ _ c.loop-end.invariant (sym c.loop-end-test.ensures)
+returns c = skipped_stop _ _ c.loop-left.invariant (sym c.loop-left-test.ensures)

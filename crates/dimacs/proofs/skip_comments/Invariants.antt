@@ -1,10 +1,10 @@
--- The loop's invariant is `Skipping`: the lines before i are comments. The measure is what is left of the bytes.
-use Rattle.std.proofs.Common.{◌-◌, length}
-use Rattle.dimacs.proofs.Scanning.{Skipping}
+-- The same lines are left. The measure is what is left of the bytes.
+use Rattle.std.proofs.Common.{◌≡◌, length}
+use Rattle.dimacs.specs.Comments.{plain_lines}
 use Rattle.dimacs.proofs.skip_comments.Given as goal
 
-abbrev pub invariant-loop-end : goal.invariant-loop-end
-invariant-loop-end l = Skipping l.bytes l.at l.i
+abbrev pub invariant-loop-left : goal.invariant-loop-left
+invariant-loop-left l = plain_lines l.initial.reader.left.now ≡ plain_lines l.reader.left.now
 
-abbrev pub decreases-loop-end : goal.decreases-loop-end
-decreases-loop-end l = length l.bytes - l.i
+abbrev pub decreases-loop-left : goal.decreases-loop-left
+decreases-loop-left l = length l.reader.left.now

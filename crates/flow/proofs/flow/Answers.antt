@@ -1,14 +1,19 @@
 -- `flow::flow` meets its contract: whatever modules have of their own, units move within pairs only. Assumes nothing.
 use Rattle.slots.proofs.Moves.{kept_loads}
 use Rattle.flow.proofs.Cutting.{flowed_good, flowed_bad}
+use Rattle.flow.proofs.flow.Goals.{then-split, else-split}
 use Rattle.flow.proofs.flow.Goals as goal
 
-pub returns-then-split : goal.returns-then-split
-returns-then-split c = λ own l.
-    let e = c.settle-split.ensures in
-    flowed_good c.requires.ends e.kept (kept_loads e.kept l) c.mark.ensures c.if-split.true (e.good c.if-split.true) c.drain.ensures
-
-pub returns : goal.returns
-returns c = λ own l.
-    let e = c.settle-split.ensures in
-    flowed_bad c.requires.ends e.kept (kept_loads e.kept l) c.mark-2.ensures c.if-split.false (e.bad c.if-split.false)
+pub returns-clause-flowed : goal.returns-clause-flowed
+returns-clause-flowed c = λ own l.
+    let e = c.settle-split.ensures.settled in
+    let marked = rw c.requires.scope_len.1 at c.mark.ensures in
+    elim c.if-split.branch [
+      | then-split w ↦
+          let so = w.if-split.true in
+          flowed_good c.args.units.now.graph.pairs e.kept (kept_loads e.kept l) (rw w.rank-is at marked) so (e.good so)
+          (rw c.settle-split.ensures.same.graph at w.drain.ensures)
+      | else-split w ↦
+          let so = w.if-split.false in
+          flowed_bad c.args.units.now.graph.pairs e.kept (kept_loads e.kept l) (rw w.rank-is at marked) so (e.bad so)
+    ]

@@ -1,15 +1,7 @@
--- `groups::group_size` meets its contract: the bytes passed are added up. Assumes nothing.
-use native.Mathlib.Omega.{arith}
-use mathlib.Core.Path.{refl}
-use Rattle.theory.specs.Groups.{size}
-use Rattle.groups.proofs.Counts.{size_front}
+-- `groups::group_size` meets its contract: the sum of the bytes is the size. Assumes nothing.
+use Rattle.std.proofs.Common.{rules}
+use Rattle.groups.proofs.Counts.{sum_size}
 use Rattle.groups.proofs.group_size.Goals as goal
 
-pub loop-v-init : goal.loop-v-init
-unfolding size
-loop-v-init c = (omega arith, omega arith, refl)
-
-pub loop-v-preserved : goal.loop-v-preserved
-loop-v-preserved c =
-    let b = c.type_inv.group c.loop-v.v in
-    (omega arith, omega arith, omega (arith, size_front c.args.group.now c.loop-v.v (omega arith)))
+pub returns : goal.returns
+returns c = rw (← sum_size c.args.group.now) (search rules)

@@ -1,8 +1,5 @@
 -- What the loop of `groups::mark_at_least` keeps true.
-use mathlib.Core.Path.{◌≡◌}
-use Prim.Native.Nat.{ℕ, ◌<◌}
-use lib.Dec.{leb}
-use lib.ListN.{get_or}
+use Rattle.std.proofs.Common.{◌≡◌, ℕ, ◌<◌, leb, get_or}
 use Rattle.theory.specs.Basics.{mark}
 use Rattle.groups.proofs.mark_at_least.Given as goal
 

@@ -1,4 +1,4 @@
--- `peel::number` meets its contract. The loop's invariant: the first i are numbered, and top is the greatest degree so far. Assumes nothing.
+-- The first i are numbered, and top is the greatest degree so far.
 use mathlib.Core.Path.{◌≡◌}
 use Rattle.theory.specs.Basics.{greatest}
 use Rattle.slots.specs.Buffers.{entry}
@@ -6,4 +6,4 @@ use Rattle.peel.specs.Steps.{Numbered}
 use Rattle.peel.proofs.number.Given as goal
 
 abbrev pub invariant-loop-i : goal.invariant-loop-i
-invariant-loop-i l = Numbered l.i l.n l.order l.finals l.initial.cores l.initial.place l.cores l.place × (l.top ≡ greatest l.i (entry l.finals))
+invariant-loop-i l = Numbered l.i l.order l.finals l.initial.cores l.initial.place l.cores l.place × (l.top ≡ greatest l.i (entry l.finals))

@@ -1,30 +1,25 @@
--- `peel::turns` meets its contract. The loop's invariant: i modules have left. Assumes nothing.
+-- `peel::turns` meets its contract: i modules have left.
 use native.Mathlib.Omega.{arith}
-use Rattle.ranking.proofs.Order.{has_below}
-use Rattle.peel.proofs.Orders.{turns_start, turn_some, turn_lowerable, turn_next}
+use Rattle.slots.proofs.Words.{held_few}
+use Rattle.peel.proofs.Ranks.{ranked_some, ranked_below, ranked_lowerable}
+use Rattle.peel.proofs.Orders.{turn, turn_next}
 use Rattle.peel.proofs.turns.Goals as goal
 
-pub loop-i-init : goal.loop-i-init
-loop-i-init c = turns_start _ _ _ _ c.requires.ranking_of
-
-pub take-leaver-requires-clause-some_present : goal.take-leaver-requires-clause-some_present
-take-leaver-requires-clause-some_present c =
-    let a = c.args in
-    turn_some a.n a.m a.ends.now a.weights.now c.requires.held_words c.loop-i.i (omega arith) a.order.now a.finals.now
-    c.loop-i.work c.loop-i.order c.loop-i.finals c.loop-i.invariant
+pub take-leaver-requires : goal.take-leaver-requires
+take-leaver-requires c = ranked_some (turn c.loop-i.invariant (omega arith))
 
 pub overflow_cast-order : goal.overflow_cast-order
-overflow_cast-order c = omega (arith, has_below _ _ c.take-leaver.ensures.there)
+overflow_cast-order c =
+    let below = ranked_below (turn c.loop-i.invariant (omega arith)) c.take-leaver.ensures in
+    let few = held_few c.args.adjacency.list.held in
+    omega arith
 
-pub lower_neighbours-requires-clause-lowerable_by : goal.lower_neighbours-requires-clause-lowerable_by
-lower_neighbours-requires-clause-lowerable_by c =
-    let a = c.args in
-    turn_lowerable a.n a.m a.ends.now a.weights.now c.requires.held_words c.loop-i.i (omega arith) a.order.now a.finals.now
-    c.loop-i.work c.loop-i.order c.loop-i.finals c.loop-i.invariant _ _ c.take-leaver.ensures
+pub lower_neighbours-requires-clause-below : goal.lower_neighbours-requires-clause-below
+lower_neighbours-requires-clause-below c = ranked_below (turn c.loop-i.invariant (omega arith)) c.take-leaver.ensures
+
+pub lower_neighbours-requires-clause-lowerable : goal.lower_neighbours-requires-clause-lowerable
+lower_neighbours-requires-clause-lowerable c = ranked_lowerable (turn c.loop-i.invariant (omega arith)) c.take-leaver.ensures
 
 pub loop-i-preserved : goal.loop-i-preserved
 loop-i-preserved c =
-    let a = c.args in
-    turn_next a.n a.m a.ends.now a.weights.now c.requires.held_words c.loop-i.i (omega arith) a.order.now a.finals.now
-    c.loop-i.work c.loop-i.order c.loop-i.finals c.loop-i.invariant
-    _ _ c.take-leaver.ensures _ c.lower_neighbours.ensures c.requires.n_in_bounds c.requires.n_in_bounds_2
+    turn_next c.loop-i.invariant (omega arith) c.take-leaver.ensures c.lower_neighbours.ensures c.requires.order_long c.requires.finals_long

@@ -1,9 +1,6 @@
 -- The phases so far keep units within pairs.
-use Rattle.slots.specs.Slots.{Kept}
+use Rattle.slots.specs.Views.{UnitsKept}
 use Rattle.push.proofs.phases.Given as goal
 
-abbrev pub invariant-loop-left : goal.invariant-loop-left
-invariant-loop-left l = Kept l.n l.m l.ends l.initial.hold l.initial.load l.hold l.load
-
-abbrev pub decreases-loop-left : goal.decreases-loop-left
-decreases-loop-left l = l.left
+abbrev pub invariant-loop : goal.invariant-loop
+invariant-loop l = UnitsKept l.fn.units l.units

@@ -1,31 +1,15 @@
--- `records::agree` meets its contract: at i what was seen is the scan of the first i records. Assumes nothing.
-use mathlib.Core.Path.{◌≡◌, sym}
-use Prim.Native.Nat.{◌<◌}
-use native.Mathlib.Omega.{arith}
-use native.Mathlib.Numerals.{add-one}
-use lib.ListN.{length}
-use Rattle.records.specs.Scan.{begin_of, tested_of, scan}
-use Rattle.records.proofs.Scans.{scan_more, scan_agrees, tested_le}
+-- `records::agree` meets its contract: both tests are those of the list. Assumes nothing.
+use mathlib.Core.Path.{sym, ◌∙◌}
+use native.Mathlib.Nat.{sub-zero}
+use Rattle.records.proofs.Scans.{agrees_by}
 use Rattle.records.proofs.agree.Goals as goal
 
-pub loop-i-init : goal.loop-i-init
-unfolding scan
-loop-i-init c = (omega arith, c.begin-seen.ensures)
+pub returns-then-in_range : goal.returns-then-in_range
+returns-then-in_range c =
+    let lent = c.in-Some.ensures.lookup.0 in
+    rw (c.all_good.ensures, lent.2, sub-zero) (rw (sym c.in_range.ensures ∙ c.if-in_range.true) at (agrees_by c.args.head c.args.list.now lent.1))
 
-pub bounds-list-i : goal.bounds-list-i
-bounds-list-i c = omega (arith, rw c.begin-seen.ensures at c.tested-k.ensures, tested_le c.args.head c.args.list.now)
-
-pub loop-i-preserved : goal.loop-i-preserved
-loop-i-preserved c =
-    let h = c.args.head in
-    let ps = c.args.list.now in
-    let i = c.loop-i.i in
-    let l : i < length ps = omega (arith, rw c.begin-seen.ensures at c.tested-k.ensures, tested_le h ps) in
-    (omega arith, rw (c.step-seen.ensures, c.loop-i.invariant.1, add-one i) (sym (scan_more h.n (begin_of h (length ps)) ps i l)))
-
-pub returns : goal.returns
-returns c =
-    let h = c.args.head in
-    let ps = c.args.list.now in
-    let e : c.loop-i.i ≡ tested_of h (begin_of h (length ps)).ok = omega (arith, rw c.begin-seen.ensures at c.tested-k.ensures) in
-    rw (c.loop-i.invariant.1, e) (scan_agrees h ps)
+pub returns-else-in_range : goal.returns-else-in_range
+returns-else-in_range c =
+    let lent = c.in-Some.ensures.lookup.0 in
+    rw c.if-in_range.false (rw (sym c.in_range.ensures ∙ c.if-in_range.false) at (agrees_by c.args.head c.args.list.now lent.1))

@@ -1,11 +1,8 @@
--- What the loop of `records::copy_out` keeps true, and what falls in each turn.
+-- What the loop of `records::copy_out` keeps true.
 use mathlib.Core.Path.{◌≡◌}
-use Prim.Native.Nat.{◌-◌, ◌≤◌}
+use lib.ListN.{take}
 use Rattle.records.specs.Records.{copied_out}
 use Rattle.records.proofs.copy_out.Given as goal
 
 abbrev pub invariant-loop-i : goal.invariant-loop-i
-invariant-loop-i l = (l.i ≤ l.m) × (l.words ≡ copied_out l.list l.fn.words l.i)
-
-abbrev pub decreases-loop-i : goal.decreases-loop-i
-decreases-loop-i l = l.m - l.i
+invariant-loop-i l = l.words ≡ copied_out (take l.i l.records) l.fn.words

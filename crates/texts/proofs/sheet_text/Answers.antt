@@ -1,64 +1,77 @@
--- `sheet_text` meets its contract.
-use Prim.Native.Nat.{◌≤◌}
-use native.Mathlib.Omega.{arith}
-use lib.ListN.{length}
+-- `sheet_text` meets its contract: a file that is refused, and one that names a list.
+use Rattle.std.proofs.Common.{◌∙◌, ◌≤◌, length, sym, arith, rules}
 use lib.Seq.{length-take-le}
+use Rattle.refusals.specs.Numbers.{number_of}
+use Rattle.lines.proofs.Parts.{left_lent}
 use Rattle.texts.proofs.Lengths.{refusal_length}
-use Rattle.texts.proofs.Files.{prints, refusal_due, modules_few, pairs_few, lines_length, sheet_due}
+use Rattle.texts.proofs.Files.{
+  prints,
+  prints_lent,
+  refusal_due,
+  modules_few,
+  pairs_few,
+  shares_count,
+  list_held,
+  lines_length,
+  sheet_due,
+}
 use Rattle.texts.proofs.Whole.{sheet_read}
 use Rattle.texts.proofs.sheet_text.Goals as goal
+use Rattle.texts.proofs.sheet_text.Goals.{In-Ok}
 
-pub returns-then-found-ne0 : goal.returns-then-found-ne0
-returns-then-found-ne0 c =
-    prints (sheet_read c.requires.input.0 (refusal_due c.sheet_file-found.ensures.answers c.if-found-ne0.true))
-    c.write_refusal.ensures
-    (omega (arith, refusal_length c.sheet_file-found.result.number, c.requires.in_bounds))
+pub returns-in-Err : goal.returns-in-Err
+returns-in-Err c =
+    prints (sheet_read (refusal_due c.in-Err.ensures.answers)) c.write_refusal.ensures
+    (omega (arith, refusal_length (number_of c.in-Err.refusal), c.requires))
+
+-- how long shares and words are
+long : (c : In-Ok) → (4096 ≤ length c.sheet_file-answered.new.shares) × (12288 ≤ length c.sheet_file-answered.new.words)
+long c = (omega (arith, c.sheet_file-answered.auto.shares), omega (arith, c.sheet_file-answered.auto.words))
+
+-- N and M are within the buffers
+within : (c : In-Ok) → let r = c.in-Ok.found.head in let new = c.sheet_file-answered.new in
+    (r.n ≤ length new.members) × (r.n ≤ length new.cores) × (r.m ≤ length new.shares)
+within c =
+    let n = modules_few c.in-Ok.ensures.answers in
+    let m = pairs_few c.in-Ok.ensures (long c).0 (long c).1 in
+    (omega (arith, n, c.sheet_file-answered.auto.members), omega (arith, n, c.sheet_file-answered.auto.cores), omega (arith, m, (long c).0))
+
+pub in_words-list-requires : goal.in_words-list-requires
+in_words-list-requires c = let l = long (goal.at.in_words-list-requires c).In-Ok in list_held c.in-Ok.ensures l.0 l.1
 
 pub slice_bounds-members-end : goal.slice_bounds-members-end
-slice_bounds-members-end c =
-    omega (arith, modules_few c.sheet_file-found.ensures.answers c.if-found-ne0.false, c.sheet_file-found.auto.members)
+slice_bounds-members-end c = (within (goal.at.slice_bounds-members-end c).In-Ok).0
 
 pub slice_bounds-write_sheet-end : goal.slice_bounds-write_sheet-end
-slice_bounds-write_sheet-end c =
-    let within : c.sheet_file-found.result.n ≤ length c.sheet_file-found.new.members =
-    omega (arith, modules_few c.sheet_file-found.ensures.answers c.if-found-ne0.false, c.sheet_file-found.auto.members) in
-    omega (arith, length-take-le _ _ within)
+slice_bounds-write_sheet-end c = sym (length-take-le _ _ (within (goal.at.slice_bounds-write_sheet-end c).In-Ok).0)
 
 pub slice_bounds-cores-end : goal.slice_bounds-cores-end
-slice_bounds-cores-end c =
-    omega (arith, modules_few c.sheet_file-found.ensures.answers c.if-found-ne0.false, c.sheet_file-found.auto.cores)
+slice_bounds-cores-end c = (within (goal.at.slice_bounds-cores-end c).In-Ok).1
 
 pub slice_bounds-write_sheet-end-2 : goal.slice_bounds-write_sheet-end-2
-slice_bounds-write_sheet-end-2 c =
-    let within : c.sheet_file-found.result.n ≤ length c.sheet_file-found.new.cores =
-    omega (arith, modules_few c.sheet_file-found.ensures.answers c.if-found-ne0.false, c.sheet_file-found.auto.cores) in
-    omega (arith, length-take-le _ _ within)
+slice_bounds-write_sheet-end-2 c = sym (length-take-le _ _ (within (goal.at.slice_bounds-write_sheet-end-2 c).In-Ok).1)
 
 pub slice_bounds-shares-end : goal.slice_bounds-shares-end
-slice_bounds-shares-end c =
-    let shares_long : 4096 ≤ length c.sheet_file-found.new.shares = omega (arith, c.sheet_file-found.auto.shares) in
-    let words_long : 12288 ≤ length c.sheet_file-found.new.words = omega (arith, c.sheet_file-found.auto.words) in
-    omega (arith, pairs_few c.sheet_file-found.ensures shares_long words_long c.if-found-ne0.false, shares_long)
+slice_bounds-shares-end c = (within (goal.at.slice_bounds-shares-end c).In-Ok).2
 
-pub slice_bounds-write_sheet-end-4 : goal.slice_bounds-write_sheet-end-4
-slice_bounds-write_sheet-end-4 c =
-    let shares_long : 4096 ≤ length c.sheet_file-found.new.shares = omega (arith, c.sheet_file-found.auto.shares) in
-    let words_long : 12288 ≤ length c.sheet_file-found.new.words = omega (arith, c.sheet_file-found.auto.words) in
-    let within : c.sheet_file-found.result.m ≤ length c.sheet_file-found.new.shares =
-    omega (arith, pairs_few c.sheet_file-found.ensures shares_long words_long c.if-found-ne0.false, shares_long) in
-    omega (arith, length-take-le _ _ within)
+pub slice_bounds-write_sheet-end-3 : goal.slice_bounds-write_sheet-end-3
+slice_bounds-write_sheet-end-3 c = sym (length-take-le _ _ (within (goal.at.slice_bounds-write_sheet-end-3 c).In-Ok).2)
+
+pub write_sheet-requires-clause-each_pair : goal.write_sheet-requires-clause-each_pair
+write_sheet-requires-clause-each_pair c =
+    let l = long (goal.at.write_sheet-requires-clause-each_pair c).In-Ok in
+    omega (arith, shares_count c.in-Ok.ensures l.0 l.1, c.in_words-list.ensures.pairs)
+
+pub write_sheet-requires-clause-room : goal.write_sheet-requires-clause-room
+write_sheet-requires-clause-room c =
+    let l = long (goal.at.write_sheet-requires-clause-room c).In-Ok in
+    let few = lines_length c.in-Ok.ensures l.0 l.1 c.in_words-list.ensures.value in
+    (left_lent {start = c.new-writer.result} c.new-writer.ensures.unwritten c.new-writer.ensures.start (omega (arith, few, c.requires))).room
 
 pub returns : goal.returns
 returns c =
-    let shares_long : 4096 ≤ length c.sheet_file-found.new.shares = omega (arith, c.sheet_file-found.auto.shares) in
-    let words_long : 12288 ≤ length c.sheet_file-found.new.words = omega (arith, c.sheet_file-found.auto.words) in
-    let z = c.if-found-ne0.false in
-    prints (sheet_read c.requires.input.0 (sheet_due c.sheet_file-found.ensures shares_long words_long z))
-    c.write_sheet.ensures
-    (omega (arith, lines_length c.sheet_file-found.ensures shares_long words_long z, c.requires.in_bounds))
-
-pub write_sheet-requires-clause-shares_in_bounds_2 : goal.write_sheet-requires-clause-shares_in_bounds_2
-write_sheet-requires-clause-shares_in_bounds_2 c =
-    let shares_long : 4096 ≤ length c.sheet_file-found.new.shares = omega (arith, c.sheet_file-found.auto.shares) in
-    let words_long : 12288 ≤ length c.sheet_file-found.new.words = omega (arith, c.sheet_file-found.auto.words) in
-    omega (arith, lines_length c.sheet_file-found.ensures shares_long words_long c.if-found-ne0.false, c.requires.in_bounds)
+    let l = long (goal.at.returns c).In-Ok in
+    let few = lines_length c.in-Ok.ensures l.0 l.1 c.in_words-list.ensures.value in
+    let names = c.write_sheet.ensures.same_buffer ∙ c.new-writer.ensures.same_buffer in
+    prints_lent c.new-writer.ensures.unwritten c.new-writer.ensures.start c.write_sheet.new.writer c.write_sheet.ensures (search rules)
+    (sheet_read (sheet_due c.in-Ok.ensures l.0 l.1 c.in_words-list.ensures.value)) (omega (arith, few, c.requires))

@@ -1,21 +1,35 @@
 -- `write_group` meets its contract: the head, then the members.
-use native.Mathlib.Omega.{arith}
+use Rattle.std.proofs.Common.{refl, length, rules, of_calls}
 use Rattle.lines.specs.Text.{text}
-use Rattle.sheetfile.specs.Sheet.{head_form}
+use Rattle.lines.proofs.Parts.{Left, left_front}
+use Rattle.sheetfile.specs.Sheet.{head_form, member_form}
 use Rattle.texts.specs.Printed.{answer_lines}
-use lib.ListN.{length-append}
-use Rattle.texts.proofs.Lines.{members_left}
+use Rattle.texts.specs.Filling.{given_lines}
+use Rattle.texts.proofs.Parts.{member_numbers}
+use Rattle.texts.proofs.Lines.{all_left, members_left}
 use Rattle.texts.proofs.write_group.Goals as goal
+use Rattle.texts.proofs.write_group.Goals.{After-line}
 
-pub write_line-i-requires : goal.write_line-i-requires
-unfolding answer_lines head_form text
-write_line-i-requires c = omega (arith, simp length-append at c.requires.members_in_bounds)
+pub line-requires : goal.line-requires
+unfolding head_form text
+line-requires c = left_front (all_left c.args.found c.args.members.now {w = c.args.writer.now} c.requires.room) _ _ refl
+
+-- behind the head the members are left
+left : (c : After-line) → let s = c.args.members.now in
+    Left (answer_lines c.args.found s) c.args.writer.now (given_lines member_form (member_numbers s) 0 (length s)) c.line.new.self
+unfolding head_form text
+left c = members_left c.args.found c.args.members.now c.requires.room c.line.ensures
+
+pub write_lines-requires-clause-room : goal.write_lines-requires-clause-room
+unfolding member_form text
+write_lines-requires-clause-room c = (
+  member_numbers c.args.members.now,
+  record { each = λ i r l called. search (rules, of_calls) },
+  (left (goal.at.write_lines-requires-clause-room c).After-line).room,
+)
 
 pub returns : goal.returns
-unfolding head_form text
+unfolding member_form text
 returns c =
-    (members_left c.args.found _ c.requires.members_in_bounds c.write_line-i.ensures).joined c.write_members.ensures
-
-pub write_members-requires-clause-members_in_bounds : goal.write_members-requires-clause-members_in_bounds
-unfolding head_form text
-write_members-requires-clause-members_in_bounds c = (members_left c.args.found _ c.requires.members_in_bounds c.write_line-i.ensures).room
+    let l = left (goal.at.returns c).After-line in
+    l.joined (c.write_lines.ensures (member_numbers c.args.members.now) (record { each = λ i r l called. search (rules, of_calls) }) l.room)

@@ -1,14 +1,24 @@
 -- `write_refusal` meets its contract: one line.
-use native.Mathlib.Omega.{arith}
+use Rattle.std.proofs.Common.{◌∙◌, arith, rules}
+use Rattle.refusals.specs.Numbers.{number_of}
 use Rattle.lines.specs.Text.{text}
+use Rattle.lines.proofs.Parts.{Left, left_lent, lent_back}
 use Rattle.texts.specs.Texts.{refusal_text}
 use Rattle.texts.proofs.Lengths.{refusal_length}
 use Rattle.texts.proofs.write_refusal.Goals as goal
+use Rattle.texts.proofs.write_refusal.Goals.{After-new-writer}
 
-pub write_line-requires : goal.write_line-requires
+-- the line is to be written
+all : (c : After-new-writer) → let t = refusal_text (number_of c.args.refusal) in Left t c.new-writer.result t c.new-writer.result
+all c = left_lent c.new-writer.ensures.unwritten c.new-writer.ensures.start (omega (arith, refusal_length (number_of c.args.refusal), c.requires))
+
+pub line-requires : goal.line-requires
 unfolding refusal_text text
-write_line-requires c = omega (arith, refusal_length c.args.number, c.requires)
+line-requires c = rw c.from.ensures (all (goal.at.line-requires c).After-new-writer).room
 
 pub returns : goal.returns
 unfolding refusal_text text
-returns c = c.write_line.ensures
+returns c =
+    let names = c.line.ensures.same_buffer ∙ c.new-writer.ensures.same_buffer in
+    let written = (all (goal.at.returns c).After-new-writer).joined (rw c.from.ensures at c.line.ensures) in
+    lent_back c.new-writer.ensures.unwritten c.new-writer.ensures.start c.line.new.self written (search rules)

@@ -1,13 +1,12 @@
--- `verify::bytes_good` meets its contract. The loop keeps `Testing`. Assumes nothing.
-use native.Mathlib.Omega.{arith}
-use Rattle.verify.proofs.Members.{testing_goes_on, testing_bad, testing_ends}
+-- `verify::bytes_good` meets its contract: the chain tests each byte. Assumes nothing.
+use mathlib.Core.Path.{◌∙◌}
+use Rattle.std.proofs.Common.{rules, tests, leb}
+use Rattle.std.proofs.lemmas.Iterator.{YieldsList-from_slice}
+use Rattle.std.proofs.lemmas.Iterator.Search.{all_from_yields_List}
+use Rattle.verify.proofs.Chains.{bytes_all}
 use Rattle.verify.proofs.bytes_good.Goals as goal
 
-pub returns-then-members-i-gt1 : goal.returns-then-members-i-gt1
-returns-then-members-i-gt1 c = testing_bad _ _ c.requires c.loop-i.i c.loop-i.invariant (omega arith) (omega arith)
-
-pub loop-i-preserved : goal.loop-i-preserved
-loop-i-preserved c = testing_goes_on _ _ c.requires c.loop-i.i c.loop-i.invariant (omega arith) (omega arith)
-
 pub returns : goal.returns
-returns c = testing_ends _ _ c.requires c.loop-i.i c.loop-i.invariant (omega arith)
+returns c =
+    let s = c.args.members.now in
+    all_from_yields_List (λ x. leb x 1) _ _ _ c.all.ensures.ran (YieldsList-from_slice s cc) (λ x b q k. search (rules, tests)) ∙ bytes_all s

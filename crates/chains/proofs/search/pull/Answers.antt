@@ -1,22 +1,18 @@
 -- `chains::search::pull` meets its contract. Assumes nothing.
-use Rattle.std.proofs.Common.{inl, inr}
-use Rattle.chains.proofs.Pulling.{parent, chain_next, chain_end}
+use Rattle.std.proofs.Common.{get_or, rules}
+use Rattle.chains.proofs.Pulling.{chain_next, chain_end}
 use Rattle.chains.proofs.search.pull.Goals as goal
 
-pub returns-then-p-load : goal.returns-then-p-load
-returns-then-p-load c =
-    let i = c.loop-load.invariant in
-    chain_end i (parent i c.wide-k.ensures c.wide-u.ensures) c.lesser-d.ensures c.shift.ensures.hold_after c.shift.ensures.load_after
-    (inl c.if-p-load.true)
+pub loop-units-init : goal.loop-units-init
+loop-units-init c = let t = c.requires.found.tree (get_or c.args.reached.now.rank c.args.found 0) in search rules
 
-pub returns-then-u-root : goal.returns-then-u-root
-returns-then-u-root c =
-    let i = c.loop-load.invariant in
-    chain_end i (parent i c.wide-k.ensures c.wide-u.ensures) c.lesser-d.ensures c.shift.ensures.hold_after c.shift.ensures.load_after
-    (inr c.if-u-root.true)
+pub returns-then-p-units-clause-pulled : goal.returns-then-p-units-clause-pulled
+returns-then-p-units-clause-pulled c =
+    let s = c.shift.ensures in
+    chain_end c.loop-units.invariant c.from-k.ensures c.module-u.ensures.value c.min-d.ensures s.kept s.hold_after s.load_after c.then-p-units.either
 
-pub loop-load-preserved : goal.loop-load-preserved
-loop-load-preserved c =
-    let i = c.loop-load.invariant in
-    chain_next i (parent i c.wide-k.ensures c.wide-u.ensures) c.lesser-d.ensures c.shift.ensures.hold_after c.shift.ensures.load_after
-    c.if-p-load.false c.if-u-root.false
+pub loop-units-preserved : goal.loop-units-preserved
+loop-units-preserved c =
+    let s = c.shift.ensures in
+    chain_next c.loop-units.invariant c.from-k.ensures c.module-u.ensures.value c.min-d.ensures s.kept s.hold_after s.load_after c.if-p-units.false
+    c.if-u-root.false

@@ -3,8 +3,8 @@ use Rattle.std.proofs.Common.{get_or}
 use Rattle.chains.proofs.Pulling.{Chain}
 use Rattle.chains.proofs.search.pull.Given as goal
 
-abbrev pub invariant-loop-load : goal.invariant-loop-load
-invariant-loop-load l = Chain l.n l.m l.p l.root l.ends l.rank l.from l.initial.hold l.initial.load l.hold l.load l.c
+abbrev pub invariant-loop-units : goal.invariant-loop-units
+invariant-loop-units l = Chain l.p l.root l.reached.rank l.reached.from l.fn.units l.units l.c
 
-abbrev pub decreases-loop-load : goal.decreases-loop-load
-decreases-loop-load l = get_or l.rank l.c 0
+abbrev pub decreases-loop-units : goal.decreases-loop-units
+decreases-loop-units l = get_or l.reached.rank l.c 0

@@ -1,9 +1,17 @@
 -- `chains::search::settle` meets its contract. Assumes nothing.
-use Rattle.chains.proofs.Settling.{settled_bad}
+use Rattle.std.proofs.Common.{arith}
+use Rattle.std.proofs.lemmas.Grind.{common_steps}
+use Rattle.theory.proofs.Tests.{no}
+use Rattle.chains.proofs.Settling.{stuck}
 use Rattle.chains.proofs.search.settle.Goals as goal
 
-pub returns-then-v-n : goal.returns-then-v-n
-returns-then-v-n c = settled_bad c.loop-root.invariant.0 c.search-v.ensures c.if-v-n.true c.loop-root-test.true c.if-load-root.false
-
-pub pull-moved-requires-clause-tree : goal.pull-moved-requires-clause-tree
-pull-moved-requires-clause-tree c = c.search-v.ensures.tree _
+pub returns-in_default-clause-settled : goal.returns-in_default-clause-settled
+returns-in_default-clause-settled c =
+    let i = c.loop-units.invariant in
+    let found = rw i.kept.same.graph at c.in_default.ensures in
+    record {
+      kept = i.kept.kept;
+      good = λ e. no e;
+      bad = λ e. stuck _ c.args.units.now.graph.pairs found (omega arith) c.loop-units-test.true
+          (λ v l. grind (arith, common_steps, c.copy_from_slice.ensures.after, (found.tree 0).rank_long));
+    }

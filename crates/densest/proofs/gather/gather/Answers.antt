@@ -1,48 +1,39 @@
 -- `densest::gather::gather` meets its contract: the pairs passed are packed, and gathered. Assumes nothing.
-use Rattle.std.proofs.Common.{ap, ◌∙◌, arith, length-drop}
-use Rattle.theory.specs.Groups.{holds_pair}
+use Rattle.std.proofs.Common.{◌≡◌, cond, refl, arith, rules}
+use borrow.Author.Rules.{part_to_end}
 use Rattle.theory.specs.Words.{counts_of}
-use Rattle.slots.proofs.Words.{few_pairs}
-use Rattle.densest.proofs.Gathering.{passed_start, passed_next, pair_read, gathering_start, gathering_next, gathering_end}
+use Rattle.densest.proofs.Gathering.{pair_read, gathering_start, gathering_next, gathering_end, gathered_held}
 use Rattle.densest.proofs.gather.gather.Goals as goal
 
 pub loop-j-init : goal.loop-j-init
-unfolding counts_of
-loop-j-init c =
-    let h = c.requires.held_words in (
-      few_pairs _ _ _ _ h.listed,
-      omega (arith, h.weights_long, length-drop 8192 c.args.words.now),
-      passed_start _ _ _,
-      gathering_start _ _ _,
-    )
+loop-j-init c = gathering_start _ _ _ _ _ c.requires refl
 
-pub packed-pair-requires-clause-a_bound : goal.packed-pair-requires-clause-a_bound
-packed-pair-requires-clause-a_bound c = let r = pair_read c.requires.held_words (omega arith) c.loop-j.invariant.3 in omega (arith, r)
+pub new-pair-requires-clause-a_bound : goal.new-pair-requires-clause-a_bound
+new-pair-requires-clause-a_bound c = omega (arith, pair_read c.loop-j.invariant (omega arith))
 
-pub packed-pair-requires-clause-b_bound : goal.packed-pair-requires-clause-b_bound
-packed-pair-requires-clause-b_bound c = let r = pair_read c.requires.held_words (omega arith) c.loop-j.invariant.3 in omega (arith, r)
+pub new-pair-requires-clause-b_bound : goal.new-pair-requires-clause-b_bound
+new-pair-requires-clause-b_bound c = omega (arith, pair_read c.loop-j.invariant (omega arith))
 
-pub packed-pair-requires-clause-w_bound : goal.packed-pair-requires-clause-w_bound
-packed-pair-requires-clause-w_bound c = let r = pair_read c.requires.held_words (omega arith) c.loop-j.invariant.3 in r.light
+pub new-pair-requires-clause-w_bound : goal.new-pair-requires-clause-w_bound
+new-pair-requires-clause-w_bound c = (pair_read c.loop-j.invariant (omega arith)).light
 
-pub inner-requires-clause-pair_in_bounds : goal.inner-requires-clause-pair_in_bounds
-inner-requires-clause-pair_in_bounds c =
-    let r = pair_read c.requires.held_words (omega arith) c.loop-j.invariant.3 in rw c.packed-pair.ensures (omega (arith, r))
+pub is_inner-requires-clause-first_in_bounds : goal.is_inner-requires-clause-first_in_bounds
+is_inner-requires-clause-first_in_bounds c = rw c.new-pair.ensures (omega (arith, pair_read c.loop-j.invariant (omega arith)))
 
-pub inner-requires-clause-pair_in_bounds_2 : goal.inner-requires-clause-pair_in_bounds_2
-inner-requires-clause-pair_in_bounds_2 c =
-    let r = pair_read c.requires.held_words (omega arith) c.loop-j.invariant.3 in rw c.packed-pair.ensures (omega (arith, r))
+pub is_inner-requires-clause-second_in_bounds : goal.is_inner-requires-clause-second_in_bounds
+is_inner-requires-clause-second_in_bounds c = rw c.new-pair.ensures (omega (arith, pair_read c.loop-j.invariant (omega arith)))
 
 pub loop-j-preserved : goal.loop-j-preserved
 loop-j-preserved c =
+    let step : c.from-i.result ≡ cond c.is_inner.result 1 0 = search rules in
+    gathering_next c.loop-j.invariant _ _ _ (omega arith) c.new-pair.ensures c.is_inner.ensures step
+
+pub invariant_of-result : goal.invariant_of-result
+unfolding counts_of
+invariant_of-result c =
     let i = c.loop-j.invariant in
-    let e = c.packed-pair.ensures in
-    let r = pair_read c.requires.held_words (omega arith) i.3 in (
-      i.0,
-      i.1,
-      passed_next _ _ i.2 (omega arith) (c.inner.ensures ∙ ap (holds_pair c.args.core.now) (e ∙ r.same)) c.one_if-i.ensures,
-      gathering_next c.requires.held_words (omega arith) i.3 _ i.2 c.requires.core_len.1 e,
-    )
+    record { held = rw (part_to_end c.loop-j.words 8192) (gathered_held i.held i.few.1 i.words_long (gathering_end i (omega arith)).0) }
 
 pub returns-clause-gathered : goal.returns-clause-gathered
-returns-clause-gathered c = let i = c.loop-j.invariant in (gathering_end _ i.2 (omega arith) i.3).0
+unfolding counts_of
+returns-clause-gathered c = rw (part_to_end c.loop-j.words 8192) (gathering_end c.loop-j.invariant (omega arith)).0

@@ -1,14 +1,13 @@
--- `flow::drain::drain`: who stays so far. The measure is the modules that are not yet looked at, and those that stay.
-use Rattle.std.proofs.Common.{◌≡◌, ◌+◌, ◌*◌, ◌-◌, ◌≤◌, length}
-use Rattle.slots.specs.Slots.{Ends}
-use Rattle.chains.specs.Search.{zeros}
+-- `flow::drain::drain`: who may stay so far; the ranks are those lent. The measure: the modules not yet looked at and those not queued, of 512.
+use Rattle.std.proofs.Common.{◌≡◌, ◌+◌, ◌-◌}
 use Rattle.flow.proofs.Draining.{Draining}
 use Rattle.flow.proofs.drain.drain.Given as goal
 
-abbrev pub invariant-loop-at : goal.invariant-loop-at
-invariant-loop-at l =
-    Draining l.n l.m l.p l.scope l.ends l.hold l.load l.rank l.queue l.tail × Ends l.n l.m l.ends × (l.slots ≡ 2 * l.m) × (l.at ≤ l.tail)
-    × (512 ≤ length l.rank) × (length l.rank ≡ length l.initial.rank) × (length l.queue ≡ 512) × (l.tail ≤ l.n) × (l.n ≤ 512)
+abbrev pub invariant-loop-u : goal.invariant-loop-u
+invariant-loop-u l = record {
+  staying : Draining l.units.graph.n l.units.graph.m l.p l.scope l.units.graph.ends.now l.units.hold.now l.units.load.now l.staying.rank.now;
+  same : l.staying.rank.ghost_name ≡ l.initial.staying.rank.ghost_name;
+}
 
-abbrev pub decreases-loop-at : goal.decreases-loop-at
-decreases-loop-at l = (l.n - l.at) + (l.n - zeros l.n l.rank)
+abbrev pub decreases-loop-u : goal.decreases-loop-u
+decreases-loop-u l = (512 - l.staying.queue.at) + (512 - l.staying.queue.tail)

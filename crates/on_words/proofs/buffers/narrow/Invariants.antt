@@ -1,11 +1,8 @@
--- What the loop of `on_words::buffers::narrow` keeps: the entries before j are as they will be.
-use Prim.Native.Nat.{◌-◌}
-use lib.ListN.{take}
-use Rattle.on_words.proofs.Filling.{Turning}
+-- What the loop of `on_words::buffers::narrow` keeps: the entries before i are the words.
+use mathlib.Core.Path.{◌≡◌}
+use mathlib.Core.List.{◌++◌}
+use lib.ListN.{take, drop}
 use Rattle.on_words.proofs.buffers.narrow.Given as goal
 
-abbrev pub invariant-loop-j : goal.invariant-loop-j
-invariant-loop-j l = Turning (take l.n l.words) l.initial.to l.to l.j
-
-abbrev pub decreases-loop-j : goal.decreases-loop-j
-decreases-loop-j l = l.n - l.j
+abbrev pub invariant-loop-i : goal.invariant-loop-i
+invariant-loop-i l = l.to ≡ take l.i l.words ++ drop l.i l.fn.to

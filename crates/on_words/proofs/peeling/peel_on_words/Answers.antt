@@ -1,33 +1,48 @@
--- `on_words::peeling::peel_on_words` meets its contract: nothing behind a shut gate; else the list in the words, and zeros in the end. Assumes nothing.
-use mathlib.Core.Path.{sym, ◌∙◌}
-use borrow.Author.Tests.{eq-eqb, ne_eqb}
-use Rattle.theory.specs.Refusals.{if_taken}
-use Rattle.on_words.proofs.Filling.{left_open, left_shut}
-use Rattle.on_words.proofs.Enough.{peel_enough}
+-- `on_words::peeling::peel_on_words` meets its contract: peel of the list in the words, its order narrowed. Assumes nothing.
+use mathlib.Core.Path.{sym, ap, ◌∙◌}
+use mathlib.Core.List.{List}
+use Prim.Native.Nat.{ℕ}
+use native.Mathlib.Omega.{arith}
+use lib.Seq.{length-take-le}
+use Rattle.theory.specs.Words.{laid_list}
+use Rattle.theory.proofs.Lists.{listed}
+use Rattle.on_words.specs.Buffers.{in_front}
+use Rattle.on_words.proofs.Peels.{order_front, order_enough, order_small, cores_in_front}
 use Rattle.on_words.proofs.peeling.peel_on_words.Goals as goal
 
-pub returns-then-gate-ne0 : goal.returns-then-gate-ne0
-unfolding if_taken
-returns-then-gate-ne0 c =
-    let n = ne_eqb _ 0 c.if-gate-ne0.true in
-    record { order_is = sym (rw n); cores_are = sym (rw n); left = left_shut c.requires c.if-gate-ne0.true }
+pub peel-requires : goal.peel-requires
+unfolding laid_list
+peel-requires c =
+    let l = listed _ c.requires.holds_list.listed in
+    rw c.in_words-list.ensures.modules
+    (record { some = omega arith; few = l.some; order_long = l.few; cores_long = c.requires.cores_long; place_long = l.few })
 
-pub peel_in-requires : goal.peel_in-requires
-peel_in-requires c =
-    let z = c.if-gate-ne0.false in
-    let e = peel_enough _ _ _ _ (c.requires.long z) in
-    record { holds_list = c.requires.holds z; n_in_bounds = e.0; n_in_bounds_2 = e.1 }
+pub slice_bounds-leavers-end : goal.slice_bounds-leavers-end
+unfolding laid_list
+slice_bounds-leavers-end c =
+    let done = rw c.in_words-list.ensures.value at c.peel.ensures in
+    rw c.in_words-list.ensures.modules (order_enough _ c.requires.holds_list.listed _ _ done.order_is)
 
-pub clear-requires : goal.clear-requires
-clear-requires c = (peel_enough _ _ _ _ (c.requires.long c.if-gate-ne0.false)).2
+pub slice_bounds-narrow-end : goal.slice_bounds-narrow-end
+unfolding laid_list
+slice_bounds-narrow-end c =
+    let done = rw c.in_words-list.ensures.value at c.peel.ensures in
+    rw c.in_words-list.ensures.modules (sym (length-take-le _ _ (order_enough _ c.requires.holds_list.listed _ _ done.order_is)))
+
+pub narrow-requires-clause-small : goal.narrow-requires-clause-small
+unfolding laid_list
+narrow-requires-clause-small c =
+    let done = rw c.in_words-list.ensures.value at c.peel.ensures in
+    rw c.in_words-list.ensures.modules (order_small _ c.requires.holds_list.listed _ _ done.order_is)
 
 pub returns : goal.returns
-unfolding if_taken
+unfolding laid_list
 returns c =
-    let z = c.if-gate-ne0.false in
-    let k = eq-eqb _ 0 z in
+    let done = rw c.in_words-list.ensures.value at c.peel.ensures in
     record {
-      order_is = c.peel_in.ensures.order_after ∙ sym (rw k);
-      cores_are = c.peel_in.ensures.cores_after ∙ sym (rw k);
-      left = c.clear.ensures ∙ sym (left_open _ z);
+      order_is =
+          rw c.in_words-list.ensures.modules at c.narrow.ensures
+          ∙ ap (λ (ys : List ℕ). in_front ys c.args.order.now) (order_front _ c.requires.holds_list.listed _ _ done.order_is);
+      cores_are = done.cores_are ∙ cores_in_front _ c.args.cores.now;
+      left = c.clear.ensures;
     }

@@ -1,10 +1,6 @@
--- The moves made keep units within pairs, and arcs end within the room for them.
-use Rattle.std.proofs.Common.{◌-◌, ◌≤◌}
-use Rattle.slots.specs.Slots.{Kept}
+-- The moves made keep units within pairs.
+use Rattle.slots.specs.Views.{UnitsKept}
 use Rattle.push.proofs.leaving.leave.Given as goal
 
-abbrev pub invariant-loop-x : goal.invariant-loop-x
-invariant-loop-x l = Kept l.n l.m l.ends l.initial.hold l.initial.load l.hold l.load × (l.stop ≤ 8192)
-
-abbrev pub decreases-loop-x : goal.decreases-loop-x
-decreases-loop-x l = l.stop - l.x
+abbrev pub invariant-loop-arc : goal.invariant-loop-arc
+invariant-loop-arc l = UnitsKept l.fn.units l.units

@@ -1,13 +1,17 @@
 -- `rounds::round::decide` meets its contract. Assumes nothing.
-use Rattle.rounds.proofs.Rounds.{opened_kept, opened_covers, round_stuck}
+use Rattle.std.proofs.Common.{arith}
+use Rattle.rounds.proofs.Rounds.{opened_kept, opened_long, opened_loads, stuck_made, round_of}
 use Rattle.rounds.proofs.round.decide.Goals as goal
 
-pub balance-stuck-requires-clause-covers : goal.balance-stuck-requires-clause-covers
-balance-stuck-requires-clause-covers c = opened_covers c.requires.opened
+pub returns-in-Some-clause-round : goal.returns-in-Some-clause-round
+returns-in-Some-clause-round c = stuck_made (opened_kept c.requires.opened c.balance.ensures.kept).opened c.in-Some.ensures.denser
 
-pub returns-then-stuck-clause-round : goal.returns-then-stuck-clause-round
-returns-then-stuck-clause-round c =
-    let b = c.balance-stuck.ensures in round_stuck (opened_kept c.requires.opened b.kept) (b.denser_counted c.if-stuck.true)
+pub flow-ended-requires-clause-scope_len : goal.flow-ended-requires-clause-scope_len
+flow-ended-requires-clause-scope_len c =
+    let o = opened_kept c.requires.opened c.balance.ensures.kept in
+    (opened_long o, omega (arith, o.graph.modules, c.balance.auto.group, c.requires.group_len))
 
-pub close_round-requires-clause-opened : goal.close_round-requires-clause-opened
-close_round-requires-clause-opened c = opened_kept c.requires.opened c.balance-stuck.ensures.kept
+pub returns-clause-round : goal.returns-clause-round
+returns-clause-round c =
+    let o = opened_kept c.requires.opened c.balance.ensures.kept in
+    round_of o (c.flow-ended.ensures.flowed _ (opened_loads o)) c.count.ensures

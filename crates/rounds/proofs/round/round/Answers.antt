@@ -1,13 +1,12 @@
 -- `rounds::round::round` meets its contract. Assumes nothing.
-use Rattle.slots.proofs.Words.{list_ends}
-use Rattle.rounds.proofs.Rounds.{opened_kept, opened_covers}
+use Rattle.rounds.proofs.Rounds.{opened_kept, opened_room, opened_covers}
 use Rattle.rounds.proofs.round.round.Goals as goal
 
-pub prepare-made-requires-clause-ends : goal.prepare-made-requires-clause-ends
-prepare-made-requires-clause-ends c = let w = c.requires.searchable.held in list_ends _ _ _ _ w.listed w.ends_long
-
-pub prepare-made-requires-clause-covers : goal.prepare-made-requires-clause-covers
-prepare-made-requires-clause-covers c = opened_covers c.open_round.ensures
+pub invariant_of-units : goal.invariant_of-units
+invariant_of-units c =
+    let g = c.from.ensures in
+    let o = c.open_round.ensures in
+    record { room = rw g.pairs (opened_room o); covers = rw (g.modules, g.pairs, g.ends) (opened_covers o) }
 
 pub decide-requires-clause-opened : goal.decide-requires-clause-opened
-decide-requires-clause-opened c = opened_kept c.open_round.ensures c.prepare-made.ensures.kept
+decide-requires-clause-opened c = opened_kept (record { graph = c.from.ensures; opened = c.open_round.ensures }) c.prepare.ensures

@@ -1,35 +1,23 @@
--- `rounds::search::find` meets its contract: from round to round `Going` holds, and `steps` falls. Assumes nothing.
-use Rattle.std.proofs.Common.{refl, ◌∙◌, arith}
-use Rattle.theory.proofs.Tests.{no}
-use Rattle.slots.proofs.Words.{few_modules}
-use Rattle.rounds.proofs.Rounds.{arc_zeros, going_on, steps_fall}
+-- `rounds::search::find` meets its contract: from round to round `Searching` holds, and `steps` falls. Assumes nothing.
+use Rattle.std.proofs.Common.{sym, ◌∙◌}
+use Rattle.std.proofs.lemmas.Bool.{not-true}
+use Rattle.rounds.proofs.Rounds.{next_candidate, next_round, next_fewer}
 use Rattle.rounds.proofs.search.find.Goals as goal
 
-pub loop-settled-init : goal.loop-settled-init
-loop-settled-init c =
-    let room = arc_zeros c.args.n 513 8192 (omega (arith, few_modules _ _ _ _ c.requires.searchable.held.listed)) (omega arith) in
-    (record { asks = c.requires.searchable; ended = λ e. no e }, room, refl, refl, refl, refl, refl)
+pub at-known-requires : goal.at-known-requires
+at-known-requires c =
+    let known = c.loop-hints.known in
+    let r = c.round-reached.ensures in
+    next_candidate known.list.held known.at_hand r.round r.counted
 
-pub loop-settled-smaller : goal.loop-settled-smaller
-loop-settled-smaller c =
-    let a = c.args in
-    let l = c.loop-settled in
-    let r = c.round-turn in
-    steps_fall a.n a.m a.ends.now a.weights.now a.cores.now l.scope l.hold l.group _ _ _ l.p l.q _ _ l.settled _ c.same-settled.result
-    l.invariant.0 r.ensures.round r.ensures.counted c.same-settled.ensures c.loop-settled-test.true
+pub loop-hints-smaller : goal.loop-hints-smaller
+loop-hints-smaller c =
+    let e = c.at-known.ensures in
+    next_fewer c.round-reached.ensures c.at-known.result e.list e.ratio c.loop-hints.last (not-true _ (sym c.ne.ensures ∙ c.loop-hints-test.true))
 
-pub loop-settled-preserved : goal.loop-settled-preserved
-loop-settled-preserved c =
-    let a = c.args in
-    let l = c.loop-settled in
-    let r = c.round-turn in
-    let i = l.invariant in (
-      going_on a.n a.m a.ends.now a.weights.now a.cores.now l.scope l.hold l.group _ _ _ l.p l.q _ _ l.settled _ c.same-settled.result
-          i.0 r.ensures.round r.ensures.counted c.same-settled.ensures (r.auto.scope ∙ i.0.asks.scope_long) (r.auto.group ∙ i.0.asks.group_long),
-      r.ensures.arc_room_2,
-      r.auto.starts ∙ i.2,
-      r.auto.arcs ∙ i.3,
-      r.auto.scope ∙ i.4,
-      r.auto.hold ∙ i.5,
-      r.auto.group ∙ i.6,
-    )
+pub loop-hints-preserved : goal.loop-hints-preserved
+loop-hints-preserved c =
+    let e = c.at-known.ensures in
+    let i = c.loop-hints.invariant in
+    let r = c.round-reached in
+    next_round r.ensures c.at-known.result e.list e.ratio i.same_list (r.auto.scope ∙ i.going.asks.scope_long) (r.auto.group ∙ i.going.asks.group_long)

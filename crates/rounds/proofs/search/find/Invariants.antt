@@ -1,15 +1,10 @@
--- `rounds::search::find`: from round to round `Going` holds, and `steps` falls.
-use Rattle.std.proofs.Common.{◌≡◌, length}
-use Rattle.theory.specs.Words.{list_in}
-use Rattle.arcs.specs.Arcs.{ArcRoom}
-use Rattle.rounds.proofs.Rounds.{Going, steps}
+-- `rounds::search::find`: from round to round `Searching` holds, and `steps` falls.
+use Rattle.lists.specs.Listed.{listed}
+use Rattle.rounds.proofs.Rounds.{steps, stays, Searching}
 use Rattle.rounds.proofs.search.find.Given as goal
 
-abbrev pub invariant-loop-settled : goal.invariant-loop-settled
-invariant-loop-settled l =
-    Going l.n l.m l.ends l.weights l.cores l.scope l.hold l.group l.p l.q l.settled × ArcRoom l.n l.starts l.arcs × (length l.starts ≡ 513)
-    × (length l.arcs ≡ 8192) × (length l.scope ≡ length l.initial.scope) × (length l.hold ≡ length l.initial.hold)
-    × (length l.group ≡ length l.initial.group)
+abbrev pub invariant-loop-hints : goal.invariant-loop-hints
+invariant-loop-hints l = Searching l.fn.known l.known l.last l.scope l.hold l.group
 
-abbrev pub decreases-loop-settled : goal.decreases-loop-settled
-decreases-loop-settled l = steps (list_in l.n l.m l.ends l.weights) l.p l.q l.settled
+abbrev pub decreases-loop-hints : goal.decreases-loop-hints
+decreases-loop-hints l = steps (listed l.known.list) l.known.ratio.p l.known.ratio.q (stays l.last l.known.ratio)

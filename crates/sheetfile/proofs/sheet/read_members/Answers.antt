@@ -1,26 +1,29 @@
--- `read_members` meets its contract: the loop's invariant is `Marked`, the measure the number of lines left.
-use native.Mathlib.Omega.{arith}
-use Rattle.sheetfile.proofs.Reading.{marked_index, marked_refused, marked_step, marked_done}
+-- `sheetfile::sheet::read_members` meets its contract, line by line.
+use Rattle.std.proofs.Common.{rules, tests}
+use Rattle.theory.specs.Basics.{mark}
+use Rattle.lines.specs.Text.{text, between}
+use Rattle.lines.specs.Lines.{is_place, places}
+use Rattle.lines.proofs.Found.{handed_on}
+use Rattle.sheetfile.specs.Sheet.{member_form}
+use Rattle.sheetfile.proofs.Reading.{marked_missing, marked_unfit, marked_step, marked_done}
 use Rattle.sheetfile.proofs.sheet.read_members.Goals as goal
 
-pub returns-then-line-ne0 : goal.returns-then-line-ne0
-returns-then-line-ne0 c = marked_refused c.loop-k.invariant c.loop-k-test.true c.member_line-line.ensures c.if-line-ne0.true
+pub line_due-requires : goal.line_due-requires
+unfolding places is_place between mark
+line_due-requires c = search rules
 
-pub bounds-members-line : goal.bounds-members-line
-bounds-members-line c = marked_index c.loop-k.invariant c.loop-k-test.true c.member_line-line.ensures c.if-line-ne0.false
+pub returns-in_err-member : goal.returns-in_err-member
+unfolding member_form text
+returns-in_err-member c = rw (handed_on c.from_residual.ensures.1) (marked_missing c.loop.invariant c.loop-test.true c.in_err-member.ensures)
 
-pub overflow_add-low : goal.overflow_add-low
-overflow_add-low c =
-    let m = c.loop-k.invariant in
-    omega (
-      arith,
-      marked_index m c.loop-k-test.true c.member_line-line.ensures c.if-line-ne0.false,
-      m.size,
-      c.requires.members_len_bound,
-    )
+pub returns-then-not-contains : goal.returns-then-not-contains
+unfolding member_form text
+returns-then-not-contains c =
+    marked_unfit c.loop.invariant c.loop-test.true c.in_ok-member.ensures (search (rules, tests))
 
-pub loop-k-preserved : goal.loop-k-preserved
-loop-k-preserved c = marked_step c.loop-k.invariant c.loop-k-test.true c.member_line-line.ensures c.if-line-ne0.false
+pub loop-preserved : goal.loop-preserved
+unfolding member_form text
+loop-preserved c = marked_step c.loop.invariant c.loop-test.true c.in_ok-member.ensures (search (rules, tests))
 
 pub returns : goal.returns
-returns c = marked_done c.loop-k.invariant c.loop-k-test.false
+returns c = marked_done c.loop.invariant c.loop-test.false

@@ -1,10 +1,6 @@
--- `read_members` meets its contract: the loop's invariant is `Marked`, the measure the number of lines left.
-use Prim.Native.Nat.{◌-◌}
+-- The loop's invariant is `Marked`: so many member lines have been read, and their members are marked.
 use Rattle.sheetfile.proofs.Reading.{Marked}
 use Rattle.sheetfile.proofs.sheet.read_members.Given as goal
 
-abbrev pub invariant-loop-k : goal.invariant-loop-k
-invariant-loop-k l = Marked l.bytes l.at l.q l.initial.members l.members l.i l.low l.k
-
-abbrev pub decreases-loop-k : goal.decreases-loop-k
-decreases-loop-k l = l.q - l.k
+abbrev pub invariant-loop : goal.invariant-loop
+invariant-loop l = Marked l.initial.reader.left.now l.q l.initial.members l.members l.reader.left.now l.low l.counter

@@ -1,11 +1,6 @@
--- `read_numbers` meets its contract: the loop's invariant is `Counted`, the measure the number of lines left.
-use Prim.Native.Nat.{◌-◌}
-use lib.ListN.{length}
+-- The loop's invariant is `Counted`: so many number lines have been read.
 use Rattle.sheetfile.proofs.Reading.{Counted}
 use Rattle.sheetfile.proofs.sheet.read_numbers.Given as goal
 
-abbrev pub invariant-loop-v : goal.invariant-loop-v
-invariant-loop-v l = Counted l.bytes l.at l.cores l.i l.v
-
-abbrev pub decreases-loop-v : goal.decreases-loop-v
-decreases-loop-v l = length l.cores - l.v
+abbrev pub invariant-loop-core : goal.invariant-loop-core
+invariant-loop-core l = Counted l.initial.reader.left.now l.cores l.reader.left.now l.core-index

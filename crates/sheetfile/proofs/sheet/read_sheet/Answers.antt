@@ -1,43 +1,74 @@
--- `read_sheet` meets its contract: the head, and then the lines after it.
-use mathlib.Core.Logic.{inl, inr}
-use native.Mathlib.Omega.{arith}
-use borrow.Author.Tests.{lt-ltb, le-ltb}
+-- `sheetfile::sheet::read_sheet` meets its contract: the head, and then the lines after it, part after part.
+use Rattle.std.proofs.Common.{◌≡◌, true, get_or, arith, rules, sym, tests}
+use borrow.Author.Tests.{eqb-true, eqb-false}
 use Rattle.theory.specs.Basics.{mark}
-use Rattle.theory.specs.Words.{laid_list}
+use Rattle.theory.specs.Words.{list_in}
 use Rattle.lines.specs.Text.{text, between}
 use Rattle.lines.specs.Lines.{is_place, places}
-use Rattle.lines.proofs.Found.{LineHas, line_has}
+use Rattle.lines.proofs.Found.{handed_on}
 use Rattle.sheetfile.specs.Sheet.{head_form}
-use Rattle.sheetfile.proofs.Bodies.{head_none, head_unfit, head_read}
-use Rattle.sheetfile.proofs.sheet.read_sheet.Goals.{then-q-lt1-via-then-q-lt1, then-q-lt1-via-else-q-lt1+then-members-q}
+use Rattle.sheetfile.proofs.Bodies.{
+  members_refused,
+  numbers_refused,
+  shares_refused,
+  bytes_follow,
+  body_whole,
+  head_missing,
+  head_unfit,
+  body_refused,
+  sheet_whole,
+}
+use Rattle.sheetfile.proofs.sheet.read_sheet.Goals.{Else-not-contains}
 use Rattle.sheetfile.proofs.sheet.read_sheet.Goals as goal
 
-pub line_at-requires-clause-form_in_bounds : goal.line_at-requires-clause-form_in_bounds
+pub line_due-requires : goal.line_due-requires
 unfolding places is_place between mark
-line_at-requires-clause-form_in_bounds c = omega arith
+line_due-requires c = search rules
 
-pub returns-then-q-lt1 : goal.returns-then-q-lt1
-unfolding laid_list head_form text places is_place between mark
-returns-then-q-lt1 c =
-    let f : LineHas 7 head_form 4 c.args.bytes.now 0 c.line_at.new.numbers c.in-Line.next = line_has c.line_at.ensures c.in-Line.is in
-    rw c.refused_head-then-q-lt1.ensures
-    (head_unfit f _ _ _ (elim c.then-q-lt1.branch [
-      | then-q-lt1-via-then-q-lt1 w ↦ inl w.if-q-lt1.true
-      | then-q-lt1-via-else-q-lt1+then-members-q w ↦ inr (lt-ltb _ _ w.if-members-q.true)
-    ]))
-
-pub returns-in-Malformed : goal.returns-in-Malformed
+pub returns-in_err-p : goal.returns-in_err-p
 unfolding head_form text
-returns-in-Malformed c = rw c.refused_head.ensures (head_none c.line_at.ensures _ _ _ c.in-Malformed.is)
+returns-in_err-p c = rw (handed_on c.from_residual.ensures.1) (head_missing _ c.in_err-p.ensures)
 
-pub returns-else-members-q : goal.returns-else-members-q
-unfolding laid_list head_form text places is_place between mark
-returns-else-members-q c =
-    let f : LineHas 7 head_form 4 c.args.bytes.now 0 c.line_at.new.numbers c.in-Line.next = line_has c.line_at.ensures c.in-Line.is in
-    head_read f _ c.if-q-lt1.false (le-ltb _ _ c.if-members-q.false) c.read_body.ensures
+pub returns-then-not-contains : goal.returns-then-not-contains
+unfolding head_form text list_in between
+returns-then-not-contains c = head_unfit _ c.in_ok-p.ensures (search (rules, tests))
 
-pub read_body-requires-clause-at_in_bounds : goal.read_body-requires-clause-at_in_bounds
-unfolding head_form text places is_place between mark
-read_body-requires-clause-at_in_bounds c =
-    let f : LineHas 7 head_form 4 c.args.bytes.now 0 c.line_at.new.numbers c.in-Line.next = line_has c.line_at.ensures c.in-Line.is in
-    f.within
+-- Q is in its range
+size_fits : (c : Else-not-contains) → between 1 c.args.list.n (get_or c.in_ok-p.field-0 1 0) ≡ true
+unfolding between
+size_fits c = search (rules, tests)
+
+pub returns-in_err-read_members : goal.returns-in_err-read_members
+unfolding head_form text list_in
+returns-in_err-read_members c =
+    rw (handed_on c.from_residual-in_err-read_members.ensures.1)
+    (body_refused _ c.in_ok-p.ensures (size_fits (goal.at.returns-in_err-read_members c).Else-not-contains)
+    (members_refused _ _ _ c.requires.cores c.requires.unmarked c.in_err-read_members.ensures))
+
+pub returns-in_err-read_numbers : goal.returns-in_err-read_numbers
+unfolding head_form text list_in
+returns-in_err-read_numbers c =
+    rw (handed_on c.from_residual-in_err-read_numbers.ensures.1)
+    (body_refused _ c.in_ok-p.ensures (size_fits (goal.at.returns-in_err-read_numbers c).Else-not-contains)
+    (numbers_refused _ _ _ c.requires.cores c.requires.unmarked c.in_ok-read_members.ensures c.in_err-read_numbers.ensures))
+
+pub returns-in_err-read_shares : goal.returns-in_err-read_shares
+unfolding head_form text list_in
+returns-in_err-read_shares c =
+    rw (handed_on c.from_residual-in_err-read_shares.ensures.1)
+    (body_refused _ c.in_ok-p.ensures (size_fits (goal.at.returns-in_err-read_shares c).Else-not-contains)
+    (shares_refused _ _ _ c.requires.cores c.requires.unmarked c.in_ok-read_members.ensures c.in_ok-read_numbers.ensures c.in_err-read_shares.ensures))
+
+pub returns-then-not-is_done : goal.returns-then-not-is_done
+unfolding head_form text list_in
+returns-then-not-is_done c =
+    body_refused _ c.in_ok-p.ensures (size_fits (goal.at.returns-then-not-is_done c).Else-not-contains)
+    (bytes_follow _ _ _ c.requires.cores c.requires.unmarked c.in_ok-read_members.ensures c.in_ok-read_numbers.ensures c.in_ok-read_shares.ensures
+    (omega (arith, eqb-false _ _ (sym c.if-not-is_done.ensures))))
+
+pub returns : goal.returns
+unfolding head_form text list_in
+returns c =
+    sheet_whole _ c.in_ok-p.ensures (size_fits (goal.at.returns c).Else-not-contains)
+    (body_whole _ _ _ c.requires.cores c.requires.unmarked c.in_ok-read_members.ensures c.in_ok-read_numbers.ensures c.in_ok-read_shares.ensures
+    (omega (arith, eqb-true _ _ (sym c.if-not-is_done.ensures))))

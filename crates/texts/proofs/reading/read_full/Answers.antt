@@ -1,34 +1,32 @@
 -- `read_full` meets its contract: each read gives the file's next bytes.
-use Rattle.std.proofs.Common.{◌≡◌, ℕ, ◌+◌, ◌-◌, ◌≤◌, List, ◌++◌, arith, length, take, slice_range, sym, ap, ◌∙◌, subst, le_refl, drop_at, length-take-le}
-use Rattle.std.proofs.lemmas.Slice.{take-put_mid_below}
+use Rattle.std.proofs.Common.{◌≡◌, ◌+◌, ◌-◌, ◌≤◌, subst, length, take, arith}
 use Rattle.std.specs.Io.KnownBytes.{Consumes}
-use Rattle.std.proofs.KnownBytes.{Consumes-trans}
-use borrow.Rule.Slice.PartMut.{put_mid, post_of}
-use lib.Seq.{take-add, take-append-le}
+use borrow.Rule.Slice.PartMut.{put_mid}
+use Rattle.texts.proofs.Consumed.{read_more, read_ends}
 use Rattle.texts.proofs.reading.read_full.Goals as goal
+use Rattle.texts.proofs.reading.read_full.Goals.{In_ok-n}
 
-take_split : (a b : ℕ) (old new : List ℕ) → a ≤ b → take a new ≡ take a old → take a old ++ slice_range new a b ≡ take b new
-take_split a b old new h front =
-    let same : a + (b - a) ≡ b = omega arith in
-    ap (λ l. l ++ slice_range new a b) (sym front) ∙ sym (take-add a (b - a) new) ∙ ap (λ n. take n new) same
-
-slice_range-put_mid : (a k n : ℕ) (xs ys : List ℕ) → a ≤ length xs → n ≤ length ys → slice_range (put_mid a k xs ys) a (a + n) ≡ take n ys
-slice_range-put_mid a k n xs ys within fits =
-    let same : (a + n) - a ≡ n = omega arith in
-    let after = post_of a k xs in
-    ap (take ((a + n) - a)) (drop_at (take a xs) (ys ++ after) a (length-take-le a xs within)) ∙ ap (λ m. take m (ys ++ after)) same
-    ∙ take-append-le n ys after fits
+-- what has been consumed is in front of the buffer
+consumed : (g : _) (c : In_ok-n g) →
+    let from = c.loop-done.done in
+    let after = put_mid from (length c.loop-done.buffer - from) c.loop-done.buffer c.read.new.buf in
+    (from + c.in_ok-n.n ≤ length c.args.buffer.now)
+    × Consumes (g.R.Read.remaining c.args.input.now) (g.R.Read.remaining c.read.new.self) (take (from + c.in_ok-n.n) after)
+consumed g c = (
+  omega (arith, c.loop-done.invariant.0, c.in_ok-n.ensures.bound.0, c.read.auto.buf, c.loop-done.auto.buffer),
+  read_more _ _ _ c.loop-done.done c.in_ok-n.n c.loop-done.buffer c.read.new.buf (omega (arith, c.loop-done.invariant.0, c.loop-done.auto.buffer))
+      c.in_ok-n.ensures.bound.0 c.loop-done.invariant.1 c.in_ok-n.ensures.bytes.0,
+)
 
 pub loop-done-preserved : goal.loop-done-preserved
-loop-done-preserved g c =
+loop-done-preserved g c = consumed g (goal.at.loop-done-preserved g c).In_ok-n
+
+pub returns-then-n-eq0-clause-read : goal.returns-then-n-eq0-clause-read
+returns-then-n-eq0-clause-read g c =
     let from = c.loop-done.done in
-    let room = length c.loop-done.buffer - from in
-    let within : from ≤ length c.loop-done.buffer = omega (arith, c.loop-done.invariant.0) in
-    let part = slice_range-put_mid from room c.in_ok-n.n c.loop-done.buffer c.read.new.buf within c.in_ok-n.ensures.bound.0 in
-    let joined =
-    take_split from (from + c.in_ok-n.n) c.loop-done.buffer (put_mid from room c.loop-done.buffer c.read.new.buf) (omega arith)
-    (take-put_mid_below _ _ _ _ _ (le_refl _) within) in (
-      omega (arith, c.loop-done.invariant.0, c.in_ok-n.ensures.bound.0, c.read.auto.buf),
-      subst (Consumes _ _) (ap (λ l. take from c.loop-done.buffer ++ l) (sym part) ∙ joined)
-          (Consumes-trans _ _ _ _ _ c.loop-done.invariant.1 c.in_ok-n.ensures.bytes.0),
-    )
+    let all = consumed g (goal.at.returns-then-n-eq0-clause-read g c).In_ok-n in
+    let same : from + c.in_ok-n.n ≡ from = omega (arith, c.if-n-eq0.true) in
+    let after = put_mid from (length c.loop-done.buffer - from) c.loop-done.buffer c.read.new.buf in
+    read_ends g.row.DECIDE (length c.args.buffer.now) from _ _ after c.requires.decides (omega (arith, all.0))
+    (subst (λ k. Consumes (g.R.Read.remaining c.args.input.now) (g.R.Read.remaining c.read.new.self) (take k after)) same all.1)
+    (c.in_ok-n.ensures.bytes.1 c.if-n-eq0.true (omega (arith, c.loop-done-test.true, c.read.auto.buf)))

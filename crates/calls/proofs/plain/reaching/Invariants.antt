@@ -1,6 +1,0 @@
--- `plain::reaching` is safe and ends.
-use Rattle.std.proofs.Common.{◌-◌}
-use Rattle.calls.proofs.plain.reaching.Given as goal
-
-abbrev pub decreases-loop-i : goal.decreases-loop-i
-decreases-loop-i l = l.n - l.i

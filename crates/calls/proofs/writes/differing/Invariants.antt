@@ -1,6 +1,0 @@
--- `writes::differing` is safe and ends.
-use Rattle.std.proofs.Common.{◌-◌, length}
-use Rattle.calls.proofs.writes.differing.Given as goal
-
-abbrev pub decreases-loop-i : goal.decreases-loop-i
-decreases-loop-i l = length l.first - l.i

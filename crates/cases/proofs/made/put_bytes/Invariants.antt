@@ -1,9 +1,0 @@
--- `put_bytes` is safe and ends. The file keeps its length.
-use Rattle.std.proofs.Common.{◌≡◌, ◌-◌, length}
-use Rattle.cases.proofs.made.put_bytes.Given as goal
-
-abbrev pub invariant-loop-i : goal.invariant-loop-i
-invariant-loop-i l = length l.file ≡ length l.initial.file
-
-abbrev pub decreases-loop-i : goal.decreases-loop-i
-decreases-loop-i l = l.count - l.i

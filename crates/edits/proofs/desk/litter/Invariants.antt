@@ -1,6 +1,0 @@
--- `desk::litter` is safe and ends.
-use Rattle.std.proofs.Common.{◌-◌}
-use Rattle.edits.proofs.desk.litter.Given as goal
-
-abbrev pub decreases-loop-j : goal.decreases-loop-j
-decreases-loop-j l = 4096 - l.j

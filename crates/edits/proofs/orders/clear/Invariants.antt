@@ -1,6 +1,0 @@
--- `orders::clear` is safe and ends.
-use Rattle.std.proofs.Common.{◌-◌}
-use Rattle.edits.proofs.orders.clear.Given as goal
-
-abbrev pub decreases-loop-j : goal.decreases-loop-j
-decreases-loop-j l = l.m - l.j

@@ -1,0 +1,33 @@
+// A list of n modules and m pairs, in words.
+ghost use Rattle.theory.specs.Words.{HeldWords};
+
+// Pair j has its ends at words 2j and 2j + 1 of `ends`, the smaller module first, and its stop count at word j of `weights`.
+#[derive(Clone, Copy)]
+pub struct List<'a> {
+    pub n: usize,
+    pub m: usize,
+    pub ends: &'a [u32],
+    pub weights: &'a [u32],
+    pub ghost held: { HeldWords n m ends.now weights.now },
+}
+
+impl<'a> List<'a> {
+    ghost use Rattle.std.specs.Prelude.{◌≡◌};
+    ghost use Rattle.theory.specs.Words.{laid_list, HoldsList};
+    ghost use Rattle.lists.specs.Listed.{listed};
+
+    // The list that lies in one buffer: the ends from word 0 on, the counts from word 8,192 on.
+    pub fn in_words(n: usize, m: usize, words: &'a [u32]) -> List<'a>
+        requires { HoldsList n m words.now }
+        ensures modules { result.n ≡ n }
+        ensures pairs { result.m ≡ m }
+        ensures value { listed result ≡ laid_list n m words.now }
+    {
+        List {
+            n,
+            m,
+            ends: words,
+            weights: &words[8192..],
+        }
+    }
+}

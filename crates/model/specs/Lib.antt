@@ -1,0 +1,3 @@
+-- What the tests' random numbers and plain model are.
+pub mod Counts
+pub mod Draws

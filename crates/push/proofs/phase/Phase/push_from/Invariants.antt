@@ -1,0 +1,6 @@
+-- The arcs passed keep units within pairs.
+use Rattle.slots.specs.Views.{UnitsKept}
+use Rattle.push.proofs.phase.Phase.push_from.Given as goal
+
+abbrev pub invariant-loop-i : goal.invariant-loop-i
+invariant-loop-i l = UnitsKept l.fn.units l.units

@@ -1,6 +1,0 @@
--- `print::count` is safe and ends.
-use Rattle.std.proofs.Common.{◌-◌, length}
-use Rattle.readers.proofs.print.count.Given as goal
-
-abbrev pub decreases-loop-i : goal.decreases-loop-i
-decreases-loop-i l = length l.words - l.i

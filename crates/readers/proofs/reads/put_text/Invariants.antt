@@ -1,6 +1,0 @@
--- `reads::put_text` is safe and ends.
-use Rattle.std.proofs.Common.{◌-◌, length}
-use Rattle.readers.proofs.reads.put_text.Given as goal
-
-abbrev pub decreases-loop-i : goal.decreases-loop-i
-decreases-loop-i l = length l.text - l.i

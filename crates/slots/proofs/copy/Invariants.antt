@@ -1,8 +1,0 @@
--- The entries passed are those of xs.
-use mathlib.Core.Path.{◌≡◌}
-use Prim.Native.Nat.{ℕ, ◌<◌}
-use lib.ListN.{get_or}
-use Rattle.slots.proofs.copy.Given as goal
-
-abbrev pub invariant-loop-v : goal.invariant-loop-v
-invariant-loop-v l = (k : ℕ) → k < l.v → get_or l.ys k 0 ≡ get_or l.xs k 0

@@ -1,0 +1,70 @@
+-- `neighbours::write_placed` meets its contract: the file is refused, an argument, the two modules, or their pair is looked up.
+use Rattle.std.proofs.Common.{◌≤◌, sym, arith}
+use Rattle.theory.specs.Words.{laid_list, laid_pairs}
+use Rattle.theory.proofs.Words.{length_laid, holds_few}
+use Rattle.pairs.specs.Located.{place_in}
+use Rattle.pairs.proofs.Words.{holds_rising}
+use Rattle.lines.specs.Outcomes.{outcome_of}
+use Rattle.lines.proofs.Found.{handed_on}
+use Rattle.texts.proofs.Places.{
+  found_within,
+  found_there,
+  place_length,
+  file_refused,
+  first_refused,
+  second_refused,
+  modules_refused,
+  modules_placed,
+  refused_written,
+  text_written,
+}
+use Rattle.texts.proofs.neighbours.write_placed.Goals as goal
+use Rattle.texts.proofs.neighbours.write_placed.Goals.{After-lookup-place}
+
+pub returns-in_err-head : goal.returns-in_err-head
+unfolding outcome_of
+returns-in_err-head c = rw (handed_on c.from_residual.ensures.1) (refused_written (file_refused _ _ _ c.in_err-head.ensures.file.found))
+
+pub returns-in_err-a : goal.returns-in_err-a
+unfolding outcome_of
+returns-in_err-a c =
+    rw (handed_on c.from_residual-in_err-a.ensures.1) (refused_written (first_refused _ _ _ c.in_ok-head.ensures.file.found c.in_err-a.ensures))
+
+pub returns-in_err-b : goal.returns-in_err-b
+unfolding outcome_of
+returns-in_err-b c =
+    rw (handed_on c.from_residual-in_err-b.ensures.1)
+    (refused_written (second_refused _ _ _ c.in_ok-head.ensures.file.found c.in_ok-a.ensures c.in_err-b.ensures))
+
+pub returns-in_err-check_pair : goal.returns-in_err-check_pair
+unfolding outcome_of laid_list
+returns-in_err-check_pair c =
+    rw (handed_on c.from_residual-in_err-check_pair.ensures.1)
+    (refused_written
+    (modules_refused _ _ _ c.in_ok-head.ensures.file.found c.in_ok-a.ensures c.in_ok-b.ensures _ c.in_err-check_pair.ensures))
+
+pub lookup-place-requires : goal.lookup-place-requires
+lookup-place-requires c = holds_rising _ _ _ c.in_ok-head.ensures.held
+
+-- the place is among the M records, or behind them
+within : (c : After-lookup-place) → (place_in c.lookup-place.result).at ≤ c.in_ok-head.head.m
+within c = omega (arith, found_within _ _ c.lookup-place.ensures, length_laid c.in_ok-head.head.m c.read_words.new.words)
+
+pub write_place-requires-clause-at_le_m : goal.write_place-requires-clause-at_le_m
+write_place-requires-clause-at_le_m c =
+    omega (arith, within (goal.at.write_place-requires-clause-at_le_m c).After-lookup-place, c.in_words-list.ensures.pairs)
+
+pub write_place-requires-clause-room : goal.write_place-requires-clause-room
+write_place-requires-clause-room c =
+    let few = within (goal.at.write_place-requires-clause-room c).After-lookup-place in
+    let list = c.in_ok-head.ensures.held.listed in
+    let short = place_length (laid_list _ _ _) (place_in c.lookup-place.result) list (omega (arith, few, holds_few _ _ _ list)) in
+    rw c.in_words-list.ensures.value (omega (arith, short, c.requires))
+
+pub returns : goal.returns
+unfolding outcome_of laid_list
+returns c =
+    let is = found_there c.in_ok-a.a c.in_ok-b.b (laid_pairs c.in_ok-head.head.m c.read_words.new.words) c.min.ensures c.max.ensures c.lookup-place.ensures in
+    text_written
+    (modules_placed _ _ _ c.in_ok-head.ensures.file.found c.in_ok-a.ensures c.in_ok-b.ensures (sym c.in_ok-check_pair.ensures) is)
+    (rw c.in_words-list.ensures.value at c.write_place.ensures)
