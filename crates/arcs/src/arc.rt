@@ -17,13 +17,19 @@ pub struct Arcs<'a> {
 }
 
 impl<'a> Arcs<'a> {
-    // The arcs of module v; none where nothing is said of it. It has no contract by design: arcs are a hint, and which there are is free.
-    pub fn of(&self, v: usize) -> &'a [Arc] {
-        match *self.starts.get(v..).unwrap_or_default() {
-            [from, to, ..] => self
-                .arcs
-                .get(from as usize..to as usize)
-                .unwrap_or_default(),
+    ghost use Rattle.std.specs.Prelude.{◌≡◌};
+    ghost use Rattle.arcs.specs.Arcs.{arcs_of};
+
+    // The arcs of module v; none where the starts do not say where they lie.
+    #[tactic(auto, unfolding(crate::specs::Arcs::arcs_of))]
+    pub fn of(&self, v: usize) -> &'a [Arc]
+        ensures { result.now ≡ arcs_of self.now.starts.now self.now.arcs.now v }
+    {
+        let (starts, arcs) = (self.starts, self.arcs);
+        match starts.get(v..) {
+            Some([from, to, ..]) if from <= to && *to as usize <= arcs.len() => {
+                &arcs[*from as usize..*to as usize]
+            }
             _ => &[],
         }
     }

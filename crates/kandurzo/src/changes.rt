@@ -14,7 +14,7 @@ use refusals::Refusal;
 
 // The head of a list of n modules without pairs; refuses by 2.
 #[tactic(auto, using(lines::proofs::Found::handed_on, crate::proofs::Starting::started_refused, crate::proofs::Starting::started_done))]
-pub fn begun(n: u32) -> Result<Head, Refusal>
+pub(crate) fn begun(n: u32) -> Result<Head, Refusal>
     ensures { changed_of result record { n = 0; m = 0 } ≡ started n }
 {
     check_modules(n)?;
@@ -22,7 +22,7 @@ pub fn begun(n: u32) -> Result<Head, Refusal>
 }
 
 // The head after w stops more of the pair of a and b; refuses by 13, 5, 4, 18, 19, 11.
-pub fn added(head: Head, list: &mut [Pair], a: u32, b: u32, w: u32) -> Result<Head, Refusal>
+pub(crate) fn added(head: Head, list: &mut [Pair], a: u32, b: u32, w: u32) -> Result<Head, Refusal>
     ensures { AddSays head list.old a b w (changed_of result head) list.new }
 {
     let mut words = [0u32; 12288];
@@ -34,7 +34,7 @@ pub fn added(head: Head, list: &mut [Pair], a: u32, b: u32, w: u32) -> Result<He
 
 // The head after the pair of a and b has gone; refuses by 13, 5, 4, 14. The record freed comes back too: `added` and this function differ in the change
 // and in how many records come back, so a third one over a closure would be no plainer than the calls that both make.
-pub fn removed(head: Head, list: &mut [Pair], a: u32, b: u32) -> Result<Head, Refusal>
+pub(crate) fn removed(head: Head, list: &mut [Pair], a: u32, b: u32) -> Result<Head, Refusal>
     ensures { RemoveSays head list.old a b (changed_of result head) list.new }
 {
     let mut words = [0u32; 12288];
@@ -46,7 +46,7 @@ pub fn removed(head: Head, list: &mut [Pair], a: u32, b: u32) -> Result<Head, Re
 
 // Where the pair of a and b is held, or else where it would go; refuses by 13, 5, 4.
 #[tactic(auto, using(crate::proofs::Placings::place_rises, crate::proofs::Placings::place_few))]
-pub fn found(head: Head, list: &[Pair], a: u32, b: u32) -> Result<Result<u32, u32>, Refusal>
+pub(crate) fn found(head: Head, list: &[Pair], a: u32, b: u32) -> Result<Result<u32, u32>, Refusal>
     ensures { PlaceSays head list.now a b (placed_of result) }
 {
     let held = held(head, list)?;

@@ -25,7 +25,7 @@ fn read_in<F: Format>(bytes: &[u8], list: &mut [Pair], work: &mut [u32]) -> Resu
 
 // The same, and the work buffer is cleared; refuses by 12, which leaves it, and the file's own numbers.
 #[tactic(auto, using(on_words::proofs::Enough::read_enough))]
-pub fn read_as<F: Format>(
+pub(crate) fn read_as<F: Format>(
     bytes: &[u8],
     list: &mut [Pair],
     work: &mut [u32],
@@ -42,7 +42,7 @@ pub fn read_as<F: Format>(
 
 // The length of the list's file, written into the front of the text; refuses by 13, 12.
 #[tactic(auto, using(on_words::proofs::Enough::write_enough))]
-pub fn written(head: Head, list: &[Pair], text: &mut [u8]) -> Result<u32, Refusal>
+pub(crate) fn written(head: Head, list: &[Pair], text: &mut [u8]) -> Result<u32, Refusal>
     ensures { WriteCall head list.now text.old (written_of result) text.new }
 {
     let mut words = [0u32; 12288];

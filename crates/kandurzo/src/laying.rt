@@ -12,7 +12,7 @@ use records::{Head, Pair, copy_out};
 use refusals::Refusal;
 
 // Copies the held records to the words, where none of the lent buffers is short; refuses by 13, 12.
-pub fn lay_held(
+pub(crate) fn lay_held(
     head: Head,
     list: &[Pair],
     lent: &[Buffer],

@@ -17,7 +17,7 @@ use refusals::Refusal;
 
 // Leaving order and core numbers; refuses by 13, 12.
 #[tactic(auto, using(on_words::proofs::Enough::peel_enough))]
-pub fn peeled(
+pub(crate) fn peeled(
     head: Head,
     list: &[Pair],
     order: &mut [u16],
@@ -34,7 +34,7 @@ pub fn peeled(
 
 // Group, core numbers and load sheet; refuses by 13, 12.
 #[tactic(auto, using(on_words::proofs::Enough::solve_enough))]
-pub fn solved(
+pub(crate) fn solved(
     head: Head,
     list: &[Pair],
     members: &mut [u8],
@@ -52,7 +52,7 @@ pub fn solved(
 
 // The ratio of a group whose load sheet is right; refuses by 13, 12, 7, 8, 9.
 #[tactic(auto, using(on_words::proofs::Enough::check_enough))]
-pub fn checked(
+pub(crate) fn checked(
     head: Head,
     list: &[Pair],
     members: &[u8],
@@ -68,7 +68,7 @@ pub fn checked(
 
 // The surplus of the first group against the second; refuses by 13, 12, 7.
 #[tactic(auto, using(on_words::proofs::Enough::surplus_enough))]
-pub fn compared(head: Head, list: &[Pair], first: &[u8], second: &[u8]) -> Result<i64, Refusal>
+pub(crate) fn compared(head: Head, list: &[Pair], first: &[u8], second: &[u8]) -> Result<i64, Refusal>
     ensures { SurplusCall head list.now first.now second.now (difference_of result) }
 {
     let mut words = [0u32; 12288];
