@@ -68,7 +68,12 @@ pub(crate) fn checked(
 
 // The surplus of the first group against the second; refuses by 13, 12, 7.
 #[tactic(auto, using(on_words::proofs::Enough::surplus_enough))]
-pub(crate) fn compared(head: Head, list: &[Pair], first: &[u8], second: &[u8]) -> Result<i64, Refusal>
+pub(crate) fn compared(
+    head: Head,
+    list: &[Pair],
+    first: &[u8],
+    second: &[u8],
+) -> Result<i64, Refusal>
     ensures { SurplusCall head list.now first.now second.now (difference_of result) }
 {
     let mut words = [0u32; 12288];
