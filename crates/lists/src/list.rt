@@ -12,7 +12,7 @@ pub struct List<'a> {
 }
 
 impl<'a> List<'a> {
-    ghost use Rattle.std.specs.Prelude.{◌≡◌};
+    ghost use Rattle.std.specs.Prelude.{◌≡◌, ◌*◌, ◌+◌, ◌<◌, get_or};
     ghost use Rattle.theory.specs.Words.{laid_list, HoldsList};
     ghost use Rattle.lists.specs.Listed.{listed};
 
@@ -29,5 +29,13 @@ impl<'a> List<'a> {
             ends: words,
             weights: &words[8192..],
         }
+    }
+    // The two ends of pair j, the smaller first.
+    pub fn ends_of(&self, j: usize) -> (u32, u32)
+        requires { j < self.now.m }
+        ensures first { result.0 ≡ get_or self.now.ends.now (2 * j) 0 }
+        ensures second { result.1 ≡ get_or self.now.ends.now (2 * j + 1) 0 }
+    {
+        (self.ends[2 * j], self.ends[2 * j + 1])
     }
 }

@@ -10,11 +10,14 @@
 
 ghost use Rattle.std.specs.Prelude.{◌≡◌, true, ◌&&◌, ◌+◌, ◌*◌, leb, length};
 ghost use Rattle.theory.specs.Lists.{pair, stands_before, rising};
+ghost use Rattle.theory.specs.Words.{laid_list, HoldsList};
+ghost use Rattle.lists.specs.Listed.{listed};
 ghost use Rattle.pairs.specs.Located.{place_in, located};
 ghost use Rattle.records.specs.Records.{copied_record, word_record, copied_out, records_in, RoomAt, FitsAt, RoomOut, RoomBack, agrees};
 ghost use Rattle.records.specs.Records.{as_pair, as_pairs, blank};
 ghost use Rattle.records.specs.Scan.{may_follow, good_after};
 
+use lists::List;
 use pairs::search;
 
 // A record: two module numbers, the smaller first, and the pair's stop count.
@@ -69,6 +72,16 @@ impl Head {
         ensures { result ≡ ((leb 1 self.n && leb self.n 512) && leb self.m 4096) }
     {
         (1..=512).contains(&self.n) && self.m <= 4096
+    }
+
+    // The list of that many modules and pairs in one buffer.
+    pub fn list(self, words: &[u32]) -> List<'_>
+        requires { HoldsList self.n self.m words.now }
+        ensures modules { result.n ≡ self.n }
+        ensures pairs { result.m ≡ self.m }
+        ensures value { listed result ≡ laid_list self.n self.m words.now }
+    {
+        List::in_words(self.n as usize, self.m as usize, words)
     }
 }
 

@@ -3,7 +3,6 @@ use Rattle.std.proofs.Common.{refl}
 use borrow.Author.Rules.{part_to_end}
 use Rattle.theory.specs.Words.{counts_of, laid_list, laid_pairs, list_in}
 use Rattle.theory.proofs.Words.{holds_held}
-use Rattle.lists.specs.Listed.{listed}
 use Rattle.lists.proofs.list.List.in_words.Goals as goal
 
 pub invariant_of-result : goal.invariant_of-result
