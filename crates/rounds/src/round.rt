@@ -31,7 +31,7 @@ fn open_round(
 {
     let list = known.list;
     let ratio = known.ratio;
-    let old = last.map_or(0, |ratio| ratio.q);
+    let old = last.map(|ratio| ratio.q);
     groups::mark_at_least(ratio.rounded_up(), known.cores, scope);
     slots::spread(
         Graph::from(list),

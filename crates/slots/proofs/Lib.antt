@@ -5,7 +5,6 @@ pub mod Mates
 pub mod Held
 pub mod Words
 pub mod Moves
-pub mod Views
 pub mod Counting
 pub mod Linking
 pub mod Rows

@@ -1,7 +1,7 @@
 -- Units that move within a pair.
 --   moved_from, moved_to, moved_else, moved_at, length_moved    a list after d has moved
 --   shift_part, shift_fits, shift_keeps    d units from a slot to the pair's other slot: every pair keeps its units, and the loads follow
---   kept_none, kept_more            no move, and one after another
+--   kept_more                       one move after another
 --   kept_room, kept_covers, kept_loads    what stays true
 -- Assumes nothing.
 use mathlib.Core.Path.{◌≡◌, refl, sym, ap, ◌∙◌}
@@ -142,9 +142,6 @@ module _ (n m : ℕ) (ends hold load : List ℕ) (s d : ℕ) (e : Ends n m ends)
       })
 
 -- ---- what moves keep
-
-pub kept_none : (n m : ℕ) (ends hold load : List ℕ) → Kept n m ends hold load hold load
-kept_none n m ends hold load = record { hold_long = refl; load_long = refl; units = λ s h. refl; rest = λ s h. refl; loads = λ v h. refl }
 
 pub kept_more : {n m : ℕ} {ends hold load hold' load' hold'' load'' : List ℕ} → Kept n m ends hold load hold' load' →
     Kept n m ends hold' load' hold'' load'' → Kept n m ends hold load hold'' load''

@@ -4,7 +4,7 @@
 --   total_one                         two sums that differ at one place
 --   total_part, total_some            a part is at most the sum; a sum above 0 has a part above 0
 --   total_const, total_upto           at most k times the greatest part; a longer sum is no less
---   total_scale, total_sum, total_pairs    a sum of products, of sums; two parts at a time
+--   total_scale, total_pairs          a sum of products; two parts at a time
 -- Assumes nothing.
 use mathlib.Core.Path.{◌≡◌, refl, sym, ap}
 use mathlib.Core.Logic.{⊎_elim}
@@ -82,11 +82,6 @@ pub total_scale : (k q : ℕ) (f : ℕ → ℕ) → total k (λ j. f j * q) ≡ 
 unfolding total
 total_scale zero q f = omega arith
 total_scale (suc k) q f = omega (arith, total_scale k q f)
-
-pub total_sum : (k : ℕ) (f h : ℕ → ℕ) → total k (λ j. f j + h j) ≡ total k f + total k h
-unfolding total
-total_sum zero f h = omega arith
-total_sum (suc k) f h = omega (arith, total_sum k f h)
 
 -- two parts at a time
 pub total_pairs : (k : ℕ) (f : ℕ → ℕ) → total (2 * k) f ≡ total k (λ j. f (2 * j) + f (2 * j + 1))

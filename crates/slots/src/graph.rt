@@ -4,6 +4,7 @@ ghost use Rattle.slots.specs.Slots.{Ends};
 use lists::List;
 
 // n modules and m pairs of two different ones: slot s is an end of pair s / 2, and ends[s] its module.
+// (m stands beside `ends`, which may go on past the pairs, as lent buffers do: ends of 2m words and no more would ask callers to cut them.)
 #[derive(Clone, Copy)]
 pub struct Graph<'a> {
     pub n: usize,

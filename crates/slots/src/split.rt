@@ -1,4 +1,5 @@
 // Splits inside a scope of modules.
+// That q is 512 at most is a clause of each function: a type with that bound would ask more of who calls `spread`, and inside it would be longer.
 ghost use Rattle.std.specs.Prelude.{◌≡◌, ◌&&◌, cond, ◌*◌, ◌≤◌, ◌<◌, IfSome, eqb, length};
 ghost use Rattle.slots.specs.Slots.{Room, Own, Loads};
 ghost use Rattle.slots.specs.Split.{Weights, Split};
@@ -16,12 +17,12 @@ fn pair_units(w: u32, q: u32, a: u8, b: u8) -> u32
     pick_upto(a == 1 && b == 1, w * q, 524288)
 }
 
-// What units at share size `old` are at q, in 1,048,576ths; none where `old` is 0.
-fn scale_of(q: u32, old: u32) -> Option<u64>
+// What units at share size `old` are at q, in 1,048,576ths; none where there is no `old`, or it is 0.
+fn scale_of(q: u32, old: Option<u32>) -> Option<u64>
     requires { q ≤ 512 }
     ensures { IfSome result (λ scale. scale ≤ 536870912) }
 {
-    (u64::from(q) * 1048576).checked_div(u64::from(old))
+    (u64::from(q) * 1048576).checked_div(u64::from(old?))
 }
 
 // The part of u units that a pair's first end gets: x of them scaled, or half of them where there is no scale. At most all, else free.
@@ -36,13 +37,13 @@ fn first_part(u: u32, scale: Option<u64>, x: u32) -> u32
     ((u64::from(x) * scale + 524288) / 1048576).min(u64::from(u)) as u32
 }
 
-// A split at share size q inside the scope: near the one that hold has at share size `old`, or in halves where `old` is 0. And the loads: `load` has the
+// A split at share size q inside the scope: near the one that hold has at share size `old`, or in halves where there is none. And the loads: `load` has the
 // modules' own before, and all of them after. (Units would be no plainer here: its invariant holds only afterwards.)
 pub fn spread(
     graph: Graph,
     weights: &[u32],
     q: u32,
-    old: u32,
+    old: Option<u32>,
     scope: &[u8],
     hold: &mut [u32],
     load: &mut [u32],
