@@ -50,7 +50,7 @@ impl<'a> Cut<'a> {
             return None;
         }
         let s = if BACK { other(k) } else { k };
-        if self.leads(s) { Some(s) } else { None }
+        self.leads(s).then_some(s)
     }
 
     // The first slot that leads out, if one does. No slot does of a pair with both ends in the set or both outside it; else that of the end in the set may.

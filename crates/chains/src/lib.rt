@@ -7,8 +7,8 @@
 // Cost: a search takes a step for each arc of the modules that it reaches. Arcs (crate `arcs`) say where to look first; that nothing leads out of a
 // set is found by one scan over all pairs (`Cut::exit`). There are at most as many searches as units lie above p. Nothing is refused.
 // `as` stands where std has no `From`: from u32 to usize, and where a bound lets a number fit fewer bits.
-// That a graph has at most 512 modules, and how long a lent buffer is, are clauses where an array of 512 is indexed: a graph may have more, and an array in the
-// place of a slice would ask for more.
+// `graph.n ≤ 512` is asked here: `Units::shift`, `groups::inner` and `Cut::exit` take graphs of any size, so in `Graph` itself it would ask more of callers.
+// How long a lent slice is, is a clause, since a slice may be longer: an array in its place would ask more.
 #![tactic(auto)]
 
 mod counts;

@@ -1,4 +1,5 @@
 // Modules to be looked at, first come, first served.
+// (push has a queue of its own, with limited places, which leaves out who finds none: one type for both would promise less here, or ask for room there.)
 ghost use Rattle.std.specs.Prelude.{◌≡◌, ◌+◌, ◌<◌, ◌≤◌, length, slice_index, slice_set, cond, IfSome, IfNone};
 
 // The first `tail` entries of `modules` have come, and the first `at` of them were looked at.

@@ -48,6 +48,7 @@ pub fn group_size(group: &[u8]) -> u32
 }
 
 // The group of the modules whose entry among `numbers` is k or more: of core numbers the core of order k, of layer numbers all from layer k on.
+// (By an index: tried by `iter_mut().zip(..)`, of whose writes a proof knows nothing afterwards.)
 #[tactic(auto, unfolding(theory::specs::Basics::mark))]
 pub fn mark_at_least(k: u32, numbers: &[u32], group: &mut [u8])
     requires { length group.old ≤ length numbers.now }

@@ -75,8 +75,8 @@ fn number(order: &[u32], finals: &[u32], cores: &mut [u32], place: &mut [u32])
     ensures { Numbered (length order.now) order.now finals.now cores.old place.old cores.new place.new }
 {
     let mut top = 0u32;
-    for i in 0..order.len() {
-        let v = order[i] as usize;
+    for (i, &module) in order.iter().enumerate() {
+        let v = module as usize;
         top = top.max(finals[i]);
         cores[v] = top;
         place[v] = i as u32;
