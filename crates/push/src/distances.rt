@@ -1,5 +1,5 @@
 // A phase's first labels: a module's distance from one of the scope loaded below p, along slots that hold units. Found breadth first, backward.
-ghost use Rattle.std.specs.Prelude.{◌≤◌, length};
+ghost use Rattle.std.specs.Prelude.{◌≡◌, ◌≤◌, length};
 
 use crate::labels::{FAR, next_label};
 use crate::queue::Queue;
@@ -34,6 +34,7 @@ fn can_come(units: &Units, arc: Arc) -> bool {
 // Everyone who has a pair with a module labelled just below d and holds units of it gets label d and joins the queue, if it is far.
 fn label_neighbours(units: &Units, arcs: &[Arc], d: u32, label: &mut [u32], reached: &mut Queue)
     requires { 512 ≤ length label.old }
+    ensures { reached.new.at ≡ reached.old.at }
 {
     for arc in arcs {
         let e = usize::from(arc.end);
@@ -58,10 +59,7 @@ pub(crate) fn label_all(
     requires label_long { 512 ≤ length label.old }
 {
     label_sinks(units, p, scope, label, reached);
-    for i in 0..reached.room() {
-        let Some(v) = reached.get(i) else {
-            break;
-        };
+    while let Some(v) = reached.next() {
         let d = next_label(label[v]);
         label_neighbours(units, arcs.of(v), d, label, reached);
     }

@@ -62,7 +62,7 @@ pub fn phases(
     requires in_bounds { (512 ≤ length units.old.load.now) × (512 ≤ length label.old) }
     ensures { UnitsKept units.old units.new }
 {
-    let mut places = [0u16; 512];
+    let mut places = [0u16; 640];
     for _ in 0..most {
         if !any_active(units, p) {
             return false;

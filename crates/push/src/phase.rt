@@ -1,5 +1,5 @@
 // A phase: active modules, those loaded above p, send units to modules with a lower label (push), and get a higher label where that is not enough (relabel).
-ghost use Rattle.std.specs.Prelude.{◌*◌, ◌<◌, ◌≤◌, length};
+ghost use Rattle.std.specs.Prelude.{◌≤◌, length};
 ghost use Rattle.slots.specs.Views.{UnitsKept};
 
 use crate::labels::{FAR, Labels};
@@ -34,15 +34,17 @@ pub(crate) fn run_phase(units: &mut Units, arcs: Arcs, p: u32, reached: &Queue, 
 }
 
 impl<'a> Phase<'a> {
+    ghost use Rattle.std.specs.Prelude.{◌≡◌, ◌*◌, ◌<◌, ◌≤◌, length};
+    ghost use Rattle.slots.specs.Views.{UnitsKept};
+
     // Of those reached, the active ones are queued, the farthest first; and all of them are counted by their labels.
     fn begin(&mut self, units: &Units, reached: &Queue)
         requires { 512 ≤ length units.now.load.now }
     {
-        for i in (0..reached.len()).rev() {
-            if let Some(v) = reached.get(i) {
-                self.labels.count(v);
-                self.active.join(v, self.p < units.load[v]);
-            }
+        for v in reached.joined().iter().rev() {
+            let v = usize::from(*v);
+            self.labels.count(v);
+            self.active.join(v, self.p < units.load[v]);
         }
     }
 
@@ -52,7 +54,8 @@ impl<'a> Phase<'a> {
         requires v_bound { v < 512 }
         requires s_bound { arc.slot < 2 * units.old.graph.m }
         requires load_long { 512 ≤ length units.old.load.now }
-        ensures { UnitsKept units.old units.new }
+        ensures kept { UnitsKept units.old units.new }
+        ensures at { self.new.active.at ≡ self.old.active.at }
     {
         let s = usize::from(arc.slot);
         let e = usize::from(arc.end);
@@ -69,7 +72,8 @@ impl<'a> Phase<'a> {
         requires v_bound { v < 512 }
         requires from_bound { from ≤ length arcs.now }
         requires load_long { 512 ≤ length units.old.load.now }
-        ensures { UnitsKept units.old units.new }
+        ensures kept { UnitsKept units.old units.new }
+        ensures at { self.new.active.at ≡ self.old.active.at }
     {
         let d = self.labels.of(v);
         let mut low = FAR;
@@ -93,7 +97,8 @@ impl<'a> Phase<'a> {
     fn discharge(&mut self, units: &mut Units, v: usize, arcs: &[Arc])
         requires v_bound { v < 512 }
         requires load_long { 512 ≤ length units.old.load.now }
-        ensures { UnitsKept units.old units.new }
+        ensures kept { UnitsKept units.old units.new }
+        ensures at { self.new.active.at ≡ self.old.active.at }
     {
         let from = self.labels.passed(v).min(arcs.len());
         if let Some(low) = self.push_from(units, v, from, arcs) {
@@ -108,10 +113,7 @@ impl<'a> Phase<'a> {
         requires { 512 ≤ length units.old.load.now }
         ensures { UnitsKept units.old units.new }
     {
-        for i in 0..self.active.room() {
-            let Some(v) = self.active.get(i) else {
-                return;
-            };
+        while let Some(v) = self.active.next() {
             self.discharge(units, v, arcs.of(v));
         }
     }
