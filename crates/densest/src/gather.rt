@@ -33,9 +33,8 @@ fn keep_at_least(k: u32, cores: &[u32], kept: &mut [u32])
     requires { length cores.now ≤ length kept.old }
     ensures { (v : ℕ) → v < length cores.now → slice_index kept.new v ≡ (if nat_le k (slice_index cores.now v) then slice_index cores.now v else 0) }
 {
-    for v in 0..cores.len() {
-        let number = cores[v];
-        kept[v] = if k <= number { number } else { 0 };
+    for (kept, &number) in kept.iter_mut().zip(cores) {
+        *kept = if k <= number { number } else { 0 };
     }
 }
 

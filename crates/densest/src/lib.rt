@@ -5,6 +5,7 @@
 // modules or more, the rounds go over the pairs inside it only (`gather`). The units that the last round leaves make the load sheet (`sheet`).
 // Cost: peeling, and a few rounds over the core's pairs; ratios rise from round to round, so the rounds end. Nothing is refused, and 15 never comes.
 // `as` stands where std has no `From`: from u32 to usize, and where a bound lets a number fit fewer bits.
+// That a list lies in the words (`HoldsList`) is a clause each time: words and numbers are lent by the call, each by itself, and what the words hold changes.
 #![tactic(auto)]
 
 mod gather;
@@ -33,7 +34,7 @@ pub struct Solution {
     pub searches: Searches,
 }
 
-// Solve, where there are exactly a byte for each module and a share for each pair; `core` and `scope` are for its use. (The
+// Solve, where there are exactly a byte for each module and a share for each pair; `core` and `scope` are for its use. (The other
 // buffers are those that the call lends, each by itself.)
 #[tactic(auto, using(theory::proofs::Words::holds_few))]
 fn solve_in(

@@ -5,7 +5,7 @@ ghost use Rattle.densest.specs.Gather.{Unpacks, Written};
 use crate::packing::PackedPair;
 
 // The load sheet, in the place of the pairs, which stand packed there: pairs inside the scope as their slots hold it, the others wholly with the end that
-// left first. `hold` has the units of the pairs inside `core`.
+// left first. `hold` has the units of the pairs inside `core`. (i is a pair's number among these: it goes on by 0 or 1, so that no branch goes by chance.)
 pub(crate) fn write_shares(
     q: u32,
     core: &[u8],

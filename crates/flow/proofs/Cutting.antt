@@ -1,4 +1,5 @@
 -- Closed sets, counted: what makes the promise of specs/Flow.antt of what search and drain find.
+--   Marked, marked_at               a set as bytes, and as groups' mark_at_least leaves it
 --   marked_good, marked_on, marked_closed    the bytes of a closed set
 --   closed_staying                  all the load of a closed set stays in it
 --   stuck_denser                    a stuck set is denser
@@ -6,7 +7,9 @@
 --   drained_largest                 so what stays is the largest
 --   flowed_good, flowed_bad         the promise, kept one way or the other
 -- Assumes nothing.
-use Rattle.std.proofs.Common.{◌≡◌, refl, sym, ap, ◌∙◌, subst, Bool, true, false, ◌&&◌, cond, List, ◌⊎◌, inl, inr, ⊎_elim, ℕ, zero, suc, ◌+◌, ◌*◌, ◌/◌, ◌≤◌, ◌<◌, arith, eqb, length, get_or, eqb-true, eq-eqb}
+use Rattle.std.proofs.Common.{◌≡◌, refl, sym, ap, ◌∙◌, subst, Bool, true, false, ◌&&◌, cond, List, ◌⊎◌, inl, inr, ⊎_elim, ℕ, zero, suc, ◌+◌, ◌*◌, ◌/◌, ◌≤◌, ◌<◌, arith, leb, eqb, length, get_or, eqb-true, eq-eqb}
+use Rattle.std.proofs.lemmas.Bool.Decides.{nat_tests}
+use Rattle.theory.specs.Basics.{mark}
 use Rattle.theory.specs.Groups.{is_in, bytes_good}
 use Rattle.theory.proofs.Tests.{no, fails}
 use Rattle.theory.proofs.Sums.{over, over_const, byte_le}
@@ -21,9 +24,23 @@ use Rattle.slots.proofs.Counting.{held_of, over_most, over_more, loads_over, pai
 use Rattle.chains.specs.Search.{leads, Closed, Stuck}
 use Rattle.chains.proofs.Leads.{leads_facts, leads_of, closed_empty}
 use Rattle.flow.specs.Flow.{Tight, Denser, Largest, Flowed}
-use Rattle.flow.specs.Drain.{Drained, Marked}
+use Rattle.flow.specs.Drain.{Drained}
 
 -- ---- a set as bytes
+
+pub record Marked (n : ℕ) (rank group : List ℕ) : Type 0 where
+  pub long : length group ≡ n
+  pub yes : (v : ℕ) → v < n → 0 < get_or rank v 0 → get_or group v 0 ≡ 1
+  pub no : (v : ℕ) → v < n → get_or rank v 0 ≡ 0 → get_or group v 0 ≡ 0
+
+pub marked_at : {n : ℕ} {rank group : List ℕ} → length group ≡ n → ((v : ℕ) → v < n → get_or group v 0 ≡ mark (leb 1 (get_or rank v 0))) →
+    Marked n rank group
+unfolding mark
+marked_at long marks = record {
+  long = long;
+  yes = λ v h up. grind (arith, nat_tests, marks v h);
+  no = λ v h down. grind (arith, nat_tests, marks v h);
+}
 
 module _ {n : ℕ} {rank t : List ℕ} (k : Marked n rank t) where
   marked_bit : (v : ℕ) → v < n → ((0 < get_or rank v 0) × (get_or t v 0 ≡ 1)) ⊎ ((get_or rank v 0 ≡ 0) × (get_or t v 0 ≡ 0))

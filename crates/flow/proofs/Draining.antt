@@ -3,18 +3,18 @@
 --   drain_start_next                                       one module more
 --   drains_more                                            some drain, and then others
 --   release_room, release_count, release_drains            the module of a slot that leads out drains
---   Draining, draining_start, draining_on                  all of it
+--   Draining, draining_on                                  all of it
 -- Assumes nothing.
-use Rattle.std.proofs.Common.{◌≡◌, refl, sym, ap, ◌∙◌, Bool, true, false, ◌&&◌, cond, List, ⊎_elim, ℕ, ◌+◌, ◌≤◌, ◌<◌, arith, leb, ltb, eqb, length, get_or, set, get_or-set_same, get_or-set_other, length-set}
+use Rattle.std.proofs.Common.{◌≡◌, sym, ap, ◌∙◌, Bool, true, ◌&&◌, cond, List, ⊎_elim, ℕ, ◌+◌, ◌≤◌, ◌<◌, arith, leb, ltb, eqb, length, get_or, set, get_or-set_same, get_or-set_other, length-set}
 use Rattle.std.proofs.lemmas.Bool.Decides.{nat_tests}
 use Rattle.theory.specs.Groups.{is_in}
-use Rattle.theory.proofs.Tests.{tests, no}
+use Rattle.theory.proofs.Tests.{no}
 use Rattle.slots.specs.Slots.{mate}
 use Rattle.slots.proofs.Choice.{eq_or_ne, lt_or_le, stored_more}
 use Rattle.chains.specs.Search.{zeros, Closed}
 use Rattle.chains.proofs.Leads.{leads_of, LeadsOut}
 use Rattle.chains.proofs.Zeros.{is_zero, zeros_down, zeros_low, zeros_next}
-use Rattle.flow.specs.Drain.{DrainStart, Released, Drains}
+use Rattle.flow.specs.Drain.{Released, Drains}
 
 -- ---- the start
 
@@ -104,21 +104,6 @@ pub record Draining (n m p : ℕ) (scope ends hold load rank : List ℕ) : Type 
   pub inside : (v : ℕ) → v < n → 0 < get_or rank v 0 → (is_in scope v ≡ true) × (p ≤ get_or load v 0)
   pub all : (t : List ℕ) → Closed m ends hold t → ((v : ℕ) → v < n → 0 < get_or t v 0 → (is_in scope v ≡ true) × (p ≤ get_or load v 0)) →
       (v : ℕ) → v < n → 0 < get_or t v 0 → 0 < get_or rank v 0
-
-bit_on : (b : Bool) → 0 < cond b 1 0 → b ≡ true
-bit_on true h = refl
-bit_on false h = absurd (omega arith)
-
-on_bit : (b : Bool) → b ≡ true → 0 < cond b 1 0
-on_bit true h = omega arith
-on_bit false h = no h
-
-pub draining_start : {n m p : ℕ} {scope ends hold load rank queue : List ℕ} {tail : ℕ} → DrainStart n p scope load rank queue tail →
-    Draining n m p scope ends hold load rank
-draining_start {n} {m} {p} {scope} {ends} {hold} {load} {rank} l = record {
-  inside = λ v h b. simp tests at (bit_on (is_in scope v && leb p (get_or load v 0)) (rw (l.ranks v h) at b));
-  all = λ t c f v h b. rw (l.ranks v h) (on_bit (is_in scope v && leb p (get_or load v 0)) (simp tests (f v h b)));
-}
 
 pub draining_on : {n m p : ℕ} {scope ends hold load rank queue : List ℕ} {tail : ℕ} {rank' queue' : List ℕ} {tail' : ℕ} →
     Draining n m p scope ends hold load rank → Drains n m ends hold rank queue tail rank' queue' tail' → Draining n m p scope ends hold load rank'

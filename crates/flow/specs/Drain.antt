@@ -4,9 +4,8 @@
 --   DrainStart                   who stays at the start
 --   Released, Drains              one module drains; any number do
 --   Drained                       who stays at the end
---   Marked                        a set as bytes
 -- Assumes nothing: these are definitions.
-use Rattle.std.specs.Prelude.{◌≡◌, true, ◌&&◌, cond, List, ℕ, ◌+◌, ◌≤◌, ◌<◌, leb, length, get_or, set}
+use Rattle.std.specs.Prelude.{◌≡◌, true, ◌&&◌, cond, List, ℕ, ◌+◌, ◌≤◌, ◌<◌, leb, get_or, set}
 use Rattle.theory.specs.Groups.{is_in}
 use Rattle.chains.specs.Search.{zeros, Closed}
 
@@ -36,9 +35,3 @@ pub record Drained (n m p : ℕ) (scope ends hold load rank : List ℕ) : Type 0
   pub shut : Closed m ends hold rank
   pub all : (t : List ℕ) → Closed m ends hold t → ((v : ℕ) → v < n → 0 < get_or t v 0 → (is_in scope v ≡ true) × (p ≤ get_or load v 0)) →
       (v : ℕ) → v < n → 0 < get_or t v 0 → 0 < get_or rank v 0
-
--- a set as bytes
-pub record Marked (n : ℕ) (rank group : List ℕ) : Type 0 where
-  pub long : length group ≡ n
-  pub yes : (v : ℕ) → v < n → 0 < get_or rank v 0 → get_or group v 0 ≡ 1
-  pub no : (v : ℕ) → v < n → get_or rank v 0 ≡ 0 → get_or group v 0 ≡ 0

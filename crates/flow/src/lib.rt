@@ -7,34 +7,22 @@
 // what stays is the largest set loaded p throughout. Push phases (crate `push`) leave little to search: they go before, in the caller, and the promise does
 // not depend on them.
 // Cost: the searches for chains, a step for each arc of the modules that drain, and scans over all pairs for who else does. Nothing is refused.
-// That a graph has at most 512 modules, and how long a lent buffer is, are clauses where an array of 512 is indexed: a graph may have more, and an array in the
-// place of a slice would ask for more.
+// That n ≤ 512, and how long lent buffers are, are clauses: an invariant of `Graph`, or arrays for slices, would ask more of who calls public functions.
 #![tactic(auto)]
 
 mod drain;
 mod staying;
 
-ghost use Rattle.std.specs.Prelude.{◌≡◌, List, ℕ, ◌≤◌, ◌<◌, length};
+ghost use Rattle.std.specs.Prelude.{◌≡◌, List, ℕ, ◌≤◌, length};
 ghost use Rattle.slots.specs.Slots.{Loads};
 ghost use Rattle.slots.specs.Views.{UnitsSame};
 ghost use Rattle.flow.specs.Flow.{Flowed};
-ghost use Rattle.flow.specs.Drain.{Marked};
 
 use arcs::Arcs;
 use chains::settle;
 pub use chains::{Ended, Searches};
 use drain::drain;
 use slots::Units;
-
-// The modules with a rank, as bytes.
-fn mark(rank: &[u32], group: &mut [u8])
-    requires { length group.old ≤ length rank.now }
-    ensures { Marked (length group.old) rank.now group.new }
-{
-    for (v, byte) in group.iter_mut().enumerate() {
-        *byte = u8::from(rank[v] > 0);
-    }
-}
 
 // Settled: units lie in hold so that no load is above p, and `group` is the largest tight set inside the scope. Else more than p a module stays in
 // `group`. That holds for whatever loads modules have of their own, if `load` is their loads; afterwards `load` is free.
@@ -51,6 +39,6 @@ pub fn flow(units: &mut Units, arcs: Arcs, p: u32, scope: &[u8], group: &mut [u8
     if split.settled {
         drain(units, arcs, p, scope, &mut rank);
     }
-    mark(&rank, group);
+    groups::mark_at_least(1, &rank, group);
     split
 }

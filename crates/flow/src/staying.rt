@@ -14,7 +14,8 @@ fn stays(p: u32, s: u8, x: u32) -> u32
     u32::from(s == 1 && p <= x)
 }
 
-// rank[v] is above 0 where module v stays so far; the ranks are lent. `queue` has modules that drained: whoever holds units of a pair with one of them drains too.
+// rank[v] is above 0 where module v stays so far; the ranks are lent. `queue` has modules that drained: whoever holds units of a pair with one of them drains
+// too. (Units stand beside it, not in it: whoever takes it by `&mut` would have to say that they are the same ones afterwards.)
 #[derive(Drop)]
 pub(crate) struct Staying<'a> {
     pub rank: &'a mut [u32],

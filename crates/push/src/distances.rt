@@ -13,10 +13,9 @@ fn first_label(p: u32, s: u8, x: u32) -> u32 {
 }
 
 // Modules of the scope loaded below p, the sinks, are queued.
-fn label_sinks(units: &Units, p: u32, scope: &[u8], label: &mut [u32], reached: &mut Queue)
+fn label_sinks(units: &Units, p: u32, scope: &[u8], label: &mut [u32; 512], reached: &mut Queue)
     requires n_bound { units.now.graph.n ≤ 512 }
     requires scope_long { units.now.graph.n ≤ length scope.now }
-    requires label_long { 512 ≤ length label.old }
 {
     for v in (0..units.graph.n).rev() {
         let x = units.load[v];
@@ -32,8 +31,13 @@ fn can_come(units: &Units, arc: Arc) -> bool {
 }
 
 // Everyone who has a pair with a module labelled just below d and holds units of it gets label d and joins the queue, if it is far.
-fn label_neighbours(units: &Units, arcs: &[Arc], d: u32, label: &mut [u32], reached: &mut Queue)
-    requires { 512 ≤ length label.old }
+fn label_neighbours(
+    units: &Units,
+    arcs: &[Arc],
+    d: u32,
+    label: &mut [u32; 512],
+    reached: &mut Queue,
+)
     ensures { reached.new.at ≡ reached.old.at }
 {
     for arc in arcs {
@@ -51,12 +55,11 @@ pub(crate) fn label_all(
     arcs: Arcs,
     p: u32,
     scope: &[u8],
-    label: &mut [u32],
+    label: &mut [u32; 512],
     reached: &mut Queue,
 )
     requires n_bound { units.now.graph.n ≤ 512 }
     requires scope_long { units.now.graph.n ≤ length scope.now }
-    requires label_long { 512 ≤ length label.old }
 {
     label_sinks(units, p, scope, label, reached);
     while let Some(v) = reached.next() {

@@ -9,7 +9,8 @@ use slots::Units;
 pub const FAR: u32 = 512;
 
 // Each module's label, how many of those reached have each label, and how many of its arcs each module has passed (its current arc).
-// (An array of structs would be a copy: the labels are the caller's words.)
+// (An array of structs would be a copy: the labels are the caller's words. As `&mut [u32; 512]` the fields were tried: the borrow checker does not cover
+// reading an element of such an array through `&self`.)
 #[derive(Drop)]
 pub(crate) struct Labels<'a> {
     label: &'a mut [u32],
@@ -26,18 +27,14 @@ pub(crate) fn next_label(x: u32) -> u32 {
 }
 
 impl<'a> Labels<'a> {
-    ghost use Rattle.std.specs.Prelude.{◌≤◌, ◌<◌, ◌*◌, length};
+    ghost use Rattle.std.specs.Prelude.{◌≤◌, ◌<◌, ◌*◌};
 
     // Labels as they are: none counted, and no arc passed.
     pub(crate) fn new(
-        label: &'a mut [u32],
-        sizes: &'a mut [u16],
-        passed: &'a mut [u16],
-    ) -> Labels<'a>
-        requires label_long { 512 ≤ length label.old }
-        requires sizes_long { 512 < length sizes.old }
-        requires passed_long { 512 ≤ length passed.old }
-    {
+        label: &'a mut [u32; 512],
+        sizes: &'a mut [u16; 513],
+        passed: &'a mut [u16; 512],
+    ) -> Labels<'a> {
         sizes.fill(0);
         passed.fill(0);
         Labels {

@@ -8,8 +8,8 @@
 // Whatever the labels say, units move within pairs only (`Units::shift`): the promise is that a split stays a split. How well it is balanced is free.
 // Cost: a phase takes a step for each slot of the modules that it labels and of those that come up in the queue. Nothing is refused.
 // `as` stands where std has no `From`: from u32 to usize, and where a bound lets a number fit fewer bits.
-// That a graph has at most 512 modules, and how long a lent buffer is, are clauses where an array of 512 is indexed: a graph may have more, and an array in the
-// place of a slice would ask for more.
+// That n ≤ 512, and how long lent buffers are, are clauses: an invariant of `Graph`, or arrays for slices, would ask more of who calls public functions.
+// So is `UnitsKept`, of whatever moves units: it is said of them before and after, which no type can.
 #![tactic(auto)]
 
 mod distances;
@@ -35,7 +35,7 @@ fn any_active(units: &Units, p: u32) -> bool {
 }
 
 // Whether the far modules have half or more of what lies above p, and some. (It only guides: a sum that did not fit would wrap.)
-fn mostly_stuck(units: &Units, p: u32, label: &[u32]) -> bool {
+fn mostly_stuck(units: &Units, p: u32, label: &[u32; 512]) -> bool {
     let mut all = 0u32;
     let mut stuck = 0u32;
     for (x, d) in units.load[..units.graph.n].iter().zip(label) {
@@ -48,7 +48,8 @@ fn mostly_stuck(units: &Units, p: u32, label: &[u32]) -> bool {
 
 // At most `most` phases, as long as a module is loaded above p. True where they ended because most of what lies above p
 // is stuck: `label` is FAR then for the modules of the scope from which nothing can go. How well they balance the loads is free, and so is `label`: whatever
-// moves, it moves within pairs.
+// moves, it moves within pairs. (An Option of the labels would be no plainer: they are words of the caller's, and a hint either way.)
+#[tactic(auto, using(slots::proofs::Views::units_more))]
 pub fn phases(
     units: &mut Units,
     arcs: Arcs,
@@ -62,6 +63,7 @@ pub fn phases(
     requires in_bounds { (512 ≤ length units.old.load.now) × (512 ≤ length label.old) }
     ensures { UnitsKept units.old units.new }
 {
+    let label = label.first_chunk_mut().unwrap();
     let mut places = [0u16; 640];
     for _ in 0..most {
         if !any_active(units, p) {

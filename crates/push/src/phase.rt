@@ -16,9 +16,14 @@ pub(crate) struct Phase<'a> {
 }
 
 // One phase at the bound p, with labels as `label_all` leaves them.
-pub(crate) fn run_phase(units: &mut Units, arcs: Arcs, p: u32, reached: &Queue, label: &mut [u32])
-    requires load_long { 512 ≤ length units.old.load.now }
-    requires label_long { 512 ≤ length label.old }
+pub(crate) fn run_phase(
+    units: &mut Units,
+    arcs: Arcs,
+    p: u32,
+    reached: &Queue,
+    label: &mut [u32; 512],
+)
+    requires { 512 ≤ length units.old.load.now }
     ensures { UnitsKept units.old units.new }
 {
     let mut sizes = [0u16; 513];

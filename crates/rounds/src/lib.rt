@@ -5,8 +5,7 @@
 // what does not drain is the found group. The split search (crate `flow`) decides, and of it only the promise is known; of what balances units before it
 // (crate `push`), that they move within pairs (`round`). The caller has the core numbers, and a ratio that some group reaches (`Known`).
 // Cost: a few rounds, each some passes over the pairs and what its searches cost; ratios rise from round to round, so the rounds end. Nothing is refused.
-// That a graph has at most 512 modules, and how long a lent buffer is, are clauses where an array of 512 is indexed: a graph may have more, and an array in the
-// place of a slice would ask for more.
+// That n ≤ 512, and how long lent buffers are, are clauses: an invariant of `Graph`, or arrays for slices, would ask more of who calls public functions.
 #![tactic(auto)]
 
 mod hints;

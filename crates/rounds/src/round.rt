@@ -97,7 +97,9 @@ fn count(list: List, group: &[u8]) -> Ratio
     }
 }
 
-// Push phases; where they get stuck, the modules that no unit can leave, counted, if they are denser than the ratio at hand.
+// Push phases; where they get stuck, the modules that no unit can leave, counted, if they are denser than the ratio at hand. (A struct of the six that this and
+// `decide` take would hold units and group by `&mut`: each would have to say that they are the same ones afterwards, and that known and scope are. That the
+// units are such as the round opened with is said of three values, of which none holds another.)
 fn balance(
     known: Known,
     phases: usize,
