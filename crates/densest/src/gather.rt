@@ -28,13 +28,13 @@ fn mark_core(k: u32, cores: &[u32], core: &mut [u8]) -> u32
     0
 }
 
-// The core numbers that are k or more, and 0 for the others.
+// The core numbers that are k or more, and 0 for the others. (A zip with `kept.iter_mut()` was tried: of what that wrote no proof knows more than the length.)
 fn keep_at_least(k: u32, cores: &[u32], kept: &mut [u32])
     requires { length cores.now ≤ length kept.old }
     ensures { (v : ℕ) → v < length cores.now → slice_index kept.new v ≡ (if nat_le k (slice_index cores.now v) then slice_index cores.now v else 0) }
 {
-    for (kept, &number) in kept.iter_mut().zip(cores) {
-        *kept = if k <= number { number } else { 0 };
+    for (v, &number) in cores.iter().enumerate() {
+        kept[v] = if k <= number { number } else { 0 };
     }
 }
 
