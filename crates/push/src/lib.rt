@@ -49,7 +49,7 @@ fn mostly_stuck(units: &Units, p: u32, label: &[u32; 512]) -> bool {
 // At most `most` phases, as long as a module is loaded above p. True where they ended because most of what lies above p
 // is stuck: `label` is FAR then for the modules of the scope from which nothing can go. How well they balance the loads is free, and so is `label`: whatever
 // moves, it moves within pairs. (An Option of the labels would be no plainer: they are words of the caller's, and a hint either way.)
-#[tactic(auto, using(slots::proofs::Views::units_more))]
+#[tactic(auto, using(slots::proofs::Moves::kept_more))]
 pub fn phases(
     units: &mut Units,
     arcs: Arcs,
