@@ -51,8 +51,6 @@ pub(crate) fn found(head: Head, list: &[Pair], a: u32, b: u32) -> Result<Result<
 {
     let held = held(head, list)?;
     check_pair(0, head.n, a, b)?;
-    Ok(match lookup(held, a.min(b), a.max(b)) {
-        Ok(at) => Ok(at as u32),
-        Err(at) => Err(at as u32),
-    })
+    let place = lookup(held, a.min(b), a.max(b));
+    Ok(place.map(|at| at as u32).map_err(|at| at as u32))
 }

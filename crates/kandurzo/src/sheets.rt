@@ -8,7 +8,7 @@ ghost use Rattle.kandurzo.specs.Judging.{CheckCall, SurplusCall};
 
 use crate::laying::lay_held;
 use numbers::Ratio;
-use on_words::Solved;
+use on_words::Solution;
 use on_words::judging::{check_buffers, check_on_words, surplus_buffers, surplus_on_words};
 use on_words::peeling::{peel_buffers, peel_on_words};
 use on_words::solving::{solve_buffers, solve_on_words};
@@ -41,7 +41,7 @@ pub(crate) fn solved(
     cores: &mut [u32],
     shares: &mut [u32],
     work: &mut [u32],
-) -> Result<Solved, Refusal>
+) -> Result<Solution, Refusal>
     ensures { SolveCall head list.now members.old cores.old shares.old work.old (solved_of result)
         members.new cores.new shares.new work.new }
 {

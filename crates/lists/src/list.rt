@@ -1,7 +1,8 @@
 // A list of n modules and m pairs, in words.
 ghost use Rattle.theory.specs.Words.{HeldWords};
 
-// Pair j has its ends at words 2j and 2j + 1 of `ends`, the smaller module first, and its stop count at word j of `weights`.
+// Pair j has its ends at words 2j and 2j + 1 of `ends`, the smaller module first, and its stop count at word j of `weights`. (Both may go on behind the m
+// pairs: they are parts of lent buffers, or of an array, with room for more.)
 #[derive(Clone, Copy)]
 pub struct List<'a> {
     pub n: usize,

@@ -24,7 +24,6 @@ impl Ratio {
 
     // p over q as a float, rounded once: a float holds both numbers exactly.
     pub fn to_float(self) -> f64
-        requires { 1 ≤ self.q }
         ensures { result ≡ float_ratio self.p self.q }
     {
         f64::from(self.p) / f64::from(self.q)

@@ -1,7 +1,6 @@
 -- What solve works on and has found, and what it hands out.
 --   front_holds, front_list    the work buffer's first 12,288 words hold the list that it holds
---   some_modules     the found group has a module
---   handed           with the float this is what solve hands out
+--   handed           this is what solve hands out
 --   found_front      the found group's bytes are read back from the front
 -- Assumes nothing.
 use mathlib.Core.Path.{◌≡◌, refl, sym, ◌∙◌}
@@ -23,9 +22,8 @@ use Rattle.theory.proofs.Best.{found_outright, found_length}
 use Rattle.densest.specs.declared.Solution.{Solution}
 use Rattle.densest.specs.Solve.{Solves}
 use Rattle.densest.proofs.Lent.{alike_list, alike_holds}
-use Rattle.on_words.specs.declared.Solved.{Solved}
 use Rattle.on_words.specs.Buffers.{in_front}
-use Rattle.on_words.specs.Solving.{Handed}
+use Rattle.on_words.specs.Solving.{Handed, answered}
 use Rattle.on_words.proofs.Peels.{cores_in_front}
 
 module _ (n m : ℕ) (w : List ℕ) (holds : HoldsList n m w) where
@@ -38,11 +36,6 @@ module _ (n m : ℕ) (w : List ℕ) (holds : HoldsList n m w) where
   pub front_list : laid_list n m (take 12288 w) ≡ laid_list n m w
   front_list = alike_list n m w (take 12288 w) holds front_same
 
-module _ (g : Pairs) (members cores shares members' cores' shares' : List ℕ) (r : Solution) (s : Solves g members cores shares members' cores' shares' r) where
-  pub some_modules : 1 ≤ r.ratio.q
-  unfolding is_split
-  some_modules = (simp tests at s.solved.optimal.is_a_split).0
-
 module _ (g : Pairs) (held : is_list g ≡ true) (members cores shares members' cores' shares' : List ℕ) (r : Solution)
     (s : Solves g members cores shares members' cores' shares' r) where
   -- there is one found group: its member bytes stand in front
@@ -52,10 +45,7 @@ module _ (g : Pairs) (held : is_list g ≡ true) (members cores shares members' 
       let same : take g.n members' ≡ found_of g = found_alone g _ _ held s.solved.found (found_outright g held) in
       sym (take-append-drop g.n members') ∙ rw (same, s.members_rest, found_length g held)
 
-  abbrev record_of : Solved
-  record_of = record { number = 0; p = r.ratio.p; q = r.ratio.q; k = r.k; coresize = r.core; ratio = float_ratio r.ratio.p r.ratio.q }
-
-  pub handed : Handed g members cores shares record_of members' cores' shares'
+  pub handed : Handed g members cores shares (answered r) members' cores' shares'
   handed =
       let o = s.solved.optimal in
       record {

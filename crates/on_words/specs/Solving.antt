@@ -1,6 +1,6 @@
 -- Document 01, "Solve", on words: what is lent, and what is handed out of the list that lies in them.
 --   solve_buffers            what is lent
---   declined, solved_of      the record beside a refusal, and that of an answer
+--   answered, declined, solved_of    the record of what is found, that beside a refusal, and that of an answer
 --   Handed                   what is handed out; free are only the shares of pairs inside the core of order K
 --   SolveOn                 the record, and every buffer
 -- Assumes nothing: these are definitions.
@@ -14,6 +14,7 @@ use Rattle.theory.specs.Promise.{Optimal}
 use Rattle.theory.specs.Words.{laid_list}
 use Rattle.refusals.specs.declared.Refusal.{Refusal}
 use Rattle.refusals.specs.Numbers.{number_of}
+use Rattle.densest.specs.declared.Solution.{Solution}
 use Rattle.records.specs.declared.Head.{Head}
 use Rattle.on_words.specs.declared.Solved.{Solved}
 use Rattle.on_words.specs.Buffers.{Buffer, buffer, in_front, cleared}
@@ -22,13 +23,17 @@ use Rattle.on_words.specs.Buffers.{Buffer, buffer, in_front, cleared}
 abbrev pub solve_buffers : Head → (members cores shares work : ℕ) → List Buffer
 solve_buffers h a c d w = buffer a h.n ∷ buffer c h.n ∷ buffer d h.m ∷ buffer w 16384 ∷ []
 
+-- beside 0 stand the group's numbers, and P divided by Q, rounded once
+abbrev pub answered : Solution → Solved
+answered s = record { number = 0; p = s.ratio.p; q = s.ratio.q; k = s.k; coresize = s.core; ratio = float_ratio s.ratio.p s.ratio.q }
+
 -- beside a refusal the other fields are 0, the ratio +0.0
 unfoldable pub declined : (number : ℕ) → Solved
 declined k = record { number = k; p = 0; q = 0; k = 0; coresize = 0; ratio = float_ratio 0 1 }
 
 -- what is found, or a refusal's number
-abbrev pub solved_of : Result Solved Refusal → Solved
-solved_of (Ok s) = s
+abbrev pub solved_of : Result Solution Refusal → Solved
+solved_of (Ok s) = answered s
 solved_of (Err e) = declined (number_of e)
 
 -- in front of the buffers stand the found group's member bytes, the core numbers and a share for each pair; entries past them are as before

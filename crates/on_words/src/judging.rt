@@ -5,7 +5,6 @@ ghost use Rattle.verify.specs.Answers.{verdict_of, difference_of};
 ghost use Rattle.on_words.specs.Judging.{check_buffers, surplus_buffers, CheckOn, SurplusOn};
 
 use crate::buffers::{Buffer, clear};
-use lists::List;
 use numbers::Ratio;
 use records::Head;
 use refusals::Refusal;
@@ -35,7 +34,7 @@ pub fn check_on_words(
     requires work_long { 16384 ≤ length work.old }
     ensures { CheckOn head members.now shares.now work.old (verdict_of result) work.new }
 {
-    let list = List::in_words(head.n as usize, head.m as usize, work);
+    let list = head.list(work);
     let judged = check_words(list, members, shares);
     clear(work);
     judged
@@ -61,9 +60,5 @@ pub fn surplus_on_words(
     requires second_long { head.n ≤ length second.now }
     ensures { SurplusOn head first.now second.now words.now (difference_of result) }
 {
-    surplus_words(
-        List::in_words(head.n as usize, head.m as usize, words),
-        first,
-        second,
-    )
+    surplus_words(head.list(words), first, second)
 }

@@ -5,13 +5,13 @@
 // works on the list that lies there, and clears the work buffer. Add and remove look the pair up in the words and shift what stands behind it; a reader
 // leaves the file's pairs in them. Each costs what the crate below it does (pairs, peel, densest, verify, pairfile, dimacs), and the 16,384 words that are
 // cleared. On words add refuses by 5, 4, 18, 19, 11, remove by 5, 4, 14, check by 7, 8, 9, surplus by 7, and both readers by the file's numbers.
-// Head and words are two parameters, not a struct that keeps what the words hold: a call lays them out once and hands them to one function.
+// Head and words are two parameters, not a struct that keeps what the words hold: a call lays them out once and hands them to one function. So that they
+// hold the list is a clause of each, and so are 16,384 words of work, which C lends.
 // `as` stands where std has no `From`: from u32 to usize, and where a bound lets a number fit fewer bits.
 #![tactic(auto)]
 
 ghost use Rattle.std.specs.Prelude.{◌≡◌};
 ghost use Rattle.on_words.specs.Placing.{placed_of};
-ghost use Rattle.on_words.specs.Solving.{solved_of};
 ghost use Rattle.on_words.specs.Writing.{written_of};
 
 mod buffers;
@@ -24,6 +24,7 @@ pub mod solving;
 pub mod writing;
 
 pub use buffers::{Buffer, any_short, clear};
+pub use densest::Solution;
 use refusals::Refusal;
 
 // What place answers: the refusal number or 0; 1 where the pair is held, else 0; and its place, or where it would go.
@@ -75,24 +76,6 @@ impl From<Result<Result<u32, u32>, Refusal>> for Placed {
                 number: u32::from(refusal),
                 held: 0,
                 at: 0,
-            },
-        }
-    }
-}
-
-impl From<Result<Solved, Refusal>> for Solved {
-    ghost from_gives = { λ answer solved. solved ≡ solved_of answer };
-
-    fn from(answer: Result<Solved, Refusal>) -> Solved {
-        match answer {
-            Ok(solved) => solved,
-            Err(refusal) => Solved {
-                number: u32::from(refusal),
-                p: 0,
-                q: 0,
-                k: 0,
-                coresize: 0,
-                ratio: 0.0,
             },
         }
     }

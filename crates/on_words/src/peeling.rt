@@ -4,7 +4,6 @@ ghost use Rattle.theory.specs.Words.{HoldsList};
 ghost use Rattle.on_words.specs.Peeling.{peel_buffers, PeelOn};
 
 use crate::buffers::{Buffer, clear, narrow};
-use lists::List;
 use peel::peel;
 use records::Head;
 
@@ -30,7 +29,7 @@ pub fn peel_on_words(head: Head, order: &mut [u16], cores: &mut [u32], work: &mu
 {
     let mut leavers = [0u32; 512];
     let mut places = [0u32; 512];
-    let list = List::in_words(head.n as usize, head.m as usize, work);
+    let list = head.list(work);
     peel(list, 1, &mut leavers, cores, &mut places);
     narrow(&leavers[..list.n], order);
     clear(work);

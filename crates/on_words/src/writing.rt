@@ -5,7 +5,6 @@ ghost use Rattle.on_words.specs.Writing.{write_buffers, WriteOn};
 
 use crate::buffers::Buffer;
 use dimacs::write_words;
-use lists::List;
 use records::Head;
 
 // What is lent: 65,536 bytes of text.
@@ -21,8 +20,5 @@ pub fn write_on_words(head: Head, text: &mut [u8], words: &[u32]) -> u32
     requires text_long { 65536 ≤ length text.old }
     ensures { WriteOn head text.old words.now result text.new }
 {
-    write_words(
-        List::in_words(head.n as usize, head.m as usize, words),
-        text,
-    ) as u32
+    write_words(head.list(words), text) as u32
 }

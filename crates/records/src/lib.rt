@@ -131,7 +131,7 @@ pub fn copy_in(records: &mut [Pair], words: &[u32])
     }
 }
 
-// Whether records are good, and rise.
+// Whether records are good, and rise. (Before the first one `last` is 0,0,0, which stands before every pair of two modules: no `Option` is needed.)
 #[tactic(auto, using(crate::proofs::Scans::good_next, crate::proofs::Scans::good_fails, crate::proofs::Scans::good_done))]
 fn all_good(n: u32, records: &[Pair]) -> bool
     ensures { result ≡ good_after n blank records.now }

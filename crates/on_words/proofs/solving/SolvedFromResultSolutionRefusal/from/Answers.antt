@@ -1,8 +1,8 @@
--- `on_words::SolvedFromResultSolvedRefusal::from` meets its contract: +0.0 is 0 over 1. Assumes nothing.
+-- `on_words::solving::SolvedFromResultSolutionRefusal::from` meets its contract: +0.0 is 0 over 1. Assumes nothing.
 use lib.Ieee.{div, of_bits, of_int}
 use Rattle.theory.specs.Ratio.{float_ratio}
 use Rattle.on_words.specs.Solving.{declined}
-use Rattle.on_words.proofs.SolvedFromResultSolvedRefusal.from.Goals as goal
+use Rattle.on_words.proofs.solving.SolvedFromResultSolutionRefusal.from.Goals as goal
 
 pub returns-in-Err : goal.returns-in-Err
 unfolding declined float_ratio div of_bits of_int
