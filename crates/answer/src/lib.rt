@@ -1,5 +1,4 @@
 // The answer to the bytes of a pair file, which crate `texts` writes out.
-// `as` stands where std has no `From`: from u32 to usize, and where a bound lets a number fit fewer bits.
 #![tactic(auto)]
 
 ghost use Rattle.std.specs.Prelude.{◌≡◌, ◌≤◌, length};
@@ -49,10 +48,7 @@ pub fn sheet_file(
 {
     let mut work = [0; 16384];
     let head = read_words(bytes, 4096, &mut work)?;
-    lay(
-        List::in_words(head.n as usize, head.m as usize, &work),
-        words,
-    );
+    lay(head.list(&work), words);
     let found = solve_on_words(head, members, cores, shares, &mut work);
     Ok(Answer {
         head,

@@ -77,6 +77,5 @@ pub fn audit(file: &[u8], sheet: &[u8]) -> Result<Ratio, Refusal>
 {
     let mut words = [0; 12288];
     let head = read_words(file, 4096, &mut words)?;
-    let list = List::in_words(head.n as usize, head.m as usize, &words);
-    audit_list(list, sheet)
+    audit_list(head.list(&words), sheet)
 }

@@ -71,7 +71,7 @@ fn read_shares(reader: &mut Reader, list: List, shares: &mut [u32]) -> Result<()
 {
     for j in 0..list.m {
         let [a, b, share] = line_due::<3>(reader, b"share=A,B,U\n", 7)?;
-        if (a, b) != (list.ends[2 * j], list.ends[2 * j + 1]) {
+        if (a, b) != list.ends_of(j) {
             return Err(Refusal::AnotherPair);
         }
         shares[j] = share;

@@ -1,11 +1,10 @@
 -- The programs that convert a file print what is due of it.
---   refusal_converted, list_converted       what a reader of words answers, printed
+--   refusal_converted, list_converted       what a file says, printed
 --   long_read, from_dimacs_read             FromDimacsRead, of a file that is too long, and of one that is not
 --   to_dimacs_read                          ToDimacsRead
 --   from_dimacs_same, to_dimacs_same, from_then_to, to_then_from     the promises of specs/Converted.antt
 -- Assumes nothing.
 use mathlib.Core.Path.{◌≡◌, refl, ap, ◌∙◌}
-use Rattle.std.proofs.Common.{Ok, Err}
 use mathlib.Core.Bool.{false}
 use mathlib.Core.List.{List}
 use Prim.Native.Nat.{ℕ, ◌≤◌, ◌<◌}
@@ -14,13 +13,8 @@ use borrow.Author.Tests.{lt-ltb, le-ltb}
 use lib.ListN.{length, length-take}
 use lib.Seq.{take_all}
 use Rattle.theory.specs.Lists.{Pairs}
-use Rattle.theory.specs.Words.{laid_list}
-use Rattle.refusals.specs.declared.Refusal.{Refusal}
-use Rattle.refusals.specs.Numbers.{number_of}
-use Rattle.records.specs.declared.Head.{Head}
-use Rattle.lines.specs.Outcomes.{Outcome, taken, outcome_of}
+use Rattle.lines.specs.Outcomes.{Outcome, refused, taken}
 use Rattle.pairfile.specs.File.{read_file}
-use Rattle.pairfile.specs.Answers.{WordsRead}
 use Rattle.pairfile.specs.Promise.{WrittenReadsBack as FileBack, ReadsLists as FileLists}
 use Rattle.pairfile.proofs.Promises.{written_reads_back as file_back, reads_lists as file_lists}
 use Rattle.dimacs.specs.Edges.{read_dimacs, dimacs_of}
@@ -43,18 +37,18 @@ use Rattle.texts.specs.Converted.{
 }
 use Rattle.texts.proofs.Whole.{read_as}
 
--- ---- what a reader of words answers
+-- ---- what a file says
 
-module _ (file_of_list : Pairs → List ℕ) {due : Outcome Pairs} {old words : List ℕ} where
+module _ (file_of_list : Pairs → List ℕ) {due : Outcome Pairs} where
   -- a refusal: the status line
-  pub refusal_converted : {e : Refusal} → WordsRead due old words (Err e) → refusal_text (number_of e) ≡ converted file_of_list due
-  unfolding converted outcome_of
-  refusal_converted f = rw f.found refl
+  pub refusal_converted : {k : ℕ} → due ≡ refused k → refusal_text k ≡ converted file_of_list due
+  unfolding converted
+  refusal_converted is = rw is refl
 
   -- a list: its file
-  pub list_converted : {head : Head} → WordsRead due old words (Ok head) → file_of_list (laid_list head.n head.m words) ≡ converted file_of_list due
-  unfolding converted outcome_of
-  list_converted f = rw f.found refl
+  pub list_converted : {g : Pairs} → due ≡ taken g → file_of_list g ≡ converted file_of_list due
+  unfolding converted
+  list_converted is = rw is refl
 
 -- ---- the file that was read
 

@@ -1,5 +1,6 @@
 -- What is printed of a pair file.
 --   prints, prints_lent                          a right text that has been written
+--   text_printed, text_refused, text_as, shown   that text or a refusal, and the status line of that
 --   group_first                                  GroupFirst: a sheet's text begins with the group's
 --   refusal_printed, refusal_due                 a refused file
 --   modules_few, answer_length, group_lines      the group of a file that names a list
@@ -12,7 +13,7 @@ use mathlib.Core.List.{List, append_assoc}
 use Prim.Native.Nat.{ℕ, ◌≤◌}
 use native.Mathlib.Omega.{arith}
 use lib.ListN.{length, take}
-use Rattle.std.proofs.Common.{Ok, Err}
+use Rattle.std.proofs.Common.{Result, Ok, Err, IfOk, IfErr}
 use lib.Seq.{length-take-le, take_at}
 use Rattle.theory.specs.Lists.{Pairs, is_list}
 use Rattle.theory.specs.Groups.{inside, size, Found, found_of}
@@ -42,8 +43,8 @@ use Rattle.answer.specs.declared.Answer.{Answer}
 use Rattle.answer.specs.Answers.{group_answer, answer_to, members_after, Answers, solved_of, HandedOver, Sheeted}
 use Rattle.on_words.proofs.Sheets.{found_front}
 use Rattle.texts.specs.Texts.{refusal_text, group_text, group_printed, certificate, GroupFirst}
-use Rattle.texts.specs.Printed.{Prints, SheetDue, SheetPrinted, answer_lines, sheet_lines}
-use Rattle.texts.proofs.Lengths.{group_length, sheet_length}
+use Rattle.texts.specs.Printed.{Prints, TextWritten, SheetDue, SheetPrinted, answer_lines, sheet_lines}
+use Rattle.texts.proofs.Lengths.{refusal_length, group_length, sheet_length}
 
 pub prints : {Right : List ℕ → Type 0} {text out out' : List ℕ} {r : ℕ} → Right text → Puts text out 0 out' r → length text ≤ length out →
     Prints Right out out' r
@@ -62,6 +63,33 @@ prints {text = text} right p fits =
 pub prints_lent : {Right : List ℕ → Type 0} {text out out' : List ℕ} {start : Writer} → start.out.now ≡ out → start.at ≡ 0 → (end : Writer) →
     Writes text start end → out' ≡ end.out.now → Right text → length text ≤ length out → Prints Right out out' end.at
 prints_lent same front end written back right fits = prints right (lent_back same front end written back) fits
+
+-- ---- a text, or a refusal
+
+module _ {Right : List ℕ → Type 0} {out : List ℕ} where
+  pub text_printed : {out' : List ℕ} {k : ℕ} → Prints Right out out' k → TextWritten Right out out' (Ok k)
+  text_printed p = record { printed = p; refused = tt; kept = tt }
+
+  pub text_refused : {e : Refusal} → Right (refusal_text (number_of e)) → TextWritten Right out out (Err e)
+  text_refused h = record { printed = tt; refused = h; kept = refl }
+
+  -- right in other words
+  pub text_as : {Right' : List ℕ → Type 0} {out' : List ℕ} (r : Result ℕ Refusal) → ((text : List ℕ) → Right text → Right' text) →
+      TextWritten Right out out' r → TextWritten Right' out out' r
+  text_as (Ok k) f w =
+      let p = w.printed in
+      record {
+        printed = record { text = p.text; right = f p.text p.right; puts = p.puts; front = p.front; within = p.within; counted = p.counted };
+        refused = tt;
+        kept = tt;
+      }
+  text_as (Err e) f w = record { printed = tt; refused = f _ w.refused; kept = w.kept }
+
+  -- the text, or the status line
+  pub shown : {left out' : List ℕ} {k : ℕ} (r : Result ℕ Refusal) → 18 ≤ length out → TextWritten Right out left r →
+      IfOk r (λ l. (k ≡ l) × (out' ≡ left)) → IfErr r (λ e. Puts (refusal_text (number_of e)) left 0 out' k) → Prints Right out out' k
+  shown (Ok l) room w same line = rw (same.0, same.1) w.printed
+  shown (Err e) room w same line = prints w.refused (rw w.kept at line) (omega (arith, refusal_length (number_of e), room))
 
 pub group_first : GroupFirst
 unfolding GroupFirst sheet_file group_text certificate

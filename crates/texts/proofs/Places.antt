@@ -5,12 +5,12 @@
 --   successor_next                                 the record after a pair, counted from 1
 --   found_within, found_there                      a place that lookup answers
 --   head_room, before_room, after_left             the first lines have room, then the line before, and the line after is left
---   place_length, pair_length                      how long the texts are
+--   place_length                                   how long the text is
 --   pair_refused, pair_shown                       the text of two module numbers
 --   first_none, second_none, both_named            and of two arguments
 --   file_refused, first_refused, second_refused, modules_refused, modules_placed    and of these and a file, or the refusal
---   refused_written, text_written                  the text in a buffer
---   neighbours_as, neighbours_length, neighbours_read, refusal_shown, text_shown    a file's text by what is read, and NeighboursRead
+--   neighbours_as                                  a file's text by what is read
+--   refused_written, text_written                  the text in a buffer, or the refusal
 -- Assumes nothing.
 use mathlib.Core.Path.{◌≡◌, refl, sym, ap, ◌∙◌}
 use mathlib.Core.Bool.{true, cond}
@@ -39,7 +39,7 @@ use Rattle.pairs.proofs.Rising.{place_le}
 use Rattle.lines.specs.Text.{text, between}
 use Rattle.lines.specs.Numbers.{number_of}
 use Rattle.lines.specs.Lines.{is_place, places, filled}
-use Rattle.lines.specs.Outcomes.{Outcome, refused, taken, ◌>>=◌, ◌>>◌, outcome_of}
+use Rattle.lines.specs.Outcomes.{Outcome, refused, taken, ◌>>=◌, ◌>>◌}
 use Rattle.lines.specs.Putting.{Puts, HasRoom, Writes}
 use Rattle.lines.specs.declared.writer.Writer.{Writer}
 use Rattle.lines.proofs.Found.{judge_refused, judged_by, judge_passed}
@@ -48,6 +48,7 @@ use Rattle.lines.proofs.Parts.{Left, left_front, left_step}
 use Rattle.pairfile.specs.File.{read_file}
 use Rattle.pairfile.proofs.Accepts.{accepted}
 use Rattle.texts.specs.Texts.{refusal_text}
+use Rattle.texts.specs.Printed.{TextWritten}
 use Rattle.texts.specs.Converted.{converted}
 use Rattle.texts.specs.Neighbours.{
   alone,
@@ -68,9 +69,8 @@ use Rattle.texts.specs.Neighbours.{
   list_printed,
   neighbours_printed,
   NeighboursRead,
-  TextWritten,
 }
-use Rattle.texts.proofs.Lengths.{refusal_length}
+use Rattle.texts.proofs.Files.{prints, text_printed, text_refused}
 use Rattle.texts.proofs.Whole.{read_as}
 
 -- ---- an argument, by the number that has been found in front
@@ -216,16 +216,6 @@ module _ (g : Pairs) (a b : ℕ) where
   unfolding pair_placed printed ◌>>◌
   pair_shown e = rw (judge_passed (pair_causes 0 g.n a b) e)
 
-  pub pair_length : is_list g ≡ true → length (printed (pair_placed g a b)) ≤ 64
-  unfolding located
-  pair_length e =
-      let k = refusal (pair_causes 0 g.n a b) in
-      let p = smaller_first_pair a b in
-      by_test (eqb k 0)
-      (λ z. rw (pair_shown (eqb-true k 0 z))
-      (place_length g (located p g.pairs) e (omega (arith, place_le p g.pairs, (listed g e).short))))
-      (λ z. rw (pair_refused refl (eqb-false k 0 z)) (omega (arith, refusal_length k)))
-
 -- ---- the text of two arguments
 
 module _ (first second : List ℕ) (g : Pairs) where
@@ -243,14 +233,6 @@ module _ (first second : List ℕ) (g : Pairs) where
     pub both_named : {b : ℕ} → argument_number second ≡ Some b → list_printed first second g ≡ printed (pair_placed g a b)
     unfolding list_printed arguments_placed module_due ◌>>=◌
     both_named d = rw (e, d) refl
-
-  list_length : is_list g ≡ true → length (list_printed first second g) ≤ 64
-  list_length list = go (argument_number first) refl (argument_number second) refl
-    where
-      go : (o : Option ℕ) → argument_number first ≡ o → (u : Option ℕ) → argument_number second ≡ u → length (list_printed first second g) ≤ 64
-      go None e u d = rw (first_none e) (omega (arith, refusal_length 110))
-      go (Some a) e None d = rw (second_none e d) (omega (arith, refusal_length 110))
-      go (Some a) e (Some b) d = rw (both_named e d) (pair_length g a b list)
 
 -- ---- the text of a file and two arguments, by what is read
 
@@ -288,17 +270,6 @@ module _ (file first second : List ℕ) where
         unfolding pair_placed ◌>>◌
         modules_placed h is = placed ∙ rw (judge_passed (pair_causes 0 g.n a b) h, is) refl
 
--- ---- in a buffer
-
-module _ {due : Outcome (List ℕ)} {out : List ℕ} where
-  pub refused_written : {r : Refusal} → due ≡ refused (refusal_number r) → TextWritten due out out (Err r)
-  unfolding outcome_of
-  refused_written e = record { text = []; found = e; puts = tt; kept = refl }
-
-  pub text_written : {text out' : List ℕ} {k : ℕ} → due ≡ taken text → Puts text out 0 out' k → TextWritten due out out' (Ok k)
-  unfolding outcome_of
-  text_written {text} e p = record { text = text; found = e; puts = p; kept = tt }
-
 -- ---- the file that was read
 
 -- a file's text, by what is read
@@ -310,28 +281,22 @@ neighbours_as file first second = go (read_file 4096 file)
     go (refused k) = refl
     go (taken g) = refl
 
--- 64 bytes hold it
-pub neighbours_length : (file first second : List ℕ) → length (neighbours_printed file first second) ≤ 64
-unfolding converted
-neighbours_length file first second = rw (neighbours_as file first second) (go (read_file 4096 file) refl)
-  where
-    go : (o : Outcome Pairs) → read_file 4096 file ≡ o → length (converted (list_printed first second) o) ≤ 64
-    go (refused k) e = omega (arith, refusal_length k)
-    go (taken g) e = list_length first second g (accepted 4096 file g e).list
-
 module _ (bytes first second : List ℕ) where
-  pub neighbours_read : {text : List ℕ} → text ≡ neighbours_printed bytes first second → NeighboursRead bytes first second text
+  neighbours_read : {text : List ℕ} → text ≡ neighbours_printed bytes first second → NeighboursRead bytes first second text
   neighbours_read is = record {
     due = λ file e.
         is ∙ neighbours_as bytes first second ∙ ap (converted (list_printed first second)) (read_as e) ∙ sym (neighbours_as file first second);
   }
 
-  -- the status line
-  pub refusal_shown : {k : ℕ} → file_placed bytes first second ≡ refused k → refusal_text k ≡ neighbours_printed bytes first second
-  unfolding neighbours_printed printed
-  refusal_shown e = rw e refl
+  module _ {out : List ℕ} where
+    -- a refusal
+    pub refused_written : {r : Refusal} → file_placed bytes first second ≡ refused (refusal_number r) →
+        TextWritten (NeighboursRead bytes first second) out out (Err r)
+    unfolding neighbours_printed printed
+    refused_written e = text_refused (neighbours_read (rw e refl))
 
-  -- the text of a place
-  pub text_shown : {text : List ℕ} → file_placed bytes first second ≡ taken text → text ≡ neighbours_printed bytes first second
-  unfolding neighbours_printed printed
-  text_shown e = rw e refl
+    -- the text of a place
+    pub text_written : {text out' : List ℕ} {k : ℕ} → file_placed bytes first second ≡ taken text → Puts text out 0 out' k →
+        length text ≤ length out → TextWritten (NeighboursRead bytes first second) out out' (Ok k)
+    unfolding neighbours_printed printed
+    text_written e p fits = text_printed (prints (neighbours_read (rw e refl)) p fits)

@@ -9,22 +9,19 @@
 --   stands_after, Nearest, Shown                the records nearest to a pair, and a text that shows them and the pair's place
 --   NeighboursNearest, NeighboursRound        the text shows the nearest records; the modules may be named in either order
 --   NeighboursPlaced                           number, held and place are what the call place answers
---   TextWritten                                 a text in a buffer, or a refusal
 -- proofs/Nearest.antt has a theorem for each promise, of the same name in small letters. Assumes nothing: these are definitions.
-use Rattle.std.specs.Prelude.{◌≡◌, Bool, true, false, ◌&&◌, cond, List, [], ◌∷◌, ◌++◌, ℕ, zero, suc, ◌+◌, ◌≤◌, ◌<◌, eqb, length, get_or, Option, Some, None, Result, IfOk, OnErr}
+use Rattle.std.specs.Prelude.{◌≡◌, Bool, true, false, ◌&&◌, cond, List, [], ◌∷◌, ◌++◌, ℕ, zero, suc, ◌+◌, ◌≤◌, ◌<◌, eqb, length, get_or, Option, Some, None}
 use Rattle.std.specs.List.{slice_get}
 use Rattle.theory.specs.Basics.{mark}
 use Rattle.theory.specs.Lists.{Pair, Pairs, stands_before}
 use Rattle.theory.specs.Refusals.{refusal}
-use Rattle.refusals.specs.declared.Refusal.{Refusal}
 use Rattle.pairs.specs.Held.{is_held, smaller_first_pair}
 use Rattle.pairs.specs.Causes.{pair_causes}
 use Rattle.pairs.specs.Located.{Place, located}
 use Rattle.lines.specs.Text.{text}
 use Rattle.lines.specs.Numbers.{Number, number_of}
 use Rattle.lines.specs.Lines.{filled}
-use Rattle.lines.specs.Outcomes.{Outcome, refused, taken, ◌>>=◌, ◌>>◌, judge, outcome_of}
-use Rattle.lines.specs.Putting.{Puts}
+use Rattle.lines.specs.Outcomes.{Outcome, refused, taken, ◌>>=◌, ◌>>◌, judge}
 use Rattle.pairfile.specs.File.{read_file}
 use Rattle.records.specs.declared.Pair.{Pair as Record}
 use Rattle.records.specs.declared.Head.{Head}
@@ -170,12 +167,3 @@ NeighboursPlaced =
 -- THE MODULES MAY BE NAMED IN EITHER ORDER
 unfoldable pub NeighboursRound : Type 0
 NeighboursRound = (file first second : List ℕ) → neighbours_printed file first second ≡ neighbours_printed file second first
-
--- ---- the functions
-
--- a text written into the front of a buffer, or a refusal, which leaves the buffer
-pub record TextWritten (due : Outcome (List ℕ)) (out out' : List ℕ) (r : Result ℕ Refusal) : Type 0 where
-  pub text : List ℕ
-  pub found : due ≡ outcome_of (λ k. text) r
-  pub puts : IfOk r (λ k. Puts text out 0 out' k)
-  pub kept : OnErr r (out' ≡ out)

@@ -1,16 +1,19 @@
 -- What the functions promise that write the programs' texts into a lent buffer.
 --   Prints                     a right text stands in front of the buffer, and the rest is as it was
+--   TextWritten                the same, or a refusal, whose status line is right
 --   SheetDue, SheetPrinted   a sheet of a list that is right, and that `audit` accepts it; what `sheet` prints of a file
 --   ReadOf                    these bytes are a file's, to its end or as many as decide
 --   GroupRead, SheetRead, AuditRead    what is right of whatever files were read
 --   SheetAnswered             what `audit` prints of it; the theorem is `sheet_answered`
 --   answer_lines, sheet_lines  the lines by the answer to a pair file and what stands beside it
 -- Assumes nothing: these are definitions.
-use Rattle.std.specs.Prelude.{◌≡◌, true, List, [], ◌∷◌, ◌++◌, ℕ, ◌≤◌, length, take}
+use Rattle.std.specs.Prelude.{◌≡◌, true, List, [], ◌∷◌, ◌++◌, ℕ, ◌≤◌, length, take, Result, IfOk, IfErr, OnErr}
 use Rattle.theory.specs.Lists.{Pair, Pairs}
 use Rattle.theory.specs.Groups.{inside, size, found_of}
 use Rattle.theory.specs.Splits.{core_order, outside_good}
 use Rattle.theory.specs.Promise.{Optimal}
+use Rattle.refusals.specs.declared.Refusal.{Refusal}
+use Rattle.refusals.specs.Numbers.{number_of}
 use Rattle.lines.specs.Outcomes.{refused, taken}
 use Rattle.pairfile.specs.File.{read_file}
 use Rattle.lines.specs.Putting.{Puts}
@@ -30,6 +33,12 @@ pub record Prints (Right : List ℕ → Type 0) (out out' : List ℕ) (r : ℕ) 
   pub front : take r out' ≡ text
   pub within : r ≤ length out'
   pub counted : r ≡ length (take r out')
+
+-- a right text, or a refusal whose status line is right, and then the buffer is as it was
+pub record TextWritten (Right : List ℕ → Type 0) (out out' : List ℕ) (r : Result ℕ Refusal) : Type 0 where
+  pub printed : IfOk r (λ k. Prints Right out out' k)
+  pub refused : IfErr r (λ e. Right (refusal_text (number_of e)))
+  pub kept : OnErr r (out' ≡ out)
 
 -- of a list and its found group s: the group's sheet. Free are only the shares of pairs inside the core of order K
 pub record SheetDue (file : List ℕ) (g : Pairs) (s : List ℕ) (text : List ℕ) : Type 0 where

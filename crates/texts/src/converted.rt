@@ -3,29 +3,69 @@
 //
 // The list is read into words and written from them. Of a DIMACS file, whose comments have no bound, 1,048,576 bytes are read at most, and a longer one is
 // refused whatever it holds: a program has a byte more of it, so that it shows.
-ghost use Rattle.std.specs.Prelude.{◌≤◌, length};
-ghost use Rattle.texts.specs.Printed.{Prints};
-ghost use Rattle.texts.specs.Converted.{FromDimacsRead, ToDimacsRead};
+ghost use Rattle.std.specs.Prelude.{◌≡◌, ◌≤◌, List, ℕ, length};
+ghost use Rattle.theory.specs.Lists.{Pairs};
+ghost use Rattle.lists.specs.Listed.{listed};
+ghost use Rattle.lines.specs.Putting.{Puts};
+ghost use Rattle.dimacs.specs.Edges.{dimacs_of};
+ghost use Rattle.texts.specs.Printed.{Prints, TextWritten};
+ghost use Rattle.texts.specs.Converted.{pair_file, converted, FromDimacsRead, ToDimacsRead};
 
-use crate::write_refusal;
+use crate::text_or_refusal;
 use lists::List;
+use on_words::reading::{EdgeFile, Format, PairFile};
 use refusals::Refusal;
+
+// A form of files as which a list is written.
+trait FileWriter {
+    // The file of a list.
+    ghost file_of: { Pairs → List ℕ };
+
+    // That file, written into the front of a buffer; answers its length.
+    fn write_words(list: List, out: &mut [u8]) -> usize
+        requires { 65536 ≤ length out.old }
+        ensures puts { Puts (file_of (listed list.entry)) out.old 0 out.new result }
+        ensures fits { length (file_of (listed list.entry)) ≤ 65536 };
+}
+
+impl FileWriter for PairFile {
+    ghost file_of = { pair_file };
+
+    fn write_words(list: List, out: &mut [u8]) -> usize {
+        pairfile::write_words(list, out)
+    }
+}
+
+impl FileWriter for EdgeFile {
+    ghost file_of = { dimacs_of };
+
+    #[tactic(auto, using(dimacs::proofs::Writing::dimacs_length))]
+    fn write_words(list: List, out: &mut [u8]) -> usize {
+        dimacs::write_words(list, out)
+    }
+}
+
+// The list in a file of one form, as a file of another; answers how long that is, or refuses by the first file's own numbers.
+fn convert<F: Format, G: FileWriter>(file: &[u8], out: &mut [u8]) -> Result<usize, Refusal>
+    requires { 65536 ≤ length out.old }
+    ensures { TextWritten (λ text. text ≡ converted G.file_of (F.says 4096 file.now)) out.old out.new result }
+{
+    let mut words = [0; 16384];
+    let head = F::read_on_words(file, 4096, &mut words)?;
+    Ok(G::write_words(head.list(&words), out))
+}
 
 // The text of `from_dimacs`, of what was read of a DIMACS file; answers how long it is.
 pub fn from_dimacs_text(file: &[u8], out: &mut [u8]) -> usize
     requires { 65536 ≤ length out.old }
     ensures { Prints (FromDimacsRead file.now) out.old out.new result }
 {
-    if file.len() > 1048576 {
-        return write_refusal(Refusal::FileTooLong, out);
-    }
-    let mut words = [0; 12288];
-    let head = match dimacs::read_words(file, 4096, &mut words) {
-        Ok(head) => head,
-        Err(refusal) => return write_refusal(refusal, out),
+    let written = if file.len() > 1048576 {
+        Err(Refusal::FileTooLong)
+    } else {
+        convert::<EdgeFile, PairFile>(file, out)
     };
-    let list = List::in_words(head.n as usize, head.m as usize, &words);
-    pairfile::write_words(list, out)
+    text_or_refusal(written, out)
 }
 
 // The text of `to_dimacs`, of what was read of a pair file; answers how long it is.
@@ -33,11 +73,5 @@ pub fn to_dimacs_text(file: &[u8], out: &mut [u8]) -> usize
     requires { 65536 ≤ length out.old }
     ensures { Prints (ToDimacsRead file.now) out.old out.new result }
 {
-    let mut words = [0; 12288];
-    let head = match pairfile::read_words(file, 4096, &mut words) {
-        Ok(head) => head,
-        Err(refusal) => return write_refusal(refusal, out),
-    };
-    let list = List::in_words(head.n as usize, head.m as usize, &words);
-    dimacs::write_words(list, out)
+    text_or_refusal(convert::<PairFile, EdgeFile>(file, out), out)
 }

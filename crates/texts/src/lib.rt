@@ -12,13 +12,13 @@ mod converted;
 mod neighbours;
 mod reading;
 
-ghost use Rattle.std.specs.Prelude.{◌≡◌, ◌≤◌, ◌<◌, ℕ, length};
+ghost use Rattle.std.specs.Prelude.{◌≡◌, ◌≤◌, ◌<◌, ℕ, IfOk, IfErr, length};
 ghost use Rattle.refusals.specs.Numbers.{number_of};
 ghost use Rattle.lists.specs.Listed.{listed};
 ghost use Rattle.lines.specs.Putting.{Puts, HasRoom, Writes};
 ghost use Rattle.texts.specs.Texts.{refusal_text};
 ghost use Rattle.texts.specs.Filling.{Numbers, given_lines, Gives};
-ghost use Rattle.texts.specs.Printed.{Prints, GroupRead, SheetRead, AuditRead, answer_lines, sheet_lines};
+ghost use Rattle.texts.specs.Printed.{Prints, TextWritten, GroupRead, SheetRead, AuditRead, answer_lines, sheet_lines};
 
 use answer::{Answer, sheet_file, solve_file};
 pub use converted::{from_dimacs_text, to_dimacs_text};
@@ -28,14 +28,20 @@ pub use neighbours::neighbours_text;
 pub use reading::{read_argument, read_full};
 use refusals::Refusal;
 
-// The status line of a refusal.
-pub(crate) fn write_refusal(refusal: Refusal, out: &mut [u8]) -> usize
+// A text that was written, or else the status line of what refused it; answers how long it is.
+pub(crate) fn text_or_refusal(written: Result<usize, Refusal>, out: &mut [u8]) -> usize
     requires { 18 ≤ length out.old }
-    ensures { Puts (refusal_text (number_of refusal)) out.old 0 out.new result }
+    ensures text { IfOk written (λ length. (result ≡ length) × (out.new ≡ out.old)) }
+    ensures refused { IfErr written (λ refusal. Puts (refusal_text (number_of refusal)) out.old 0 out.new result) }
 {
-    let mut writer = Writer::new(out);
-    writer.line(b"status=S\n", &[u32::from(refusal)]);
-    writer.at
+    match written {
+        Ok(length) => length,
+        Err(refusal) => {
+            let mut writer = Writer::new(out);
+            writer.line(b"status=S\n", &[u32::from(refusal)]);
+            writer.at
+        }
+    }
 }
 
 // The lines of a form, `count` of them, each of the numbers that `numbers` gives; where it gives none there is no line. A form takes as many of the numbers
@@ -101,9 +107,58 @@ fn write_sheet(
     write_lines(
         b"share=A,B,U\n",
         shares.len(),
-        |j| Some([list.ends[2 * j], list.ends[2 * j + 1], shares[j]]),
+        |j| {
+            let (a, b) = list.ends_of(j);
+            Some([a, b, shares[j]])
+        },
         writer,
     );
+}
+
+// The text of the group of the list that a pair file names; answers how long it is, or refuses by the file's numbers.
+fn write_answer(file: &[u8], out: &mut [u8]) -> Result<usize, Refusal>
+    requires { 8192 ≤ length out.old }
+    ensures { TextWritten (GroupRead file.now) out.old out.new result }
+{
+    let mut members = [0; 512];
+    let found = solve_file(file, &mut members)?;
+    let mut writer = Writer::new(out);
+    write_group(found, &members[..found.head.n as usize], &mut writer);
+    Ok(writer.at)
+}
+
+// The text of its sheet; answers how long it is, or refuses by the file's numbers.
+fn write_certificate(file: &[u8], out: &mut [u8]) -> Result<usize, Refusal>
+    requires { 140000 ≤ length out.old }
+    ensures { TextWritten (SheetRead file.now) out.old out.new result }
+{
+    let mut members = [0; 512];
+    let mut cores = [0; 512];
+    let mut shares = [0; 4096];
+    let mut words = [0; 12288];
+    let found = sheet_file(file, &mut members, &mut cores, &mut shares, &mut words)?;
+    let list = found.head.list(&words);
+    let mut writer = Writer::new(out);
+    write_sheet(
+        found,
+        list,
+        &members[..list.n],
+        &cores[..list.n],
+        &shares[..list.m],
+        &mut writer,
+    );
+    Ok(writer.at)
+}
+
+// The text of a sheet that is accepted beside a pair file; answers how long it is, or refuses by the audit's numbers.
+fn write_verdict(file: &[u8], sheet: &[u8], out: &mut [u8]) -> Result<usize, Refusal>
+    requires { 64 ≤ length out.old }
+    ensures { TextWritten (AuditRead file.now sheet.now) out.old out.new result }
+{
+    let ratio = sheetfile::audit(file, sheet)?;
+    let mut writer = Writer::new(out);
+    writer.line(b"status=0\nratio=P/Q\n", &[ratio.p, ratio.q]);
+    Ok(writer.at)
 }
 
 // The text of `group`, of what was read of a pair file; answers how long it is.
@@ -111,43 +166,16 @@ pub fn group_text(file: &[u8], out: &mut [u8]) -> usize
     requires { 8192 ≤ length out.old }
     ensures { Prints (GroupRead file.now) out.old out.new result }
 {
-    let mut members = [0; 512];
-    let found = match solve_file(file, &mut members) {
-        Ok(found) => found,
-        Err(refusal) => return write_refusal(refusal, out),
-    };
-    let mut writer = Writer::new(out);
-    write_group(found, &members[..found.head.n as usize], &mut writer);
-    writer.at
+    text_or_refusal(write_answer(file, out), out)
 }
 
 // The text of `sheet`, of what was read of a pair file; answers how long it is.
+#[tactic(auto, using(crate::proofs::Files::shown))]
 pub fn sheet_text(file: &[u8], out: &mut [u8]) -> usize
     requires { 140000 ≤ length out.old }
     ensures { Prints (SheetRead file.now) out.old out.new result }
 {
-    let mut members = [0; 512];
-    let mut cores = [0; 512];
-    let mut shares = [0; 4096];
-    let mut words = [0; 12288];
-    let answered = sheet_file(file, &mut members, &mut cores, &mut shares, &mut words);
-    let found = match answered {
-        Ok(found) => found,
-        Err(refusal) => return write_refusal(refusal, out),
-    };
-    let n = found.head.n as usize;
-    let m = found.head.m as usize;
-    let list = List::in_words(n, m, &words);
-    let mut writer = Writer::new(out);
-    write_sheet(
-        found,
-        list,
-        &members[..n],
-        &cores[..n],
-        &shares[..m],
-        &mut writer,
-    );
-    writer.at
+    text_or_refusal(write_certificate(file, out), out)
 }
 
 // The text of `audit`, of what was read of a pair file and of a sheet; answers how long it is.
@@ -155,12 +183,5 @@ pub fn audit_text(file: &[u8], sheet: &[u8], out: &mut [u8]) -> usize
     requires { 64 ≤ length out.old }
     ensures { Prints (AuditRead file.now sheet.now) out.old out.new result }
 {
-    match sheetfile::audit(file, sheet) {
-        Ok(ratio) => {
-            let mut writer = Writer::new(out);
-            writer.line(b"status=0\nratio=P/Q\n", &[ratio.p, ratio.q]);
-            writer.at
-        }
-        Err(refusal) => write_refusal(refusal, out),
-    }
+    text_or_refusal(write_verdict(file, sheet, out), out)
 }

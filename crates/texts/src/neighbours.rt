@@ -8,19 +8,17 @@ ghost use Rattle.lists.specs.Listed.{listed};
 ghost use Rattle.lines.specs.Outcomes.{outcome_of};
 ghost use Rattle.lines.specs.Putting.{Puts, HasRoom, Writes};
 ghost use Rattle.pairs.specs.Located.{place_in};
-ghost use Rattle.texts.specs.Printed.{Prints};
+ghost use Rattle.texts.specs.Printed.{Prints, TextWritten};
 ghost use Rattle.texts.specs.Neighbours.{
   argument_number,
   module_due,
   record_before,
   record_line,
   place_text,
-  file_placed,
   NeighboursRead,
-  TextWritten,
 };
 
-use crate::write_refusal;
+use crate::text_or_refusal;
 use lines::{Reader, Writer};
 use lists::List;
 use pairfile::read_words;
@@ -32,11 +30,8 @@ fn module_of(argument: &[u8]) -> Result<u32, Refusal>
     ensures { module_due (argument_number argument.now) ≡ outcome_of (λ a. a) result }
 {
     let mut reader = Reader { left: argument };
-    let number = reader.number(4).ok_or(Refusal::BadArgument)?;
-    if !reader.is_done() {
-        return Err(Refusal::BadArgument);
-    }
-    Ok(number)
+    let number = reader.number(4).filter(|_| reader.is_done());
+    number.ok_or(Refusal::BadArgument)
 }
 
 // The line of a list's k-th record, counted from 1, if there is one.
@@ -45,8 +40,8 @@ fn write_record(list: List, form: &[u8], k: usize, writer: &mut Writer)
     ensures { Writes (record_line form.now (record_before k (listed list.entry).pairs)) writer.old writer.new }
 {
     if (1..=list.m).contains(&k) {
-        let j = k - 1;
-        writer.line(form, &[list.ends[2 * j], list.ends[2 * j + 1]]);
+        let (a, b) = list.ends_of(k - 1);
+        writer.line(form, &[a, b]);
     }
 }
 
@@ -71,16 +66,15 @@ fn write_place(place: Result<usize, usize>, list: List, out: &mut [u8]) -> usize
 // The text of two arguments beside the list that a pair file names; answers how long it is. Refuses by the file's numbers, 110, 5, 4.
 fn write_placed(file: &[u8], first: &[u8], second: &[u8], out: &mut [u8]) -> Result<usize, Refusal>
     requires { 64 ≤ length out.old }
-    ensures { TextWritten (file_placed file.now first.now second.now) out.old out.new result }
+    ensures { TextWritten (NeighboursRead file.now first.now second.now) out.old out.new result }
 {
     let mut words = [0; 12288];
     let head = read_words(file, 4096, &mut words)?;
     let a = module_of(first)?;
     let b = module_of(second)?;
     check_pair(0, head.n, a, b)?;
-    let m = head.m as usize;
-    let place = lookup(&words, m, a.min(b), a.max(b));
-    let list = List::in_words(head.n as usize, m, &words);
+    let list = head.list(&words);
+    let place = lookup(&words, list.m, a.min(b), a.max(b));
     Ok(write_place(place, list, out))
 }
 
@@ -89,8 +83,5 @@ pub fn neighbours_text(file: &[u8], first: &[u8], second: &[u8], out: &mut [u8])
     requires { 64 ≤ length out.old }
     ensures { Prints (NeighboursRead file.now first.now second.now) out.old out.new result }
 {
-    match write_placed(file, first, second, out) {
-        Ok(length) => length,
-        Err(refusal) => write_refusal(refusal, out),
-    }
+    text_or_refusal(write_placed(file, first, second, out), out)
 }

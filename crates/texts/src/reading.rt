@@ -38,18 +38,14 @@ fn read_path<const DECIDE: usize>(
     requires decides { DECIDE ≤ length buffer.old }
     ensures within { IfOk result (λ n. n ≤ length buffer.new) }
 {
-    match str::from_utf8(path) {
-        Ok(name) => read_full::<DECIDE, _>(&mut File::open(rt, name)?, buffer),
-        Err(_) => Err(io::Error::from(io::ErrorKind::InvalidFilename)),
-    }
+    let name = str::from_utf8(path).map_err(|_| io::Error::from(io::ErrorKind::InvalidFilename))?;
+    read_full::<DECIDE, _>(&mut File::open(rt, name)?, buffer)
 }
 
 // What is said of an error of the system, without its number.
 fn cause(said: &str) -> &str {
-    match said.rsplit_once(" (os error ") {
-        Some((text, _)) => text,
-        None => said,
-    }
+    said.rsplit_once(" (os error ")
+        .map_or(said, |(text, _)| text)
 }
 
 // A line on standard error: the path, a colon, and why its file cannot be opened or read.

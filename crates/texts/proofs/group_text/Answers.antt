@@ -1,33 +1,7 @@
--- `group_text` meets its contract: a file that is refused, and one that names a list.
-use Rattle.std.proofs.Common.{◌∙◌, ◌≤◌, length, sym, arith, rules}
-use lib.Seq.{length-take-le}
-use Rattle.refusals.specs.Numbers.{number_of}
-use Rattle.lines.proofs.Parts.{left_lent}
-use Rattle.texts.proofs.Lengths.{refusal_length}
-use Rattle.texts.proofs.Files.{prints, prints_lent, refusal_printed, modules_few, answer_length, group_lines}
-use Rattle.texts.proofs.Whole.{group_read}
+-- `group_text` meets its contract: the text, or the refusal's.
+use Rattle.std.proofs.Common.{arith}
+use Rattle.texts.proofs.Files.{shown}
 use Rattle.texts.proofs.group_text.Goals as goal
 
-pub returns-in-Err : goal.returns-in-Err
-returns-in-Err c =
-    prints (group_read (refusal_printed c.in-Err.ensures)) c.write_refusal.ensures
-    (omega (arith, refusal_length (number_of c.in-Err.refusal), c.requires))
-
-pub slice_bounds-members-end : goal.slice_bounds-members-end
-slice_bounds-members-end c = omega (arith, modules_few c.in-Ok.ensures, c.solve_file.auto.members)
-
-pub slice_bounds-write_group-end : goal.slice_bounds-write_group-end
-slice_bounds-write_group-end c =
-    let within : c.in-Ok.found.head.n ≤ length c.solve_file.new.members = omega (arith, modules_few c.in-Ok.ensures, c.solve_file.auto.members) in
-    sym (length-take-le _ _ within)
-
-pub write_group-requires-clause-room : goal.write_group-requires-clause-room
-write_group-requires-clause-room c =
-    (left_lent {start = c.new-writer.result} c.new-writer.ensures.unwritten c.new-writer.ensures.start
-    (omega (arith, answer_length c.in-Ok.ensures, c.requires))).room
-
 pub returns : goal.returns
-returns c =
-    let names = c.write_group.ensures.same_buffer ∙ c.new-writer.ensures.same_buffer in
-    prints_lent c.new-writer.ensures.unwritten c.new-writer.ensures.start c.write_group.new.writer c.write_group.ensures (search rules)
-    (group_read (group_lines c.in-Ok.ensures)) (omega (arith, answer_length c.in-Ok.ensures, c.requires))
+returns c = let r = c.text_or_refusal.ensures in shown _ (omega (arith, c.requires)) c.write_answer.ensures r.text r.refused

@@ -1,11 +1,12 @@
 -- `neighbours::write_placed` meets its contract: the file is refused, an argument, the two modules, or their pair is looked up.
-use Rattle.std.proofs.Common.{◌≤◌, sym, arith}
+use Rattle.std.proofs.Common.{◌≤◌, length, sym, arith}
 use Rattle.theory.specs.Words.{laid_list, laid_pairs}
 use Rattle.theory.proofs.Words.{length_laid, holds_few}
 use Rattle.pairs.specs.Located.{place_in}
 use Rattle.pairs.proofs.Words.{holds_rising}
 use Rattle.lines.specs.Outcomes.{outcome_of}
 use Rattle.lines.proofs.Found.{handed_on}
+use Rattle.texts.specs.Neighbours.{place_text}
 use Rattle.texts.proofs.Places.{
   found_within,
   found_there,
@@ -23,24 +24,24 @@ use Rattle.texts.proofs.neighbours.write_placed.Goals.{After-lookup-place}
 
 pub returns-in_err-head : goal.returns-in_err-head
 unfolding outcome_of
-returns-in_err-head c = rw (handed_on c.from_residual.ensures.1) (refused_written (file_refused _ _ _ c.in_err-head.ensures.file.found))
+returns-in_err-head c = rw (handed_on c.from_residual.ensures.1) (refused_written _ _ _ (file_refused _ _ _ c.in_err-head.ensures.file.found))
 
 pub returns-in_err-a : goal.returns-in_err-a
 unfolding outcome_of
 returns-in_err-a c =
-    rw (handed_on c.from_residual-in_err-a.ensures.1) (refused_written (first_refused _ _ _ c.in_ok-head.ensures.file.found c.in_err-a.ensures))
+    rw (handed_on c.from_residual-in_err-a.ensures.1) (refused_written _ _ _ (first_refused _ _ _ c.in_ok-head.ensures.file.found c.in_err-a.ensures))
 
 pub returns-in_err-b : goal.returns-in_err-b
 unfolding outcome_of
 returns-in_err-b c =
     rw (handed_on c.from_residual-in_err-b.ensures.1)
-    (refused_written (second_refused _ _ _ c.in_ok-head.ensures.file.found c.in_ok-a.ensures c.in_err-b.ensures))
+    (refused_written _ _ _ (second_refused _ _ _ c.in_ok-head.ensures.file.found c.in_ok-a.ensures c.in_err-b.ensures))
 
 pub returns-in_err-check_pair : goal.returns-in_err-check_pair
 unfolding outcome_of laid_list
 returns-in_err-check_pair c =
     rw (handed_on c.from_residual-in_err-check_pair.ensures.1)
-    (refused_written
+    (refused_written _ _ _
     (modules_refused _ _ _ c.in_ok-head.ensures.file.found c.in_ok-a.ensures c.in_ok-b.ensures _ c.in_err-check_pair.ensures))
 
 pub lookup-place-requires : goal.lookup-place-requires
@@ -54,17 +55,21 @@ pub write_place-requires-clause-at_le_m : goal.write_place-requires-clause-at_le
 write_place-requires-clause-at_le_m c =
     omega (arith, within (goal.at.write_place-requires-clause-at_le_m c).After-lookup-place, c.in_words-list.ensures.pairs)
 
+-- the text of the place is short
+short : (c : After-lookup-place) → length (place_text (place_in c.lookup-place.result) (laid_list c.in_ok-head.head.n c.in_ok-head.head.m c.read_words.new.words).pairs) ≤ 64
+short c =
+    let list = c.in_ok-head.ensures.held.listed in
+    place_length (laid_list _ _ _) (place_in c.lookup-place.result) list (omega (arith, within c, holds_few _ _ _ list))
+
 pub write_place-requires-clause-room : goal.write_place-requires-clause-room
 write_place-requires-clause-room c =
-    let few = within (goal.at.write_place-requires-clause-room c).After-lookup-place in
-    let list = c.in_ok-head.ensures.held.listed in
-    let short = place_length (laid_list _ _ _) (place_in c.lookup-place.result) list (omega (arith, few, holds_few _ _ _ list)) in
-    rw c.in_words-list.ensures.value (omega (arith, short, c.requires))
+    rw c.in_words-list.ensures.value (omega (arith, short (goal.at.write_place-requires-clause-room c).After-lookup-place, c.requires))
 
 pub returns : goal.returns
 unfolding outcome_of laid_list
 returns c =
     let is = found_there c.in_ok-a.a c.in_ok-b.b (laid_pairs c.in_ok-head.head.m c.read_words.new.words) c.min.ensures c.max.ensures c.lookup-place.ensures in
-    text_written
+    text_written _ _ _
     (modules_placed _ _ _ c.in_ok-head.ensures.file.found c.in_ok-a.ensures c.in_ok-b.ensures (sym c.in_ok-check_pair.ensures) is)
     (rw c.in_words-list.ensures.value at c.write_place.ensures)
+    (omega (arith, short (goal.at.returns c).After-lookup-place, c.requires))
