@@ -53,7 +53,7 @@ pub(crate) fn damaged(rt: &impl Print, name: &str, due: u32, damage: Damage) -> 
 fn print_shares(rt: &impl Print, w: u16, first: u32, second: u32) -> io::Result<()> {
     let mut work = [0u32; 16384];
     let pairs = [Pair { a: 0, b: 1, w }, Pair { a: 1, b: 2, w: 1 }];
-    let lent = samples::of_records(Head { n: 3, m: 2 }, &pairs);
+    let lent = samples::of_records(Head { n: 3, m: 2 }, pairs.into_iter());
     let verdict = check(
         lent.head,
         &lent.list,
@@ -84,57 +84,49 @@ fn sheets(rt: &impl Print) -> io::Result<()> {
     Ok(())
 }
 
-// The cycle, its head with N, and so much of the buffers, or an altered sheet.
+// The cycle, its head with N, and so much of members, shares and work.
 fn buffers(rt: &impl Print) -> io::Result<()> {
-    let longer = Altered {
-        members: 7,
-        shares: 8,
-        work: 16390,
-        ..SOUND
-    };
     let all = [
-        ("as it is", 0, 5, SOUND),
-        ("longer buffers", 0, 5, longer),
-        (
-            "short members",
-            12,
-            5,
-            Altered {
-                members: 4,
-                ..SOUND
-            },
-        ),
-        ("short shares", 12, 5, Altered { shares: 4, ..SOUND }),
-        (
-            "short work",
-            12,
-            5,
-            Altered {
-                work: 16383,
-                ..SOUND
-            },
-        ),
-        (
-            "no modules, and short members",
-            13,
-            0,
-            Altered {
-                members: 4,
-                ..SOUND
-            },
-        ),
-        ("byte of 2", 7, 5, Altered { byte: 2, ..SOUND }),
-        ("member dropped", 8, 5, Altered { byte: 0, ..SOUND }),
-        ("share past Q", 8, 5, Altered { share: 6, ..SOUND }),
-        ("unit moved", 9, 5, Altered { share: 4, ..SOUND }),
+        ("as it is", 0, 5, 5, 5, 16384),
+        ("longer buffers", 0, 5, 7, 8, 16390),
+        ("short members", 12, 5, 4, 5, 16384),
+        ("short shares", 12, 5, 5, 4, 16384),
+        ("short work", 12, 5, 5, 5, 16383),
+        ("no modules, and short members", 13, 0, 4, 5, 16384),
     ];
-    for (name, due, n, altered) in all {
-        tried(rt, name, due, Damage { n, ..NONE }, altered)?;
+    for (name, due, n, members, shares, work) in all {
+        let lent = Altered {
+            members,
+            shares,
+            work,
+            ..SOUND
+        };
+        tried(rt, name, due, Damage { n, ..NONE }, lent)?;
+    }
+    Ok(())
+}
+
+// The cycle, with another first member byte and first share.
+fn altered(rt: &impl Print) -> io::Result<()> {
+    let all = [
+        ("byte of 2", 7, 2, 5),
+        ("member dropped", 8, 0, 5),
+        ("share past Q", 8, 1, 6),
+        ("unit moved", 9, 1, 4),
+    ];
+    for (name, due, byte, share) in all {
+        let sheet = Altered {
+            byte,
+            share,
+            ..SOUND
+        };
+        tried(rt, name, due, NONE, sheet)?;
     }
     Ok(())
 }
 
 pub(crate) fn run(rt: &impl Print) -> io::Result<()> {
     buffers(rt)?;
+    altered(rt)?;
     sheets(rt)
 }

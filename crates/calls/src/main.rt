@@ -2,7 +2,9 @@
 // heads and records that do not agree.
 //
 // Each line has the call, what is altered, the number that documents 01 and 02 give it and the number that the call gave; then what it answered
-// and what it left of the lent buffers: of those of 8 entries all, each 9 before, and of the work buffer how many words are 0 and how many are 7 as before.
+// and what it left of the lent buffers: of those of 8 entries all, each 9 before, and of the work buffer how many words are 0 and how many are 7 as before. The
+// numbers are those that C is answered with, and so no cases of an enum. Each call has buffers of its own, and the loop over its table is one call of its
+// `tried`: one loop over a closure for all would be longer.
 #![tactic(auto)]
 
 mod checks;

@@ -51,39 +51,18 @@ pub(crate) fn damaged(rt: &impl Print, name: &str, due: u32, damage: Damage) -> 
     tried(rt, name, due, damage, NAMED)
 }
 
-// The list *tail*, its head with N, and so much of the buffers.
+// The list *tail*, its head with N, and so much of order, core numbers and work.
 pub(crate) fn run(rt: &impl Print) -> io::Result<()> {
     let all = [
-        ("as it is", 0, 5, NAMED),
-        (
-            "longer buffers",
-            0,
-            5,
-            Lengths {
-                order: 8,
-                cores: 6,
-                work: 16390,
-            },
-        ),
-        ("short order", 12, 5, Lengths { order: 4, ..NAMED }),
-        ("short core numbers", 12, 5, Lengths { cores: 4, ..NAMED }),
-        (
-            "short work",
-            12,
-            5,
-            Lengths {
-                work: 16383,
-                ..NAMED
-            },
-        ),
-        (
-            "no modules, and short order",
-            13,
-            0,
-            Lengths { order: 4, ..NAMED },
-        ),
+        ("as it is", 0, 5, 5, 5, 16384),
+        ("longer buffers", 0, 5, 8, 6, 16390),
+        ("short order", 12, 5, 4, 5, 16384),
+        ("short core numbers", 12, 5, 5, 4, 16384),
+        ("short work", 12, 5, 5, 5, 16383),
+        ("no modules, and short order", 13, 0, 4, 5, 16384),
     ];
-    for (name, due, n, lengths) in all {
+    for (name, due, n, order, cores, work) in all {
+        let lengths = Lengths { order, cores, work };
         tried(rt, name, due, Damage { n, ..NONE }, lengths)?;
     }
     Ok(())

@@ -1,6 +1,6 @@
 // What solve has to answer for its members, core numbers and shares, computed a second time from the records as plainly as can be.
 use crate::samples::Lent;
-use model::front;
+use model::{front, reaching, rounded_up};
 use records::Pair;
 
 // The members' inside count and number, that ratio rounded up, how many core numbers are that or more, how many shares are above W times Q, and how many
@@ -41,16 +41,6 @@ pub(crate) fn differing<T: PartialEq>(first: &[T], second: &[T]) -> usize {
         .zip(second.iter())
         .filter(|&(x, y)| x != y)
         .count()
-}
-
-// p / q rounded up; 0 where q is 0.
-fn rounded_up(p: u32, q: u32) -> u32 {
-    if q == 0 { 0 } else { p.div_ceil(q) }
-}
-
-// How many entries are k or more: k is a bound, no length.
-fn reaching(entries: &[u32], k: u32) -> usize {
-    entries.iter().filter(|&&x| k <= x).count()
 }
 
 // A pair's units at share size q.

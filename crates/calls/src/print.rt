@@ -13,6 +13,11 @@ pub(crate) fn begin(
     print!(rt; "{call}, {name}: due={due} number={number}")
 }
 
+// What is said of two values that are the same or not.
+pub(crate) fn as_due(same: bool) -> &'static str {
+    if same { "as due" } else { "not as due" }
+}
+
 // The eight entries from `at` on.
 pub(crate) fn eight<T: fmt::Display>(
     rt: &impl Print,

@@ -1,6 +1,7 @@
 // The lists that are lent.
-use model::{after, below, front};
+use model::{after, below, circle_pair, front};
 use records::{Head, Pair};
+use std::iter;
 
 // A head and its 4,096 records.
 #[derive(Clone, Copy)]
@@ -56,25 +57,17 @@ const TAIL: [(u16, u16); 6] = [(0, 1), (0, 2), (0, 3), (1, 2), (1, 3), (2, 3)];
 const TRIANGLES: [(u16, u16); 6] = [(0, 1), (0, 2), (1, 2), (3, 4), (3, 5), (4, 5)];
 
 // A list of this head whose first records are these.
-pub(crate) fn of_records(head: Head, records: &[Pair]) -> Lent {
+pub(crate) fn of_records<I: Iterator<Item = Pair> + Drop>(head: Head, records: I) -> Lent
+    requires { I.can_next records }
+{
     let mut list = [Pair::default(); 4096];
-    for (place, &record) in list.iter_mut().zip(records.iter()) {
+    for (place, record) in list.iter_mut().zip(records) {
         *place = record;
     }
     Lent { head, list }
 }
 
-// A list of this head whose first pairs are these, each once, and then two records.
-fn of_pairs(head: Head, pairs: &[(u16, u16)], last: Pair, past: Pair) -> Lent {
-    let mut list = [Pair::default(); 4096];
-    let records = pairs.iter().map(|&(a, b)| Pair { a, b, w: 1 });
-    for (place, record) in list.iter_mut().zip(records.chain([last, past])) {
-        *place = record;
-    }
-    Lent { head, list }
-}
-
-// A list of these pairs and the last one, which is altered.
+// A list of these pairs, each once, and the last one, which is altered.
 fn altered(damage: Damage, pairs: &[(u16, u16)]) -> Lent {
     let first = u32::try_from(pairs.len()).unwrap_or(u32::MAX);
     let head = Head {
@@ -86,7 +79,8 @@ fn altered(damage: Damage, pairs: &[(u16, u16)]) -> Lent {
         b: 0,
         w: damage.past,
     };
-    of_pairs(head, pairs, damage.last, past)
+    let records = pairs.iter().map(|&(a, b)| Pair { a, b, w: 1 });
+    of_records(head, records.chain([damage.last, past]))
 }
 
 // The cycle: 5 pairs.
@@ -101,8 +95,8 @@ pub(crate) fn tail(damage: Damage) -> Lent {
 
 // The first m pairs of the two triangles, with n modules.
 pub(crate) fn triangles(n: u32, m: u32) -> Lent {
-    let none = Pair::default();
-    of_pairs(Head { n, m }, &TRIANGLES, none, none)
+    let records = TRIANGLES.map(|(a, b)| Pair { a, b, w: 1 });
+    of_records(Head { n, m }, records.into_iter())
 }
 
 // ---- lists of 512 modules
@@ -135,10 +129,7 @@ fn pair(kind: Kind, i: u32) -> (u32, u32) {
             let state = drawn(i);
             (below(state, 512), below(after(state), 512))
         }
-        Kind::Circle => {
-            let next = i.wrapping_add(1).wrapping_add(i / 512);
-            (i % 512, next % 512)
-        }
+        Kind::Circle => circle_pair(i, 0, 512),
         Kind::Clique => (i % 64, i / 64),
         Kind::Wider => (422 + i % 90, (i / 90).wrapping_add(422)),
     }
@@ -163,7 +154,7 @@ fn put_counts(lent: &mut Lent, counts: Counts) {
 
 // A list of 512 modules to which so many pairs are added, where add takes them, with these counts; those that come twice are one.
 pub(crate) fn large(kind: Kind, many: u32, counts: Counts) -> Lent {
-    let mut lent = of_records(Head { n: 512, m: 0 }, &[]);
+    let mut lent = of_records(Head { n: 512, m: 0 }, iter::empty());
     for i in 0..many {
         let (a, b) = pair(kind, i);
         lent.head = kandurzo::add(lent.head, &mut lent.list, a, b, 1).head;

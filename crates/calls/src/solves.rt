@@ -51,12 +51,8 @@ fn print_solved(rt: &impl Print, name: &str, due: u32, found: Solved) -> io::Res
         " p={} q={} k={} core={}",
         found.p, found.q, found.k, found.coresize
     )?;
-    let ratio = if found.ratio == ratios::quotient(found.p, found.q) {
-        "as due"
-    } else {
-        "not as due"
-    };
-    print!(rt; " ratio {ratio}")
+    let same = found.ratio == ratios::quotient(found.p, found.q);
+    print!(rt; " ratio {}", print::as_due(same))
 }
 
 // How many are not the same.
@@ -154,50 +150,26 @@ pub(crate) fn damaged(rt: &impl Print, name: &str, due: u32, damage: Damage) -> 
     tried(rt, name, due, samples::tail(damage), NAMED)
 }
 
-// The list *tail*, its head with N, and so much of the buffers.
+// The list *tail*, its head with N, and so much of members, core numbers, shares and work.
 fn buffers(rt: &impl Print) -> io::Result<()> {
-    let longer = Altered {
-        members: 7,
-        cores: 6,
-        shares: 8,
-        work: 16390,
-        ..NAMED
-    };
     let all = [
-        ("as it is", 0, 5, NAMED),
-        ("longer buffers", 0, 5, longer),
-        (
-            "short members",
-            12,
-            5,
-            Altered {
-                members: 4,
-                ..NAMED
-            },
-        ),
-        ("short core numbers", 12, 5, Altered { cores: 4, ..NAMED }),
-        ("short shares", 12, 5, Altered { shares: 6, ..NAMED }),
-        (
-            "short work",
-            12,
-            5,
-            Altered {
-                work: 16383,
-                ..NAMED
-            },
-        ),
-        (
-            "no modules, and short members",
-            13,
-            0,
-            Altered {
-                members: 4,
-                ..NAMED
-            },
-        ),
+        ("as it is", 0, 5, 5, 5, 7, 16384),
+        ("longer buffers", 0, 5, 7, 6, 8, 16390),
+        ("short members", 12, 5, 4, 5, 7, 16384),
+        ("short core numbers", 12, 5, 5, 4, 7, 16384),
+        ("short shares", 12, 5, 5, 5, 6, 16384),
+        ("short work", 12, 5, 5, 5, 7, 16383),
+        ("no modules, and short members", 13, 0, 4, 5, 7, 16384),
     ];
-    for (name, due, n, altered) in all {
-        tried(rt, name, due, samples::tail(Damage { n, ..NONE }), altered)?;
+    for (name, due, n, members, cores, shares, work) in all {
+        let lent = Altered {
+            members,
+            cores,
+            shares,
+            work,
+            ..NAMED
+        };
+        tried(rt, name, due, samples::tail(Damage { n, ..NONE }), lent)?;
     }
     Ok(())
 }

@@ -9,43 +9,28 @@ use verify::Difference;
 // The found group, and bytes past it that are no member's.
 const FOUND: [u8; 8] = [1, 1, 1, 1, 0, 2, 2, 2];
 
-// What surplus says that is not refused.
-fn value(value: i64) -> Difference {
-    Difference { number: 0, value }
-}
+// What is due of surplus: a value, or a refusal's number.
+type Due = Result<i64, u32>;
 
-// What it says that is refused.
-fn refused(number: u32) -> Difference {
-    Difference { number, value: 0 }
-}
-
-// One line: what surplus says of two sets, beside what is due.
+// One line: what surplus says of two sets, beside what is due. Beside a refusal the value is 0.
 fn tried(
     rt: &impl Print,
     name: &str,
-    due: Difference,
+    due: Due,
     first: &[u8],
     second: &[u8],
     damage: Damage,
 ) -> io::Result<()> {
     let lent = samples::tail(damage);
-    let difference = surplus(lent.head, &lent.list, first, second);
-    print::begin(rt, "surplus", name, due.number, difference.number)?;
-    let same = if difference.value == due.value {
-        "as due"
-    } else {
-        "not as due"
-    };
-    println!(rt; " value {same}")
+    let Difference { number, value } = surplus(lent.head, &lent.list, first, second);
+    print::begin(rt, "surplus", name, due.err().unwrap_or(0), number)?;
+    println!(rt; " value {}", print::as_due(value == due.unwrap_or(0)))
 }
 
 // The found group against itself, on a list that is altered.
 pub(crate) fn damaged(rt: &impl Print, name: &str, due: u32, damage: Damage) -> io::Result<()> {
     let found = front(&FOUND, 5);
-    let due = Difference {
-        number: due,
-        value: 0,
-    };
+    let due = if due == 0 { Ok(0) } else { Err(due) };
     tried(rt, name, due, found, found, damage)
 }
 
@@ -54,12 +39,12 @@ fn groups(rt: &impl Print) -> io::Result<()> {
     let group = [1, 1, 1, 1, 0];
     let two = [1, 1, 0, 0, 0];
     let all = [
-        ("found group against itself, 0", value(0), group, group),
-        ("0 and 1 against it, -8", value(-8), two, group),
-        ("all five against it, -2", value(-2), [1; 5], group),
-        ("it against 0 and 1, 8", value(8), group, two),
-        ("no member", refused(7), [0; 5], group),
-        ("byte of 2", refused(7), group, [2, 1, 1, 1, 0]),
+        ("found group against itself, 0", Ok(0), group, group),
+        ("0 and 1 against it, -8", Ok(-8), two, group),
+        ("all five against it, -2", Ok(-2), [1; 5], group),
+        ("it against 0 and 1, 8", Ok(8), group, two),
+        ("no member", Err(7), [0; 5], group),
+        ("byte of 2", Err(7), group, [2, 1, 1, 1, 0]),
     ];
     for (name, due, first, second) in all {
         tried(rt, name, due, &first, &second, NONE)?;
@@ -82,7 +67,7 @@ fn counts(rt: &impl Print) -> io::Result<()> {
     ];
     for (name, due, first, count) in all {
         let damage = samples::counted(count);
-        tried(rt, name, value(due), &first, &[0, 0, 0, 1, 1], damage)?;
+        tried(rt, name, Ok(due), &first, &[0, 0, 0, 1, 1], damage)?;
     }
     Ok(())
 }
@@ -90,10 +75,10 @@ fn counts(rt: &impl Print) -> io::Result<()> {
 // The found group against itself, so much of both sets, and the head's N.
 fn lengths(rt: &impl Print) -> io::Result<()> {
     let all = [
-        ("short first set", refused(12), 5, 4, 5),
-        ("short second set", refused(12), 5, 5, 4),
-        ("longer sets, 0", value(0), 5, 6, 8),
-        ("no modules, and short first set", refused(13), 0, 4, 5),
+        ("short first set", Err(12), 5, 4, 5),
+        ("short second set", Err(12), 5, 5, 4),
+        ("longer sets, 0", Ok(0), 5, 6, 8),
+        ("no modules, and short first set", Err(13), 0, 4, 5),
     ];
     for (name, due, n, first, second) in all {
         let sets = (front(&FOUND, first), front(&FOUND, second));

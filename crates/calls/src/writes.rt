@@ -37,16 +37,16 @@ fn file_due(alloc: Global, due: u32, lent: &Lent) -> Result<String, AllocError> 
     Ok(file)
 }
 
-// Writes the file to the front of the text due, in which then a byte is altered.
-fn put_due(text: &mut [u8], file: &[u8], altered: Option<usize>) {
-    for (place, &byte) in text.iter_mut().zip(file.iter()) {
-        *place = byte;
-    }
+// The text due: the file, and behind it the bytes that were there before; then a byte is altered.
+fn text_due(file: String, altered: Option<usize>) -> Result<Vec<u8>, AllocError> {
+    let mut text = file.into_bytes();
+    text.resize(65600, 9)?;
     if let Some(i) = altered
         && let Some(byte) = text.get_mut(i)
     {
         *byte = 0;
     }
+    Ok(text)
 }
 
 // One line: what write_dimacs says and writes of a list, and how much of it is not as due. There is no From of u32 for usize.
@@ -59,12 +59,11 @@ fn tried(
     a: Altered,
 ) -> io::Result<()> {
     let mut text = [9u8; 65600];
-    let mut text_due = [9u8; 65600];
     let file = file_due(alloc, due, lent)?;
     let written = write_dimacs(lent.head, &lent.list, front_mut(&mut text, a.text));
-    put_due(&mut text_due, file.as_bytes(), a.byte);
     let length = usize::from(written.length as usize != file.len());
-    let differ = differing(&text, &text_due).saturating_add(length);
+    let text_due = text_due(file, a.byte)?;
+    let differ = differing(&text, text_due.as_slice()).saturating_add(length);
     print::begin(rt, "write_dimacs", name, due, written.number)?;
     println!(rt; " length={} differ={differ}", written.length)
 }
@@ -83,72 +82,19 @@ pub(crate) fn damaged(
 // The list *tail*, its head with N, so much of the text, and the byte due that is altered.
 fn buffers(rt: &impl Print, alloc: Global) -> io::Result<()> {
     let all = [
-        ("as it is", 0, 5, SOUND),
-        (
-            "longer text",
-            0,
-            5,
-            Altered {
-                text: 65600,
-                ..SOUND
-            },
-        ),
-        (
-            "short text",
-            12,
-            5,
-            Altered {
-                text: 65535,
-                ..SOUND
-            },
-        ),
-        (
-            "text of the file's length",
-            12,
-            5,
-            Altered { text: 53, ..SOUND },
-        ),
-        ("no text", 12, 5, Altered { text: 0, ..SOUND }),
-        (
-            "no modules, and short text",
-            13,
-            0,
-            Altered {
-                text: 65535,
-                ..SOUND
-            },
-        ),
-        (
-            "first byte due altered",
-            0,
-            5,
-            Altered {
-                byte: Some(0),
-                ..SOUND
-            },
-        ),
-        (
-            "last byte due altered",
-            0,
-            5,
-            Altered {
-                byte: Some(52),
-                ..SOUND
-            },
-        ),
-        (
-            "byte past it altered",
-            0,
-            5,
-            Altered {
-                byte: Some(53),
-                ..SOUND
-            },
-        ),
+        ("as it is", 0, 5, 65536, None),
+        ("longer text", 0, 5, 65600, None),
+        ("short text", 12, 5, 65535, None),
+        ("text of the file's length", 12, 5, 53, None),
+        ("no text", 12, 5, 0, None),
+        ("no modules, and short text", 13, 0, 65535, None),
+        ("first byte due altered", 0, 5, 65536, Some(0)),
+        ("last byte due altered", 0, 5, 65536, Some(52)),
+        ("byte past it altered", 0, 5, 65536, Some(53)),
     ];
-    for (name, due, n, altered) in all {
+    for (name, due, n, text, byte) in all {
         let lent = samples::tail(Damage { n, ..NONE });
-        tried(rt, alloc, name, due, &lent, altered)?;
+        tried(rt, alloc, name, due, &lent, Altered { text, byte })?;
     }
     Ok(())
 }

@@ -2,6 +2,7 @@
 ghost use Rattle.std.specs.Prelude.{◌<◌, length};
 
 use crate::words::Words;
+use model::raise;
 use numbers::Ratio;
 use refusals::Refusal;
 use sheetfile::audit;
@@ -37,21 +38,17 @@ struct Fates {
     other: u32,
 }
 
-// One more.
-fn bump(count: &mut u32) {
-    *count = count.saturating_add(1);
-}
-
 impl Fates {
     // A sheet, by what audit answers of it and of the sheet before.
     fn note(&mut self, altered: Result<Ratio, Refusal>, before: Result<Ratio, Refusal>) {
-        if altered.is_err() {
-            bump(&mut self.refused);
+        let count = if altered.is_err() {
+            &mut self.refused
         } else if altered == before {
-            bump(&mut self.best);
+            &mut self.best
         } else {
-            bump(&mut self.other);
-        }
+            &mut self.other
+        };
+        raise(count, 1);
     }
 }
 

@@ -1,9 +1,9 @@
 // The pairs of the lists that are made: of modules of 256 to 511, on a circle.
+use model::circle_pair;
 
-// Pair i: a module, and the one that stands `i / 256 + 1` behind it.
+// Pair i.
 pub(crate) fn pair(i: u32) -> (u32, u32) {
-    let step = i.wrapping_add(1).wrapping_add(i / 256);
-    (256 + i % 256, 256 + step % 256)
+    circle_pair(i, 256, 256)
 }
 
 // Which of the pairs is a and then b, if they are two modules of the circle.

@@ -56,6 +56,7 @@ use asked::try_asked;
 use audited::{try_audit, try_bytes, try_limits};
 use edges::{try_edges, try_room};
 use made::try_made;
+use model::raise;
 use solved::{try_file, try_large};
 use std::{fs, io};
 use words::Words;
@@ -90,11 +91,12 @@ fn try_list<F: Fn(&HostRuntime, &mut Words) -> io::Result<String>>(
     let list = fs::read_to_string(rt, name)?;
     let (mut good, mut bad) = (0u32, 0u32);
     for line in list.lines() {
-        if try_case(rt, line, &answer)? {
-            good = good.saturating_add(1);
+        let count = if try_case(rt, line, &answer)? {
+            &mut good
         } else {
-            bad = bad.saturating_add(1);
-        }
+            &mut bad
+        };
+        raise(count, 1);
     }
     println!(rt; "{name}: as due={good} not={bad}")
 }

@@ -1,5 +1,5 @@
 // What add and remove answer by the plain model, and what an add shows besides.
-use crate::draws::Ask;
+use crate::draws::{Ask, Change};
 use crate::steps::Run;
 use crate::tally::Shown;
 use refusals::Refusal;
@@ -30,37 +30,28 @@ fn is_full(run: &Run) -> bool {
     run.model.pairs() == u32::from(run.plan.len)
 }
 
-// What add answers.
-fn of_add(run: &Run, ask: Ask) -> Result<(), Refusal> {
-    of_pair(run.plan.n, ask)?;
-    let x = run.model.count(ask.a, ask.b);
-    if !is_count(ask.w) {
+// What add answers of w stops for a pair whose count is x.
+fn of_add(x: u32, w: u32, full: bool) -> Result<(), Refusal> {
+    if !is_count(w) {
         return Err(Refusal::BadStopCount);
     }
-    if passes(x, ask.w) {
+    if passes(x, w) {
         return Err(Refusal::TooManyStops);
     }
-    if x == 0 && is_full(run) {
+    if x == 0 && full {
         return Err(Refusal::ListFull);
     }
     Ok(())
 }
 
-// What remove answers.
-fn of_remove(run: &Run, ask: Ask) -> Result<(), Refusal> {
-    of_pair(run.plan.n, ask)?;
-    match run.model.count(ask.a, ask.b) {
-        0 => Err(Refusal::NotHeld),
-        _ => Ok(()),
-    }
-}
-
 // What a step answers.
 pub(crate) fn of_step(run: &Run, ask: Ask) -> Result<(), Refusal> {
-    if ask.adds {
-        of_add(run, ask)
-    } else {
-        of_remove(run, ask)
+    of_pair(run.plan.n, ask)?;
+    let x = run.model.count(ask.a, ask.b);
+    match ask.change {
+        Change::Add(w) => of_add(x, w, is_full(run)),
+        Change::Remove if x == 0 => Err(Refusal::NotHeld),
+        Change::Remove => Ok(()),
     }
 }
 
@@ -92,12 +83,14 @@ fn refused_shows(refusal: Refusal, x: u32, w: u32, full: bool) -> Option<Shown> 
 
 // What a step with this answer shows besides.
 pub(crate) fn shown(run: &Run, ask: Ask, answer: Result<(), Refusal>) -> Option<Shown> {
+    let Change::Add(w) = ask.change else {
+        return None;
+    };
     let x = run.model.count(ask.a, ask.b);
     let full = is_full(run);
     match answer {
-        _ if !ask.adds => None,
-        Ok(()) => taken_shows(x, ask.w, full),
-        Err(_) if is_count(ask.w) => None,
-        Err(refusal) => refused_shows(refusal, x, ask.w, full),
+        Ok(()) => taken_shows(x, w, full),
+        Err(_) if is_count(w) => None,
+        Err(refusal) => refused_shows(refusal, x, w, full),
     }
 }

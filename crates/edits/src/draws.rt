@@ -3,13 +3,19 @@
 use crate::steps::Run;
 use model::below;
 
-// A step: add or remove, the pair, and the stops that add is given.
+// What a step does with a pair: it adds so many stops, or takes it out.
+#[derive(Clone, Copy)]
+pub(crate) enum Change {
+    Add(u32),
+    Remove,
+}
+
+// A step: the pair, in the order in which it is named, and what is done with it.
 #[derive(Clone, Copy)]
 pub(crate) struct Ask {
-    pub(crate) adds: bool,
     pub(crate) a: u32,
     pub(crate) b: u32,
-    pub(crate) w: u32,
+    pub(crate) change: Change,
 }
 
 // A module number, or n, or one time in 64 any number.
@@ -45,17 +51,9 @@ fn drawn_stops(x: u32, drawn: u32) -> u32 {
 }
 
 // The step for a and b, in either order.
-pub(crate) fn asked(adds: bool, a: u32, b: u32, w: u32, drawn: u32) -> Ask {
-    if drawn / 256 % 2 == 0 {
-        Ask { adds, a, b, w }
-    } else {
-        Ask {
-            adds,
-            a: b,
-            b: a,
-            w,
-        }
-    }
+pub(crate) fn asked(change: Change, a: u32, b: u32, drawn: u32) -> Ask {
+    let (a, b) = if drawn / 256 % 2 == 0 { (a, b) } else { (b, a) };
+    Ask { a, b, change }
 }
 
 // Record j of the list: its modules and its count. There is no From of u32 for usize.
@@ -64,7 +62,7 @@ pub(crate) fn listed(run: &Run, j: u32) -> Option<(u32, u32, u32)> {
     Some((u32::from(pair.a), u32::from(pair.b), u32::from(pair.w)))
 }
 
-// A pair of the list one time in two, else any.
+// A step that adds, or one that removes: a pair of the list one time in two, else any.
 pub(crate) fn drawn(run: &mut Run, adds: bool) -> Ask {
     let first = run.random.draw();
     let second = run.random.draw();
@@ -75,11 +73,10 @@ pub(crate) fn drawn(run: &mut Run, adds: bool) -> Ask {
         Some((a, b, _)) if first % 2 == 0 => (a, b),
         _ => (drawn_end(n, second), drawn_end(n, third)),
     };
-    asked(
-        adds,
-        a,
-        b,
-        drawn_stops(run.model.count(a, b), fourth),
-        fourth,
-    )
+    let change = if adds {
+        Change::Add(drawn_stops(run.model.count(a, b), fourth))
+    } else {
+        Change::Remove
+    };
+    asked(change, a, b, fourth)
 }

@@ -1,9 +1,9 @@
 // The stops of a list added again, in another order and in other steps: parts of the stops of records by chance, at the end what is left from the last record
 // to the first. Head and held records must be those of the list itself. The calls are add_to, on the second list, which holds no pairs at first.
-use crate::draws::{Ask, asked, listed};
-use crate::steps::{Altered, Run};
+use crate::draws::{Ask, Change, asked, listed};
+use crate::steps::{Altered, Own, Run};
 use crate::{answers, steps};
-use model::{below, front, litter};
+use model::{below, front};
 use records::Head;
 use std::alloc::{AllocError, Global};
 
@@ -31,7 +31,7 @@ fn lacking(run: &Run, j: u32, part: Part, drawn: u32) -> Option<Ask> {
         Part::Some => below(drawn, lacks).saturating_add(1),
         Part::Rest => lacks,
     };
-    (lacks != 0).then_some(asked(true, a, b, added, drawn))
+    (lacks != 0).then_some(asked(Change::Add(added), a, b, drawn))
 }
 
 // That step, on the model and by add_to.
@@ -64,8 +64,9 @@ fn add_all(run: &mut Run) -> Result<(), AllocError> {
 
 // Alters the first count where that is what is altered.
 fn alter(run: &mut Run) {
-    if run.plan.altered == Altered::AddedAgain
-        && let Some(first) = run.own.get_mut(0)
+    if run.plan.altered == Some(Altered::AddedAgain)
+        && let Some(own) = &mut run.own
+        && let Some(first) = own.list.get_mut(0)
     {
         first.w = first.w.wrapping_add(1);
     }
@@ -74,9 +75,12 @@ fn alter(run: &mut Run) {
 // Compares heads and held records. There is no From of u32 for usize.
 fn compare(run: &mut Run) {
     alter(run);
-    run.tally.note(run.own_head == run.head);
+    let Some(own) = &run.own else {
+        return;
+    };
+    run.tally.compared.note(own.head == run.head);
     let m = run.head.m as usize;
-    let same = front(run.list.as_slice(), m) == front(run.own.as_slice(), m);
+    let same = front(run.list.as_slice(), m) == front(own.list.as_slice(), m);
     run.tally.list(same);
 }
 
@@ -86,11 +90,11 @@ pub(crate) fn again(run: &mut Run, alloc: Global) -> Result<(), AllocError> {
         return Ok(());
     }
     take_out(run);
-    run.own = litter(alloc, run.plan.len, 1001)?;
-    run.own_head = Head {
+    let head = Head {
         n: run.plan.n,
         m: 0,
     };
+    run.own = Some(Own::new(head, run.plan.len, alloc)?);
     add_all(run)?;
     compare(run);
     Ok(())

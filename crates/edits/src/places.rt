@@ -17,7 +17,7 @@ fn smaller_ones(run: &Run, a: u32, b: u32) -> u32 {
     u32::try_from(smaller).unwrap_or(u32::MAX)
 }
 
-// The answer that is due.
+// The answer that is due. It is put together here, and not by the From of `Placed`, since that is the product's and is tried too.
 fn due(run: &Run, ask: Ask, answer: Result<(), Refusal>) -> Placed {
     match answer {
         Ok(()) => Placed {

@@ -2,7 +2,7 @@
 // a kind of run: steps, those made by add_to or remove_from, lists compared, calls of place and those that say held, answers of each number, and how many
 // differ; of the adds, besides: held pairs raised, those raised in a list without a free record, counts that come to 1,000, and refusals where a later number
 // is due too. Then runs with an altered answer, in which every step, list or call of place must differ.
-use crate::steps::{Altered, Plan, Run};
+use crate::steps::{Altered, Own, Plan, Run};
 use crate::tally::Tally;
 use crate::{orders, spoils, steps};
 use model::{Random, Stops, litter};
@@ -27,12 +27,16 @@ fn begin() -> Line {
 // A run of the plan, from a list without pairs.
 fn course(alloc: Global, plan: Plan, line: Line) -> Result<Line, AllocError> {
     let head = kandurzo::start(plan.n).head;
+    let own = if plan.has_own {
+        Some(Own::new(head, plan.len, alloc)?)
+    } else {
+        None
+    };
     let mut run = Run {
         plan,
         head,
         list: litter(alloc, plan.len, 1001)?,
-        own_head: head,
-        own: litter(alloc, plan.len, 1001)?,
+        own,
         due: litter(alloc, plan.len, 1001)?,
         model: Stops::new(alloc),
         random: line.random,
@@ -68,33 +72,36 @@ fn one(rt: &impl Print, alloc: Global, name: &str, plan: Plan) -> io::Result<()>
 const LARGE: Plan = Plan {
     n: 512,
     len: 4096,
+    has_own: false,
     adds: 6,
     mixed: 10,
     every: 8,
     again: 0,
-    altered: Altered::Nothing,
+    altered: None,
 };
 
 // Runs on 100 records, which are filled.
 const SMALL: Plan = Plan {
     n: 40,
     len: 100,
+    has_own: true,
     adds: 330,
     mixed: 100,
     every: 1,
     again: 0,
-    altered: Altered::Nothing,
+    altered: None,
 };
 
 // Runs on 100 records, after which the same stops are added again in other steps.
 const AGAIN: Plan = Plan {
     n: 40,
     len: 100,
+    has_own: true,
     adds: 400,
     mixed: 0,
     every: 50,
     again: 300,
-    altered: Altered::Nothing,
+    altered: None,
 };
 
 // The longest runs: the list is filled.
@@ -130,7 +137,7 @@ fn altered_runs(rt: &impl Print, alloc: Global) -> io::Result<()> {
             n: 20,
             adds: 100,
             again,
-            altered,
+            altered: Some(altered),
             ..SMALL
         };
         one(rt, alloc, name, plan)?;

@@ -1,4 +1,5 @@
 // What is counted in the runs of a line, and how it is printed.
+use model::{Compared, raise, raise_at};
 use refusals::Refusal;
 use std::fmt;
 
@@ -29,60 +30,46 @@ pub(crate) struct Tally {
     pair_before_count: u32,
     count_before_sum: u32,
     count_before_full: u32,
-    differ: u32,
-}
-
-// One more.
-fn bump(count: &mut u32) {
-    *count = count.saturating_add(1);
+    pub(crate) compared: Compared,
 }
 
 impl Tally {
-    // Something compared, which is the same or not.
-    pub(crate) fn note(&mut self, same: bool) {
-        if !same {
-            bump(&mut self.differ);
-        }
-    }
-
-    // A step with this answer. There is no From of u32 for usize.
+    // A step with this answer.
     pub(crate) fn step(&mut self, answer: Result<(), Refusal>) {
-        bump(&mut self.steps);
-        if let Some(count) = self.answers.get_mut(refusals::number(answer) as usize) {
-            bump(count);
-        }
+        raise(&mut self.steps, 1);
+        raise_at(&mut self.answers, refusals::number(answer), 1);
     }
 
     // A step by add_to or remove_from, which is answered as is due or not.
     pub(crate) fn own_step(&mut self, same: bool) {
-        self.note(same);
-        bump(&mut self.own);
+        self.compared.note(same);
+        raise(&mut self.own, 1);
     }
 
     // A list compared, which is the same or not.
     pub(crate) fn list(&mut self, same: bool) {
-        self.note(same);
-        bump(&mut self.lists);
+        self.compared.note(same);
+        raise(&mut self.lists, 1);
     }
 
     // A call of place, which says held or not, and is answered as is due or not.
     pub(crate) fn place(&mut self, same: bool, held: bool) {
-        self.note(same);
-        bump(&mut self.places);
+        self.compared.note(same);
+        raise(&mut self.places, 1);
         if held {
-            bump(&mut self.said_held);
+            raise(&mut self.said_held, 1);
         }
     }
 
     // What an add shows.
     pub(crate) fn show(&mut self, shown: Shown) {
         match shown {
-            Shown::ToThousand => bump(&mut self.to_thousand),
-            Shown::Raised => bump(&mut self.raised),
-            Shown::RaisedWhenFull => bump(&mut self.raised_when_full),
-            Shown::PairBeforeCount => bump(&mut self.pair_before_count),
-            Shown::CountBeforeSum => bump(&mut self.count_before_sum),
-            Shown::CountBeforeFull => bump(&mut self.count_before_full),
+            Shown::ToThousand => raise(&mut self.to_thousand, 1),
+            Shown::Raised => raise(&mut self.raised, 1),
+            Shown::RaisedWhenFull => raise(&mut self.raised_when_full, 1),
+            Shown::PairBeforeCount => raise(&mut self.pair_before_count, 1),
+            Shown::CountBeforeSum => raise(&mut self.count_before_sum, 1),
+            Shown::CountBeforeFull => raise(&mut self.count_before_full, 1),
         }
     }
 
@@ -115,7 +102,7 @@ impl fmt::Display for Tally {
         write!(
             f,
             " 18 before 11={} differ={}",
-            self.count_before_full, self.differ
+            self.count_before_full, self.compared.differ
         )
     }
 }

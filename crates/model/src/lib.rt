@@ -1,11 +1,12 @@
-// What the programs that test the public calls share: random numbers, records, and a list as a plain map from each pair to its stop count.
+// What the programs that only test share: random numbers, records, counts, pairs on a circle, and a list as a plain map from each pair to its stop count.
 #![tactic(auto)]
 
-ghost use Rattle.std.specs.Prelude.{◌≡◌, ◌-◌, ◌^◌, OnOk, OnErr, IfOk, Some, None, length, take, count_by, nat_eq, min, map};
+ghost use Rattle.std.specs.Prelude.{◌≡◌, ◌≤◌, ◌+◌, ◌-◌, ◌^◌, OnOk, OnErr, IfOk, Some, None, length, take, count_by, nat_eq, leb, min, map};
 ghost use Rattle.std.specs.List.{range_with_len};
 ghost use Rattle.std.specs.BTreeMap.{btree_map_len, get, IsUnchanged};
 ghost use Rattle.model.specs.Draws.{drawn_after, drawn_below};
 ghost use Rattle.model.specs.Counts.{half, key, record_of, litter_at, pair_cmp, count_of, Changed, record_at, written};
+ghost use Rattle.model.specs.Sums.{raised, raised_at, compared, rounded_up, circle_pair};
 
 use records::Pair;
 use std::alloc::{AllocError, Global};
@@ -95,6 +96,61 @@ pub fn occurrences(items: &[u32], item: u32) -> usize
     ensures { result ≡ count_by (λ x. nat_eq x item) items.now }
 {
     items.iter().filter(|&&x| x == item).count()
+}
+
+// How many of the items are k or more.
+pub fn reaching(items: &[u32], k: u32) -> usize
+    ensures { result ≡ count_by (λ x. leb k x) items.now }
+{
+    items.iter().filter(|&&x| k <= x).count()
+}
+
+// A count becomes so many more, and no more than 32 bits hold.
+pub fn raise(count: &mut u32, by: u32)
+    ensures { count.new ≡ raised count.old by }
+{
+    *count = count.saturating_add(by);
+}
+
+// So does the count at place i, where there is one. There is no From of u32 for usize.
+pub fn raise_at(counts: &mut [u32], i: u32, by: u32)
+    ensures { counts.new ≡ raised_at counts.old i by }
+{
+    if let Some(count) = counts.get_mut(i as usize) {
+        raise(count, by);
+    }
+}
+
+// How many comparisons differ.
+#[derive(Clone, Copy, Default)]
+pub struct Compared {
+    pub differ: u32,
+}
+
+impl Compared {
+    // One more comparison, of two that are the same or not.
+    pub fn note(&mut self, same: bool)
+        ensures { self.new.differ ≡ compared self.old.differ same }
+    {
+        raise(&mut self.differ, u32::from(!same));
+    }
+}
+
+// p over q, rounded up; 0 where q is 0.
+pub fn rounded_up(p: u32, q: u32) -> u32
+    ensures { result ≡ rounded_up p q }
+{
+    if q == 0 { 0 } else { p.div_ceil(q) }
+}
+
+// Pair i of those on a circle of `many` modules from `first` on: a module, and the one that stands `i / many + 1` behind it.
+pub fn circle_pair(i: u32, first: u32, many: u32) -> (u32, u32)
+    requires some { 1 ≤ many }
+    requires room { first + many ≤ 2 ^ 32 }
+    ensures { result ≡ circle_pair i first many }
+{
+    let behind = i.wrapping_add(1).wrapping_add(i / many);
+    (first + i % many, first + behind % many)
 }
 
 // Two modules, the smaller first.

@@ -24,7 +24,7 @@ fn records_due(
     if way == Way::Sound {
         stops.write(due.as_mut_slice());
     }
-    if plan.altered == Altered::FirstCount
+    if plan.alters(Altered::FirstCount)
         && let Some(first) = due.get_mut(0)
     {
         first.w = first.w.wrapping_add(1);
@@ -40,10 +40,11 @@ fn compare_answer(
     given: Changed,
     tally: &mut Tally,
 ) {
-    let number = given.number.wrapping_add(plan.altered(Altered::Number));
-    let m = given.head.m.wrapping_add(plan.altered(Altered::PairCount));
-    tally.note(number == refusals::number(answer));
-    tally.note(Head { m, ..given.head } == due);
+    let more = u32::from(plan.alters(Altered::Number));
+    tally.compared.note(given.number.wrapping_add(more) == refusals::number(answer));
+    let more = u32::from(plan.alters(Altered::PairCount));
+    let m = given.head.m.wrapping_add(more);
+    tally.compared.note(Head { m, ..given.head } == due);
 }
 
 // Compares all records of the list with those due, and their counts.
@@ -53,8 +54,8 @@ fn compare_records(plan: Plan, list: &[Pair], due: &[Pair], tally: &mut Tally) {
         .zip(due.iter())
         .all(|(x, y)| (x.a, x.b) == (y.a, y.b));
     let counts = list.iter().zip(due.iter()).all(|(x, y)| x.w == y.w);
-    tally.note(ends && plan.altered != Altered::Records);
-    tally.note(counts);
+    tally.compared.note(ends && !plan.alters(Altered::Records));
+    tally.compared.note(counts);
 }
 
 // Compares the work buffer: as before after 12, else 16,384 zeros, and 16 words as before.
@@ -66,7 +67,9 @@ fn compare_work(plan: Plan, way: Way, work: &[u32], tally: &mut Tally) {
     } else {
         (16384, 16)
     };
-    tally.note((zeros, kept) == due && plan.altered != Altered::Work);
+    tally
+        .compared
+        .note((zeros, kept) == due && !plan.alters(Altered::Work));
 }
 
 // A list, in one way: its file is read, and what comes out is compared.
@@ -145,7 +148,7 @@ fn pair_files(rt: &impl Print, alloc: Global) -> io::Result<()> {
     let name = "read, 4,096 records filled, 512 modules, counts 1 to 1,000";
     one(rt, alloc, name, filled)?;
     let altered = Plan {
-        altered: Altered::FirstCount,
+        altered: Some(Altered::FirstCount),
         ..counted(20, 100, 60, 1000)
     };
     one(rt, alloc, "read, count due altered", altered)
@@ -176,7 +179,7 @@ fn altered_runs(rt: &impl Print, alloc: Global) -> io::Result<()> {
     ];
     for (name, altered) in things {
         let plan = Plan {
-            altered,
+            altered: Some(altered),
             ..lists(20, 100, 60)
         };
         let mut tally = Tally::default();

@@ -5,7 +5,6 @@ use records::Pair;
 // What is altered before it is compared: the number, the number of pairs, the records, the work buffer, the first count due.
 #[derive(Clone, Copy, PartialEq, Eq)]
 pub(crate) enum Altered {
-    Nothing,
     Number,
     PairCount,
     Records,
@@ -40,13 +39,13 @@ pub(crate) struct Plan {
     pub(crate) top: u32,
     pub(crate) form: Form,
     pub(crate) ways: usize,
-    pub(crate) altered: Altered,
+    pub(crate) altered: Option<Altered>,
 }
 
 impl Plan {
-    // 1 where that is what is altered, else 0.
-    pub(crate) fn altered(&self, what: Altered) -> u32 {
-        u32::from(self.altered == what)
+    // Whether that is what is altered.
+    pub(crate) fn alters(&self, what: Altered) -> bool {
+        self.altered == Some(what)
     }
 }
 
@@ -60,7 +59,7 @@ pub(crate) fn lists(n: u32, len: u16, draws: u32) -> Plan {
         top: 1,
         form: Form::Dimacs,
         ways: 13,
-        altered: Altered::Nothing,
+        altered: None,
     }
 }
 

@@ -1,7 +1,8 @@
 // read, into a list of 100 records, each 7,7,7 before the call. Each line has the length of the work buffer and how the file is made: modules=N, pairs=M,
 // LINES pair lines, the first AGAIN of them again, and MORE empty lines; then the number due and the number given, the head, the first three records,
-// how many of the numbers of 4,096 records are 7 as before, and the work buffer, each word of which was 7. The counts are drawn, of 8 to 1,000.
-use model::{after, below, front, front_mut, occurrences};
+// how many of the numbers of 4,096 records are 7 as before, and the work buffer, each word of which was 7. The counts are drawn, of 8 to 1,000. The numbers due
+// are those that document 01 gives, as C is answered.
+use model::{after, below, circle_pair, front, front_mut, occurrences};
 use records::Pair;
 use std::alloc::{AllocError, Global};
 use std::io;
@@ -43,11 +44,11 @@ pub(crate) fn put_counted(file: &mut String, a: u32, b: u32, w: u32) -> Result<(
     writeln!(file, "{a},{b},{w}")
 }
 
-// Pair line i: a pair of two modules of 256 to 511, `i / 256 + 1` apart on the circle of these.
+// Pair line i: a pair of the circle of the modules 256 to 511.
 fn put_pair(file: &mut String, i: u32) -> Result<(), AllocError> {
-    let step = i.wrapping_add(1).wrapping_add(i / 256);
-    let w = below(after(after(step)), 993).wrapping_add(8);
-    put_counted(file, 256 + i % 256, 256 + step % 256, w)
+    let (a, b) = circle_pair(i, 256, 256);
+    let drawn = after(after(i.wrapping_add(1).wrapping_add(i / 256)));
+    put_counted(file, a, b, below(drawn, 993).wrapping_add(8))
 }
 
 // The file's lines behind the head.
@@ -71,10 +72,10 @@ fn make(alloc: Global, made: Made) -> Result<String, AllocError> {
 
 // How many of the records' numbers are 7.
 fn sevens(list: &[Pair]) -> usize {
-    let modules = list.iter().filter(|p| p.a == 7).count();
-    let others = list.iter().filter(|p| p.b == 7).count();
-    let counts = list.iter().filter(|p| p.w == 7).count();
-    modules.saturating_add(others).saturating_add(counts)
+    list.iter()
+        .flat_map(|p| [p.a, p.b, p.w])
+        .filter(|&x| x == 7)
+        .count()
 }
 
 // The first three records, and how many numbers are as before.

@@ -1,4 +1,5 @@
 // What is counted of the files of a line, and how it is printed.
+use model::{Compared, raise, raise_at};
 use records::Head;
 use refusals::Refusal;
 use std::fmt;
@@ -10,25 +11,16 @@ pub(crate) struct Tally {
     comments: u32,
     pairs: u32,
     answers: [u32; 20],
-    differ: u32,
+    pub(crate) compared: Compared,
 }
 
 impl Tally {
-    // Something compared, which is the same or not.
-    pub(crate) fn note(&mut self, same: bool) {
-        if !same {
-            self.differ = self.differ.saturating_add(1);
-        }
-    }
-
-    // A file with so many comments, for which this answer and head are due. There is no From of u32 for usize.
+    // A file with so many comments, for which this answer and head are due.
     pub(crate) fn file(&mut self, comments: u32, answer: Result<(), Refusal>, head: Head) {
-        self.files = self.files.saturating_add(1);
-        self.comments = self.comments.saturating_add(comments);
-        self.pairs = self.pairs.saturating_add(head.m);
-        if let Some(count) = self.answers.get_mut(refusals::number(answer) as usize) {
-            *count = count.saturating_add(1);
-        }
+        raise(&mut self.files, 1);
+        raise(&mut self.comments, comments);
+        raise(&mut self.pairs, head.m);
+        raise_at(&mut self.answers, refusals::number(answer), 1);
     }
 }
 
@@ -42,6 +34,6 @@ impl fmt::Display for Tally {
                 write!(f, " {number}={count}")?;
             }
         }
-        write!(f, " differ={}", self.differ)
+        write!(f, " differ={}", self.compared.differ)
     }
 }

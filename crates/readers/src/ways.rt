@@ -48,6 +48,7 @@ pub(crate) enum Way {
     TurnedTooManyStops,
 }
 
+// They stand here a second time, since no derive of std lists the cases of an enum.
 pub(crate) const WAYS: [Way; 23] = [
     Way::Sound,
     Way::TooFewLines,

@@ -17,7 +17,7 @@ pub(crate) enum Altered {
     Share,
 }
 
-// All of them, the one of number 1 first.
+// All of them, the one of number 1 first: the table on standard input has their numbers, and no derive of std lists the cases of an enum.
 const THINGS: [Altered; 11] = [
     Altered::Order,
     Altered::Cores,

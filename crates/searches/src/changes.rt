@@ -1,5 +1,6 @@
 // A sheet, and changes of it in one place.
-use crate::entries::{add, at, put};
+use crate::entries::{at, put};
+use model::raise_at;
 
 // A group's member bytes, and a share for each pair.
 #[derive(Clone, Copy)]
@@ -27,7 +28,7 @@ pub(crate) enum Change {
     AllUnits,
 }
 
-// All of them, the one of number 0 first.
+// All of them, the one of number 0 first: the table on standard input has their numbers, and no derive of std lists the cases of an enum.
 const CHANGES: [Change; 10] = [
     Change::Nothing,
     Change::ShareRaised,
@@ -51,7 +52,7 @@ fn lower(i: u32, shares: &mut [u32]) -> u32 {
 // A unit that there is goes to the next share.
 fn move_unit(i: u32, shares: &mut [u32]) {
     let moved = lower(i, shares);
-    add(shares, i.saturating_add(1), moved);
+    raise_at(shares, i.saturating_add(1), moved);
 }
 
 impl Change {
@@ -73,7 +74,7 @@ impl Change {
     pub(crate) fn make(self, i: u32, units: u32, members: &mut [u8], shares: &mut [u32]) {
         match self {
             Change::Nothing => {}
-            Change::ShareRaised => add(shares, i, 1),
+            Change::ShareRaised => raise_at(shares, i, 1),
             Change::ShareLowered => _ = lower(i, shares),
             Change::UnitMoved => move_unit(i, shares),
             Change::ShareTooLarge => put(shares, i, units.saturating_add(1)),

@@ -9,8 +9,8 @@ use numbers::Ratio;
 use refusals::Refusal;
 use std::alloc::{AllocError, Global};
 
-// The answers are counted as accepted, refused by 7, by 8, by 9.
-fn kind(answer: Result<Ratio, Refusal>) -> usize {
+// The answers are counted as accepted, refused by 7, by 8, by 9: the four places of a tally, which other answers have too (module `surpluses`).
+fn kind(answer: Result<Ratio, Refusal>) -> u32 {
     match answer {
         Ok(_) => 0,
         Err(Refusal::NoGroup) => 1,
@@ -22,7 +22,7 @@ fn kind(answer: Result<Ratio, Refusal>) -> usize {
 // Check of one sheet, by both.
 fn judge(tried: &Tried, sheet: Sheet, tally: &mut Tally) {
     let answer = tried.held.check(sheet);
-    tally.note(answer == tried.plain.check(sheet));
+    tally.compared.note(answer == tried.plain.check(sheet));
     tally.answered(kind(answer));
 }
 

@@ -12,13 +12,6 @@ pub(crate) fn put<T: Copy>(items: &mut [T], i: u32, x: T) {
     }
 }
 
-// Entry i becomes x more.
-pub(crate) fn add(words: &mut [u32], i: u32, x: u32) {
-    if let Some(word) = words.get_mut(i as usize) {
-        *word = word.saturating_add(x);
-    }
-}
-
 // Digit i of a number in a base, the last one first.
 pub(crate) fn digit(number: u32, base: u32, i: u32) -> u32 {
     number

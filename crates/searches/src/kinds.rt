@@ -33,7 +33,7 @@ pub(crate) enum Kind {
 }
 
 impl Kind {
-    // The kind of a number, with its two numbers.
+    // The kind of a number, with its two numbers: those of the table on standard input.
     pub(crate) fn numbered(kind: u32, x: u32, y: u32) -> Option<Kind> {
         match kind {
             0 => Some(Kind::Bits),

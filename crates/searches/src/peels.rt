@@ -1,8 +1,9 @@
 // Peel's answer, and the plain computation of it: leaving order, core numbers and the densest remainder. Modules have levels, and those of level k or more are
 // present. Module v has left at turn i when its level, its place, is i; it has dropped from the core of order k when its level, its core number, is below k.
 use crate::altered::Altered;
-use crate::entries::{add, at, put};
+use crate::entries::{at, put};
 use crate::plain::{Plain, is_below};
+use model::{raise, raise_at};
 use numbers::Ratio;
 use peel::Remainder;
 use std::alloc::{AllocError, Global};
@@ -20,10 +21,10 @@ impl Peeled {
     // One thing altered.
     pub(crate) fn alter(&mut self, thing: Altered) {
         match thing {
-            Altered::Order => add(&mut self.order, 0, 1),
-            Altered::Cores => add(&mut self.cores, 0, 1),
-            Altered::Place => add(&mut self.place, 0, 1),
-            Altered::Remainder => self.best.at = self.best.at.saturating_add(1),
+            Altered::Order => raise_at(&mut self.order, 0, 1),
+            Altered::Cores => raise_at(&mut self.cores, 0, 1),
+            Altered::Place => raise_at(&mut self.place, 0, 1),
+            Altered::Remainder => raise(&mut self.best.at, 1),
             _ => {}
         }
     }

@@ -1,5 +1,5 @@
 // A list as the plain computations see it. They are as document 01 defines things and as plain as can be: stops are counted anew whenever they are looked at.
-use crate::entries::add;
+use model::raise_at;
 use numbers::Ratio;
 use pairs::Stops;
 use std::alloc::{AllocError, Global};
@@ -49,8 +49,8 @@ impl Plain {
         let mut degrees = [0u32; 512];
         for &Stops { a, b, w } in self.pairs.iter() {
             if present(a) && present(b) {
-                add(&mut degrees, a, w);
-                add(&mut degrees, b, w);
+                raise_at(&mut degrees, a, w);
+                raise_at(&mut degrees, b, w);
             }
         }
         degrees

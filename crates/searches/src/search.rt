@@ -25,7 +25,7 @@ const BARE: Effort = Effort { phases: 0, arcs: 0 };
 fn try_bare(tried: &Tried, due: Due, alloc: Global, tally: &mut Tally) -> Result<(), AllocError> {
     if tried.plain.n <= 40 {
         let bare = tried.held.solve(BARE, alloc)?;
-        tally.note(bare.is_right(tried, due));
+        tally.compared.note(bare.is_right(tried, due));
         tally.scanned(bare.record.searches);
     }
     Ok(())
@@ -44,9 +44,9 @@ fn try_solve(
     if let Some(thing) = thing {
         pushed.alter(thing, tried.plain.stops(0));
     }
-    tally.note(pushed.is_right(tried, due));
-    tally.note(exact.is_right(tried, due));
-    tally.note(pushed.names_same(&exact));
+    tally.compared.note(pushed.is_right(tried, due));
+    tally.compared.note(exact.is_right(tried, due));
+    tally.compared.note(pushed.names_same(&exact));
     tally.searched(exact.record.searches);
     Ok(())
 }
@@ -63,7 +63,7 @@ pub(crate) fn search(
     if let Some(thing) = thing {
         peeled.alter(thing);
     }
-    tally.note(peeled == plain);
+    tally.compared.note(peeled == plain);
     let due = Due {
         best: tried.plain.densest_set(),
         cores: &plain.cores,

@@ -1,11 +1,12 @@
 // Solve's answer beside the plain computations, its sheet put to check, and one answer beside another.
 use crate::altered::Altered;
 use crate::changes::Sheet;
-use crate::entries::{add, put};
+use crate::entries::put;
 use crate::sets::Set;
 use crate::trials::Tried;
 use crate::verdicts::units;
 use densest::Solution;
+use model::{raise, raise_at, reaching, rounded_up};
 
 // The found group's member bytes, core numbers, shares, and the record.
 #[derive(Drop)]
@@ -21,16 +22,6 @@ pub(crate) struct Solved {
 pub(crate) struct Due<'a> {
     pub(crate) best: Option<Set>,
     pub(crate) cores: &'a [u32],
-}
-
-// p over q, rounded up.
-fn rounded_up(p: u32, q: u32) -> u32 {
-    if q == 0 { 0 } else { p.div_ceil(q) }
-}
-
-// How many core numbers are as large as an order or larger: the size of the core of that order.
-fn core_size(order: u32, cores: &[u32]) -> usize {
-    cores.iter().filter(|&&core| order <= core).count()
 }
 
 // The first byte becomes 1 where it is 0, else 0.
@@ -51,15 +42,15 @@ impl Solved {
 
     // One thing altered; a pair that counts w times comes first.
     pub(crate) fn alter(&mut self, thing: Altered, w: u32) {
-        let q = self.record.ratio.q;
+        let all = units(w, self.record.ratio.q);
         match thing {
             Altered::Member => other_byte(&mut self.members),
-            Altered::Inside => self.record.ratio.p = self.record.ratio.p.saturating_add(1),
-            Altered::Size => self.record.ratio.q = q.saturating_add(1),
-            Altered::K => self.record.k = self.record.k.saturating_add(1),
-            Altered::CoreSize => self.record.core = self.record.core.saturating_add(1),
-            Altered::CoreNumber => add(&mut self.cores, 0, 1),
-            Altered::Share => put(&mut self.shares, 0, units(w, q).saturating_add(1)),
+            Altered::Inside => raise(&mut self.record.ratio.p, 1),
+            Altered::Size => raise(&mut self.record.ratio.q, 1),
+            Altered::K => raise(&mut self.record.k, 1),
+            Altered::CoreSize => raise(&mut self.record.core, 1),
+            Altered::CoreNumber => raise_at(&mut self.cores, 0, 1),
+            Altered::Share => put(&mut self.shares, 0, all.saturating_add(1)),
             _ => {}
         }
     }
@@ -67,10 +58,7 @@ impl Solved {
     // Whether the group is the densest of all sets, of equals the largest, with its inside count and size. Sets are counted of up to 12 modules; check counts
     // the inside count and the size of any group.
     fn group_is_right(&self, due: Due) -> bool {
-        match due.best {
-            Some(best) => self.record.ratio == best.ratio && best.is_of(&self.members),
-            None => true,
-        }
+        due.best.is_none_or(|best| self.record.ratio == best.ratio && best.is_of(&self.members))
     }
 
     // Whether the core numbers are the plain ones, K is P over Q rounded up, and the core's size that of the core of order K.
@@ -78,7 +66,7 @@ impl Solved {
         let Solution { ratio, k, core, .. } = self.record;
         self.cores.as_slice() == due.cores
             && k == rounded_up(ratio.p, ratio.q)
-            && core as usize == core_size(k, due.cores)
+            && core as usize == reaching(due.cores, k)
     }
 
     // Whether the answer is right: group and core numbers, and check accepts the sheet and counts the same P and Q.

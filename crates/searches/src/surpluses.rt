@@ -6,8 +6,8 @@ use model::front_mut;
 use refusals::Refusal;
 use std::cmp::Ordering;
 
-// The answers are counted as above zero, zero, below zero, refused by 7.
-fn kind(answer: Result<i64, Refusal>) -> usize {
+// The answers are counted as above zero, zero, below zero, refused by 7, in the four places of a tally.
+fn kind(answer: Result<i64, Refusal>) -> u32 {
     match answer.map(|value| value.cmp(&0)) {
         Ok(Ordering::Greater) => 0,
         Ok(Ordering::Equal) => 1,
@@ -19,7 +19,9 @@ fn kind(answer: Result<i64, Refusal>) -> usize {
 // Surplus of two sets, by both.
 fn weigh(tried: &Tried, first: &[u8], second: &[u8], tally: &mut Tally) {
     let answer = tried.held.surplus(first, second);
-    tally.note(answer == tried.plain.surplus(first, second));
+    tally
+        .compared
+        .note(answer == tried.plain.surplus(first, second));
     tally.answered(kind(answer));
 }
 

@@ -1,6 +1,6 @@
 // What was seen.
 use flow::Searches;
-use model::Random;
+use model::{Compared, Random, raise, raise_at};
 use std::io;
 
 // Lists, their pairs and the stops of these, lists that were not read as they were written, comparisons that differ, how often each of four answers was given,
@@ -11,16 +11,11 @@ pub(crate) struct Tally {
     pairs: u32,
     stops: u32,
     unread: u32,
-    differ: u32,
+    pub(crate) compared: Compared,
     answers: [u32; 4],
     searches: Searches,
     scanned: u32,
     pub(crate) random: Random,
-}
-
-// So many more.
-fn add(count: &mut u32, more: u32) {
-    *count = count.saturating_add(more);
 }
 
 impl Tally {
@@ -31,7 +26,7 @@ impl Tally {
             pairs: 0,
             stops: 0,
             unread: 0,
-            differ: 0,
+            compared: Compared::default(),
             answers: [0; 4],
             searches: Searches::default(),
             scanned: 0,
@@ -41,33 +36,24 @@ impl Tally {
 
     // A list of so many pairs and stops.
     pub(crate) fn list(&mut self, pairs: u32, stops: u32) {
-        add(&mut self.lists, 1);
-        add(&mut self.pairs, pairs);
-        add(&mut self.stops, stops);
+        raise(&mut self.lists, 1);
+        raise(&mut self.pairs, pairs);
+        raise(&mut self.stops, stops);
     }
 
     // A list that was not read as it was written.
     pub(crate) fn unread(&mut self) {
-        add(&mut self.unread, 1);
-    }
-
-    // Something compared, which is the same or not.
-    pub(crate) fn note(&mut self, same: bool) {
-        if !same {
-            add(&mut self.differ, 1);
-        }
+        raise(&mut self.unread, 1);
     }
 
     // An answer of one of the four kinds.
-    pub(crate) fn answered(&mut self, kind: usize) {
-        if let Some(count) = self.answers.get_mut(kind) {
-            add(count, 1);
-        }
+    pub(crate) fn answered(&mut self, kind: u32) {
+        raise_at(&mut self.answers, kind, 1);
     }
 
     // What searches did that had no arcs.
     pub(crate) fn scanned(&mut self, searches: Searches) {
-        add(&mut self.scanned, searches.chains);
+        raise(&mut self.scanned, searches.chains);
     }
 
     // What searches did that had arcs.
@@ -103,6 +89,6 @@ impl Tally {
         } else {
             self.print_answers(rt, name)?;
         }
-        println!(rt; " unread={} differ={}", self.unread, self.differ)
+        println!(rt; " unread={} differ={}", self.unread, self.compared.differ)
     }
 }
