@@ -107,7 +107,7 @@ fn buffers(rt: &impl Print) -> io::Result<()> {
 }
 
 // The cycle, with another first member byte and first share.
-fn altered(rt: &impl Print) -> io::Result<()> {
+fn spoiled(rt: &impl Print) -> io::Result<()> {
     let all = [
         ("byte of 2", 7, 2, 5),
         ("member dropped", 8, 0, 5),
@@ -127,6 +127,6 @@ fn altered(rt: &impl Print) -> io::Result<()> {
 
 pub(crate) fn run(rt: &impl Print) -> io::Result<()> {
     buffers(rt)?;
-    altered(rt)?;
+    spoiled(rt)?;
     sheets(rt)
 }

@@ -18,15 +18,12 @@ fn put_list(text: &mut String, list: List) -> Result<(), AllocError> {
     Ok(())
 }
 
-// What a reader with room for so many records makes of the bytes. (`as` stands where std has no `From`: from u32 to usize.)
+// What a reader with room for so many records makes of the bytes.
 fn read(alloc: Global, bytes: &[u8], room: usize) -> Result<String, AllocError> {
     let mut text = String::new(alloc);
     let mut words = [0u32; 12288];
     match read_words(bytes, room, &mut words) {
-        Ok(head) => {
-            let list = List::in_words(head.n as usize, head.m as usize, &words);
-            put_list(&mut text, list)?;
-        }
+        Ok(head) => put_list(&mut text, head.list(&words))?,
         Err(refusal) => write!(text, "{}", u32::from(refusal))?,
     }
     Ok(text)
@@ -38,7 +35,7 @@ pub(crate) fn try_edges(rt: &HostRuntime, words: &mut Words) -> io::Result<Strin
     Ok(read(rt.alloc(), file.as_slice(), 4096)?)
 }
 
-// A DIMACS file behind the number of records that there is room for. (`as` as above.)
+// A DIMACS file behind the number of records that there is room for. (`as` stands where std has no `From`: from u32 to usize.)
 pub(crate) fn try_room(rt: &HostRuntime, words: &mut Words) -> io::Result<String> {
     let room = words.number()?;
     let file = words.file(rt)?;

@@ -114,14 +114,15 @@ fn count_due(list: List, lines: u32) -> u32 {
     count
 }
 
-// How many bytes there are, and what read makes of them: N and M, and how many of the pairs are due. (`as` stands where std has no `From`: from u32 to usize.)
+// How many bytes there are, and what read makes of them: N and M, and how many of the pairs are due.
 fn counted(alloc: Global, bytes: &[u8], lines: u32) -> Result<String, AllocError> {
     let mut words = [0u32; 12288];
     let size = bytes.len();
     match read_words(bytes, 4096, &mut words) {
-        Ok(Head { n, m }) => {
-            let list = List::in_words(n as usize, m as usize, &words);
-            format!(in alloc; "{size} 0 {n},{m} {}", count_due(list, lines))
+        Ok(head) => {
+            let Head { n, m } = head;
+            let count = count_due(head.list(&words), lines);
+            format!(in alloc; "{size} 0 {n},{m} {count}")
         }
         Err(refusal) => format!(in alloc; "{size} {}", u32::from(refusal)),
     }

@@ -82,8 +82,8 @@ impl Plan {
         self.first.wrapping_add(raised)
     }
 
-    // The lines of pairs. `readers` makes such files too, with other counts: in a crate that both reach, the maker would be a function over a closure whose contract
-    // says the whole text, which is longer than the two.
+    // The lines of pairs. `readers` makes such files too, with other counts: in a crate that both reach, the maker would be a function over a closure whose
+    // contract says the whole text, which is longer than the two.
     fn put_pairs(&self, file: &mut String) -> Result<(), AllocError> {
         for i in (0..self.lines).chain(0..self.again) {
             let (a, b) = circle::pair(i);

@@ -4,7 +4,6 @@ use crate::made::{put_edge, put_problem};
 use crate::solved::Plan;
 use crate::words::Words;
 use dimacs::write_words;
-use lists::List;
 use pairfile::read_words;
 use records::Head;
 use std::alloc::{AllocError, Global};
@@ -38,14 +37,12 @@ fn read_back(file: &[u8], head: Head, words: &[u32]) -> usize {
 }
 
 // The list of a pair file, written, beside the DIMACS file due: how many bytes are written, and how much of them and of what is read back is not as due.
-// (`as` stands where std has no `From`: from u32 to usize.)
 fn written(alloc: Global, pairs: &[u8], file: &[u8]) -> Result<String, AllocError> {
     let mut words = [0u32; 12288];
     let mut out = UNWRITTEN;
     match read_words(pairs, 4096, &mut words) {
         Ok(head) => {
-            let list = List::in_words(head.n as usize, head.m as usize, &words);
-            let length = write_words(list, &mut out);
+            let length = write_words(head.list(&words), &mut out);
             let bytes = differing_bytes(&out, file);
             format!(in alloc; "{length} {bytes} {}", read_back(file, head, &words))
         }

@@ -116,8 +116,9 @@ pub fn raise(count: &mut u32, by: u32)
 pub fn raise_at(counts: &mut [u32], i: u32, by: u32)
     ensures { counts.new ≡ raised_at counts.old i by }
 {
-    if let Some(count) = counts.get_mut(i as usize) {
-        raise(count, by);
+    let i = i as usize;
+    if i < counts.len() {
+        raise(&mut counts[i], by);
     }
 }
 
@@ -207,7 +208,8 @@ impl Stops {
         self.counts.remove(&key(a, b))
     }
 
-    // Writes the pairs in rising order to the front of the list. The records after them stay.
+    // Writes the pairs in rising order to the front of the list. The records after them stay. The loop counts: with `iter_mut` and `zip` it was tried, and the
+    // proof didn't close, since an invariant doesn't see what an iterator writes.
     #[tactic(auto, unfolding(crate::specs::Counts::written))]
     pub fn write(&self, list: &mut [Pair])
         ensures { list.new ≡ written 0 (map record_at self.now.counts.entries) list.old }

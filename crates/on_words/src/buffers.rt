@@ -33,7 +33,7 @@ pub fn clear(work: &mut [u32])
     work[..16384].fill(0);
 }
 
-// The words, which fit 16 bits, in front of the entries of `to`.
+// The words, which fit 16 bits, in front of the entries of `to`. (Tried: `zip` with `iter_mut`, after which a proof knows no entry of `to`, only how many.)
 #[tactic(auto, using(crate::proofs::Filling::front_more, crate::proofs::Filling::front_all))]
 pub(crate) fn narrow(words: &[u32], to: &mut [u16])
     requires room { length words.now ≤ length to.old }

@@ -50,7 +50,7 @@ impl Held {
         ensures modules { result.n ≡ self.now.head.n }
         ensures pairs { result.m ≡ self.now.head.m }
     {
-        List::in_words(self.head.n as usize, self.head.m as usize, &self.words)
+        self.head.list(&self.words)
     }
 
     // Peel.

@@ -4,7 +4,7 @@
 --   group_first                                  GroupFirst: a sheet's text begins with the group's
 --   refusal_printed, refusal_due                 a refused file
 --   modules_few, answer_length, group_lines      the group of a file that names a list
---   pairs_few, shares_count, list_held           how many pairs and shares it has, and where its list lies
+--   pairs_few, list_held                         how many pairs it has, and where its list lies
 --   lines_length, sheet_due                      and its sheet
 -- Assumes nothing.
 use mathlib.Core.Path.{◌≡◌, refl, sym, ap, ◌∙◌}
@@ -14,7 +14,7 @@ use Prim.Native.Nat.{ℕ, ◌≤◌}
 use native.Mathlib.Omega.{arith}
 use lib.ListN.{length, take}
 use Rattle.std.proofs.Common.{Result, Ok, Err, IfOk, IfErr}
-use lib.Seq.{length-take-le, take_at}
+use lib.Seq.{take_at}
 use Rattle.theory.specs.Lists.{Pairs, is_list}
 use Rattle.theory.specs.Groups.{inside, size, Found, found_of}
 use Rattle.theory.specs.Cores.{core_number, core_numbers}
@@ -190,7 +190,7 @@ module _ {file members : List ℕ} {x : Answer} {members' : List ℕ} (a : Answe
 
 module _ {file members cores shares words : List ℕ} {x : Answer} {members' cores' shares' words' : List ℕ}
     (s : Sheeted file members cores shares words (Ok x) members' cores' shares' words')
-    (shares_long : 4096 ≤ length shares') (words_long : 12288 ≤ length words') where
+    (words_long : 12288 ≤ length words') where
   module _ (g : Pairs) (e : read_file 4096 file ≡ taken g) (is : x ≡ group_answer g (found_of g)) where
     abbrev shares_of : List ℕ
     shares_of = take (length g.pairs) shares'
@@ -242,26 +242,27 @@ module _ {file members cores shares words : List ℕ} {x : Answer} {members' cor
   pub pairs_few : x.head.m ≤ 4096
   pairs_few = let k = named s.answers in m_few k.0 k.1 k.2
 
-  pub shares_count : length (take x.head.m shares') ≡ x.head.m
-  shares_count = length-take-le x.head.m shares' (omega (arith, pairs_few, shares_long))
-
   pub list_held : HoldsList x.head.n x.head.m words'
   list_held = let k = named s.answers in record { listed = rw (laid_as k.0 k.1 k.2) (list s.answers k.0 k.1 k.2); long = words_long }
 
-  module _ {l : Pairs} (same : l ≡ laid_list x.head.n x.head.m words') where
+  -- l is the list in the words, with its N and M
+  module _ {l : Pairs} {n m : ℕ} (same : l ≡ laid_list x.head.n x.head.m words') (n_same : n ≡ x.head.n) (m_same : m ≡ x.head.m) where
     abbrev lines : List ℕ
-    lines = sheet_lines x (take x.head.n members') (take x.head.n cores') l.pairs (take x.head.m shares')
+    lines = sheet_lines x (take n members') (take n cores') l.pairs (take m shares')
 
     pub lines_length : length lines ≤ 136756
     lines_length =
         let k = named s.answers in
         let best = certificate k.0 (found_of k.0) (shares_of k.0 k.1 k.2) in
-        rw (same, laid_as k.0 k.1 k.2, sheet_as k.0 k.1 k.2) (sheet_length k.0 best (list s.answers k.0 k.1 k.2) (written k.0 k.1 k.2))
+        rw (n_same, m_same, same, laid_as k.0 k.1 k.2, sheet_as k.0 k.1 k.2)
+        (sheet_length k.0 best (list s.answers k.0 k.1 k.2) (written k.0 k.1 k.2))
 
     pub sheet_due : SheetPrinted file lines
     sheet_due =
         let k = named s.answers in
         record {
-          taken = λ u t. let own : k.0 ≡ u = taken_same (sym k.1 ∙ t) in rw (same, laid_as k.0 k.1 k.2, ← own) (due_of k.0 k.1 k.2);
+          taken = λ u t.
+              let own : k.0 ≡ u = taken_same (sym k.1 ∙ t) in
+              rw (n_same, m_same, same, laid_as k.0 k.1 k.2, ← own) (due_of k.0 k.1 k.2);
           refused = λ j r. absurd (refused_not_taken (sym r ∙ k.1));
         }

@@ -30,8 +30,11 @@ fn module_of(argument: &[u8]) -> Result<u32, Refusal>
     ensures { module_due (argument_number argument.now) ≡ outcome_of (λ a. a) result }
 {
     let mut reader = Reader { left: argument };
-    let number = reader.number(4).filter(|_| reader.is_done());
-    number.ok_or(Refusal::BadArgument)
+    let number = reader.number(4).ok_or(Refusal::BadArgument)?;
+    if !reader.is_done() {
+        return Err(Refusal::BadArgument);
+    }
+    Ok(number)
 }
 
 // The line of a list's k-th record, counted from 1, if there is one.

@@ -1,4 +1,5 @@
 // How the programs read: into a lent buffer, to the input's end or the buffer's; a file that an argument names, or nothing where it cannot be read.
+// A program names DECIDE beside a buffer of its own. That it fits is a clause of each function: a type of buffer with that room would ask more of callers.
 ghost use Rattle.std.specs.Prelude.{◌≡◌, ◌≤◌, IfOk, IfSome, length, take};
 ghost use Rattle.texts.specs.Printed.{ReadOf};
 

@@ -19,12 +19,12 @@ short k g e l = (e ∙ zero-add (length (dimacs_of g)), dimacs_length g l)
 pub overflow_cast-result : goal.overflow_cast-result
 overflow_cast-result c =
     let a = c.args in
-    let e = rw c.in_words.ensures.value at c.write_words.ensures in
+    let e = rw c.list.ensures.value at c.write_words.ensures in
     omega (arith, short _ (laid_list a.head.n a.head.m a.words.now) e.end c.requires.holds_list.listed)
 
 pub returns : goal.returns
 returns c =
     let a = c.args in
     let g : Pairs = laid_list a.head.n a.head.m a.words.now in
-    let e = rw c.in_words.ensures.value at c.write_words.ensures in
+    let e = rw c.list.ensures.value at c.write_words.ensures in
     record { counted = (short _ g e.end c.requires.holds_list.listed).0; bytes = e.buffer ∙ put_front (dimacs_of g) _ }

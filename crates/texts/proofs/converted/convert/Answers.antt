@@ -13,6 +13,6 @@ returns-in_err-head g c = rw (handed_on c.from_residual.ensures.1) (text_refused
 pub returns : goal.returns
 unfolding outcome_of
 returns g c =
-    let puts = rw c.in_words-list.ensures.value at c.write_words.ensures.puts in
+    let puts = rw c.list.ensures.value at c.write_words.ensures.puts in
     let fits = c.write_words.ensures.fits in
     text_printed (prints (list_converted g.G.FileWriter.file_of c.in_ok-head.ensures.found) puts (omega (arith, fits, c.requires)))

@@ -1,8 +1,9 @@
 -- `neighbours::write_placed` meets its contract: the file is refused, an argument, the two modules, or their pair is looked up.
-use Rattle.std.proofs.Common.{◌≤◌, length, sym, arith}
+use Rattle.std.proofs.Common.{◌≡◌, ◌≤◌, length, sym, arith}
+use Rattle.theory.specs.Lists.{pair}
 use Rattle.theory.specs.Words.{laid_list, laid_pairs}
 use Rattle.theory.proofs.Words.{length_laid, holds_few}
-use Rattle.pairs.specs.Located.{place_in}
+use Rattle.pairs.specs.Located.{place_in, located}
 use Rattle.pairs.proofs.Words.{holds_rising}
 use Rattle.lines.specs.Outcomes.{outcome_of}
 use Rattle.lines.proofs.Found.{handed_on}
@@ -45,31 +46,38 @@ returns-in_err-check_pair c =
     (modules_refused _ _ _ c.in_ok-head.ensures.file.found c.in_ok-a.ensures c.in_ok-b.ensures _ c.in_err-check_pair.ensures))
 
 pub lookup-place-requires : goal.lookup-place-requires
-lookup-place-requires c = holds_rising _ _ _ c.in_ok-head.ensures.held
+lookup-place-requires c = rw c.list-list.ensures.pairs (holds_rising _ _ _ c.in_ok-head.ensures.held)
+
+-- the pair's place among the records
+found : (c : After-lookup-place) →
+    place_in c.lookup-place.result ≡ located (pair c.min.result c.max.result) (laid_pairs c.in_ok-head.head.m c.read_words.new.words)
+found c = rw c.list-list.ensures.pairs at c.lookup-place.ensures
 
 -- the place is among the M records, or behind them
 within : (c : After-lookup-place) → (place_in c.lookup-place.result).at ≤ c.in_ok-head.head.m
-within c = omega (arith, found_within _ _ c.lookup-place.ensures, length_laid c.in_ok-head.head.m c.read_words.new.words)
+within c = omega (arith, found_within _ _ (found c), length_laid c.in_ok-head.head.m c.read_words.new.words)
 
 pub write_place-requires-clause-at_le_m : goal.write_place-requires-clause-at_le_m
 write_place-requires-clause-at_le_m c =
-    omega (arith, within (goal.at.write_place-requires-clause-at_le_m c).After-lookup-place, c.in_words-list.ensures.pairs)
+    omega (arith, within (goal.at.write_place-requires-clause-at_le_m c).After-lookup-place, c.list-list.ensures.pairs)
 
 -- the text of the place is short
-short : (c : After-lookup-place) → length (place_text (place_in c.lookup-place.result) (laid_list c.in_ok-head.head.n c.in_ok-head.head.m c.read_words.new.words).pairs) ≤ 64
+short : (c : After-lookup-place) → let head = c.in_ok-head.head in
+    length (place_text (place_in c.lookup-place.result) (laid_list head.n head.m c.read_words.new.words).pairs) ≤ 64
 short c =
     let list = c.in_ok-head.ensures.held.listed in
     place_length (laid_list _ _ _) (place_in c.lookup-place.result) list (omega (arith, within c, holds_few _ _ _ list))
 
 pub write_place-requires-clause-room : goal.write_place-requires-clause-room
 write_place-requires-clause-room c =
-    rw c.in_words-list.ensures.value (omega (arith, short (goal.at.write_place-requires-clause-room c).After-lookup-place, c.requires))
+    rw c.list-list.ensures.value (omega (arith, short (goal.at.write_place-requires-clause-room c).After-lookup-place, c.requires))
 
 pub returns : goal.returns
 unfolding outcome_of laid_list
 returns c =
-    let is = found_there c.in_ok-a.a c.in_ok-b.b (laid_pairs c.in_ok-head.head.m c.read_words.new.words) c.min.ensures c.max.ensures c.lookup-place.ensures in
+    let is = found_there c.in_ok-a.a c.in_ok-b.b (laid_pairs c.in_ok-head.head.m c.read_words.new.words) c.min.ensures c.max.ensures
+    (found (goal.at.returns c).After-lookup-place) in
     text_written _ _ _
     (modules_placed _ _ _ c.in_ok-head.ensures.file.found c.in_ok-a.ensures c.in_ok-b.ensures (sym c.in_ok-check_pair.ensures) is)
-    (rw c.in_words-list.ensures.value at c.write_place.ensures)
+    (rw c.list-list.ensures.value at c.write_place.ensures)
     (omega (arith, short (goal.at.returns c).After-lookup-place, c.requires))

@@ -10,14 +10,16 @@ unfolding list_in
 line-requires c =
     let l = c.args.list in
     let h : (1 ≤ c.args.k) × (c.args.k ≤ l.m) = search rules in
-    rw (line_there c.args.form.now l.m l.ends.now l.weights.now c.args.k h.0 h.1) at c.requires
+    rw (c.ends_of-a.ensures.first, c.ends_of-a.ensures.second)
+    (rw (line_there c.args.form.now l.m l.ends.now l.weights.now c.args.k h.0 h.1) at c.requires)
 
 pub returns-then-contains : goal.returns-then-contains
 unfolding list_in
 returns-then-contains c =
     let l = c.args.list in
     let h : (1 ≤ c.args.k) × (c.args.k ≤ l.m) = search rules in
-    rw (line_there c.args.form.now l.m l.ends.now l.weights.now c.args.k h.0 h.1) c.line.ensures
+    rw (line_there c.args.form.now l.m l.ends.now l.weights.now c.args.k h.0 h.1)
+    (rw (c.ends_of-a.ensures.first, c.ends_of-a.ensures.second) at c.line.ensures)
 
 pub returns-else-contains : goal.returns-else-contains
 unfolding list_in
