@@ -48,13 +48,13 @@ pub fn group_size(group: &[u8]) -> u32
 }
 
 // The group of the modules whose entry among `numbers` is k or more: of core numbers the core of order k, of layer numbers all from layer k on.
-// (By an index: tried by `iter_mut().zip(..)`, of whose writes a proof knows nothing afterwards.)
+// (Tried: `zip` of the two, of whose writes a proof knows nothing afterwards.)
 #[tactic(auto, unfolding(theory::specs::Basics::mark))]
 pub fn mark_at_least(k: u32, numbers: &[u32], group: &mut [u8])
     requires { length group.old ≤ length numbers.now }
     ensures { (v : ℕ) → v < length group.old → get_or group.new v 0 ≡ mark (leb k (get_or numbers.now v 0)) }
 {
-    for v in 0..group.len() {
-        group[v] = u8::from(k <= numbers[v]);
+    for (v, byte) in group.iter_mut().enumerate() {
+        *byte = u8::from(k <= numbers[v]);
     }
 }

@@ -31,6 +31,7 @@ impl<'a> List<'a> {
             weights: &words[8192..],
         }
     }
+
     // The two ends of pair j, the smaller first.
     pub fn ends_of(&self, j: usize) -> (u32, u32)
         requires { j < self.now.m }

@@ -69,7 +69,7 @@ impl<'l, 's> Split<'l, 's> {
         loads
     }
 
-    // The greatest load of a module. (A fold from 0: std's `max` would give an Option, and none cannot come.)
+    // The greatest load of a module. (A fold from 0: std's `max` would give an Option, and there is always a module.)
     #[tactic(auto, using(crate::proofs::Bounds::few))]
     pub(crate) fn greatest_load(&self) -> u32
         ensures { result ≡ greatest_load (listed self.now.list) self.now.q self.now.shares.now }
