@@ -23,5 +23,5 @@ solve_on_words-found-requires-clause-shares_long c =
 pub returns : goal.returns
 returns c =
     taken_as _ _ _ _ _ c.in_ok-head.ensures.file c.in_ok-head.ensures.held c.solve_on_words-found.ensures
-    (rw (c.in_words.ensures.modules, c.in_words.ensures.pairs) at (c.lay.ensures.pairs ∙ c.in_words.ensures.value))
-    (rw c.in_words.ensures.pairs at c.lay.ensures.past)
+    (rw (c.list.ensures.modules, c.list.ensures.pairs) at (c.lay.ensures.pairs ∙ c.list.ensures.value))
+    (rw c.list.ensures.pairs at c.lay.ensures.past)

@@ -7,4 +7,4 @@ pub returns-in_err-head : goal.returns-in_err-head
 returns-in_err-head c = rw (handed_on c.from_residual.ensures.1) (file_refused _ _ c.in_err-head.ensures.file)
 
 pub returns : goal.returns
-returns c = list_audited _ _ c.in_ok-head.ensures.file c.in_words-list.ensures.value c.audit_list.ensures
+returns c = list_audited _ _ c.in_ok-head.ensures.file c.list.ensures.value c.audit_list.ensures
