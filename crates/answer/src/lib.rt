@@ -52,12 +52,9 @@ pub fn sheet_file(
     let found = solve_on_words(head, members, cores, shares, &mut work);
     Ok(Answer {
         head,
-        ratio: Ratio {
-            p: found.p,
-            q: found.q,
-        },
+        ratio: found.ratio,
         k: found.k,
-        coresize: found.coresize,
+        coresize: found.core,
     })
 }
 

@@ -44,13 +44,15 @@ pub(crate) fn removed(head: Head, list: &mut [Pair], a: u32, b: u32) -> Result<H
     Ok(changed)
 }
 
-// Where the pair of a and b is held, or else where it would go; refuses by 13, 5, 4.
+// Where the pair of a and b is held, or else where it would go; refuses by 13, 5, 4. (Tried: `map` and `map_err`, with which the check left the promise open.)
 #[tactic(auto, using(crate::proofs::Placings::place_rises, crate::proofs::Placings::place_few))]
 pub(crate) fn found(head: Head, list: &[Pair], a: u32, b: u32) -> Result<Result<u32, u32>, Refusal>
     ensures { PlaceSays head list.now a b (placed_of result) }
 {
     let held = held(head, list)?;
     check_pair(0, head.n, a, b)?;
-    let place = lookup(held, a.min(b), a.max(b));
-    Ok(place.map(|at| at as u32).map_err(|at| at as u32))
+    Ok(match lookup(held, a.min(b), a.max(b)) {
+        Ok(at) => Ok(at as u32),
+        Err(at) => Err(at as u32),
+    })
 }
