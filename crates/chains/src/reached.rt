@@ -6,7 +6,8 @@ use crate::queue::Queue;
 use slots::{Units, other};
 
 // A search tree: rank[v] is 0 where module v is not reached, else it is number rank[v] of those reached, and from[v] the slot by which it was. The root is
-// number 1. `queue` has those reached, in order.
+// number 1. `queue` has those reached, in order. (0, not an Option, and two arrays, not one of structs: cuts read the ranks alone, as numbers, and `zeros` and
+// `leads` are of these.)
 #[derive(Drop)]
 pub(crate) struct Reached {
     pub rank: [u32; 512],

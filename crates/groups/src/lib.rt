@@ -2,7 +2,7 @@
 //
 // Whether a pair lies inside a group, the size of a group and its inside count, and the group of the modules whose entry in a buffer (a core number, say) is
 // k or more. A group has exactly a byte for each module: a caller lends `&members[..n]`. Each costs one pass over the modules or the pairs. Nothing is
-// refused.
+// refused. A mark is a byte, 0 or 1, and no bool: so C lends and reads member bytes, and every set has that form.
 #![tactic(auto)]
 
 ghost use Rattle.std.specs.Prelude.{◌≡◌, ℕ, ◌≤◌, ◌<◌, leb, length, get_or};

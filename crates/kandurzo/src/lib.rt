@@ -30,7 +30,7 @@ use refusals::{Refusal, number};
 use sheets::{checked, compared, peeled, solved};
 use verify::{Difference, Verdict};
 
-// What start, add, remove, read and read_dimacs answer: the refusal number or 0, and the head after the call.
+// What start, add, remove, read and read_dimacs answer, as C has it: the refusal number or 0, and the head after the call.
 #[repr(C)]
 #[derive(Clone, Copy, Debug, PartialEq, Eq)]
 pub struct Changed {

@@ -18,7 +18,7 @@ impl<'a> Reader<'a> {
     }
 
     // The number in front: 1 to `digits` digits, with no leading zero unless it is 0. (`count` is asked in the loop and behind it. Tried: `position`, and then
-    // a loop over the digits, which takes 1.13 times as long.)
+    // a loop over the digits; it takes 1.13 times as long, and reading may not become slower.)
     pub fn number(&mut self, digits: usize) -> Option<u32>
         requires { digits ≤ 9 }
         ensures { NumberFound digits self.old.left.now result self.new.left.now }

@@ -2,7 +2,7 @@
 ghost use Rattle.theory.specs.Words.{HeldWords};
 
 // Pair j has its ends at words 2j and 2j + 1 of `ends`, the smaller module first, and its stop count at word j of `weights`. (Both may go on behind the m
-// pairs: they are parts of lent buffers, or of an array, with room for more.)
+// pairs: they are parts of lent buffers, or of an array, with room for more, and to cut them would be asked of whoever makes a list.)
 #[derive(Clone, Copy)]
 pub struct List<'a> {
     pub n: usize,

@@ -67,8 +67,8 @@ pub fn add_on_words(
     check_room(head, len, words, place, stops)?;
     let count = raise(words, m, place, stops);
     Ok(Head {
-        n: head.n,
         m: count as u32,
+        ..head
     })
 }
 
@@ -85,7 +85,7 @@ pub fn remove_on_words(head: Head, words: &mut [u32], a: u32, b: u32) -> Result<
     };
     delete(words, m, at);
     Ok(Head {
-        n: head.n,
         m: head.m - 1,
+        ..head
     })
 }

@@ -27,7 +27,7 @@ pub use buffers::{Buffer, any_short, clear};
 pub use densest::Solution;
 use refusals::Refusal;
 
-// What place answers: the refusal number or 0; 1 where the pair is held, else 0; and its place, or where it would go.
+// What place answers, as C has it: the refusal number or 0; 1 where the pair is held, else 0; and its place, or where it would go.
 #[repr(C)]
 #[derive(Clone, Copy, Debug, PartialEq, Eq)]
 pub struct Placed {
@@ -36,8 +36,8 @@ pub struct Placed {
     pub at: u32,
 }
 
-// What solve answers: the refusal number or 0; P and Q, the found group's inside count and size; K, P/Q rounded up; the number of modules in the
-// core of order K; and P divided by Q, rounded once.
+// What solve answers, as C has it: the refusal number or 0; P and Q, the found group's inside count and size; K, P/Q rounded up; the number of modules in
+// the core of order K; and P divided by Q, rounded once.
 #[repr(C)]
 #[derive(Clone, Copy, Debug, PartialEq)]
 pub struct Solved {
@@ -49,7 +49,7 @@ pub struct Solved {
     pub ratio: f64,
 }
 
-// What write_dimacs answers: the refusal number or 0, and how many bytes it has written.
+// What write_dimacs answers, as C has it: the refusal number or 0, and how many bytes it has written.
 #[repr(C)]
 #[derive(Clone, Copy, Debug, PartialEq, Eq)]
 pub struct Written {

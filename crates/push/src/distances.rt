@@ -49,7 +49,7 @@ fn label_neighbours(
     }
 }
 
-// Labels all modules from which units can come to one loaded below p; they are queued as they were reached.
+// Labels all modules from which units can come to one loaded below p; they are queued as they were reached. (The loop goes by the queue.)
 pub(crate) fn label_all(
     units: &Units,
     arcs: Arcs,

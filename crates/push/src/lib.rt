@@ -9,7 +9,8 @@
 // Cost: a phase takes a step for each slot of the modules that it labels and of those that come up in the queue. Nothing is refused.
 // `as` stands where std has no `From`: from u32 to usize, and where a bound lets a number fit fewer bits.
 // That n ≤ 512, and how long lent buffers are, are clauses: an invariant of `Graph`, or arrays for slices, would ask more of who calls public functions.
-// So is `UnitsKept`, of whatever moves units: it is said of them before and after, which no type can.
+// `UnitsKept` is a clause of each function that moves units: it compares before and after, which no type can. So is v < 512, as the bound of any index is: a
+// type of module numbers would be made and taken apart around each index.
 #![tactic(auto)]
 
 mod distances;

@@ -7,7 +7,8 @@ use crate::queue::Queue;
 use arcs::{Arc, Arcs};
 use slots::Units;
 
-// The bound p, labels, and the active modules, queued.
+// The bound p, labels, and the active modules, queued. (Units stand beside it: held by `&mut`, each method would have to say that graph and buffers are the
+// same ones afterwards. So how long the loads are is a clause of each.)
 #[derive(Drop)]
 pub(crate) struct Phase<'a> {
     p: u32,

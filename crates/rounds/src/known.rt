@@ -28,12 +28,6 @@ impl<'a> Known<'a> {
         ensures list { result.list ≡ self.entry.list }
         ensures ratio { result.ratio ≡ ratio }
     {
-        Known {
-            list: self.list,
-            cores: self.cores,
-            order: self.order,
-            place: self.place,
-            ratio,
-        }
+        Known { ratio, ..self }
     }
 }

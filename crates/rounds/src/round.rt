@@ -75,9 +75,8 @@ fn prepare(
     }
     let graph = units.graph;
     let shown = Graph {
-        n: graph.n,
         m: effort.arcs.min(graph.m),
-        ends: graph.ends,
+        ..graph
     };
     hints.lay(shown, known.place);
     let first = last.is_none() && effort.phases > 0;
