@@ -16,7 +16,8 @@ fn stays(p: u32, s: u8, x: u32) -> u32
 
 // rank[v] is above 0 where module v stays so far; the ranks are lent. `queue` has modules that drained: whoever holds units of a pair with one of them drains
 // too. (Units stand beside it, not in it: whoever takes it by `&mut` would have to say that they are the same ones afterwards. That they have at most 512
-// modules is a clause of each function: in a struct with them, each contract below would name them through it, which is longer.)
+// modules is a clause of each function: in a struct with them, each contract below would name them through it, which is longer. Ranks lent as an array
+// were tried: then the proof of `start` doesn't close.)
 #[derive(Drop)]
 pub(crate) struct Staying<'a> {
     pub rank: &'a mut [u32],
@@ -27,14 +28,10 @@ pub(crate) struct Staying<'a> {
 
 impl<'a> Staying<'a> {
     // Who stays at the start; those of the scope who do not are queued.
-    pub(crate) fn start(
-        units: &Units,
-        p: u32,
-        scope: &[u8],
-        rank: &'a mut [u32; 512],
-    ) -> Staying<'a>
+    pub(crate) fn start(units: &Units, p: u32, scope: &[u8], rank: &'a mut [u32]) -> Staying<'a>
         requires n_bound { units.now.graph.n ≤ 512 }
         requires n_in_bounds { units.now.graph.n ≤ length scope.now }
+        requires long { length rank.old ≡ 512 }
         ensures same { result.rank.ghost_name ≡ rank.entry.ghost_name }
         ensures start { DrainStart units.now.graph.n p scope.now units.now.load.now result.rank.now result.queue.modules result.queue.tail }
     {

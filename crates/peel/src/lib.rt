@@ -52,7 +52,7 @@ fn lower_neighbours(adjacency: Adjacency, v: usize, ranking: &mut Ranking)
     }
 }
 
-// N turns: who leaves, and with what degree, its final one. (Both are written by an index: of what a zip of `iter_mut` writes no proof knows more than the length.)
+// N turns: who leaves, and with what degree, its final one. (Both are written by an index: of what a zip of `iter_mut` writes no proof knows the entries.)
 #[tactic(auto, unfolding(theory::specs::Leaving::remainder, theory::specs::Leaving::left_behind))]
 fn turns(adjacency: Adjacency, ranking: &mut Ranking, order: &mut [u32], finals: &mut [u32])
     requires ranking_of { RankingOf (listed adjacency.list) (everyone (listed adjacency.list)) ranking.old.words }

@@ -72,10 +72,10 @@ fn make(alloc: Global, made: Made) -> Result<String, AllocError> {
 
 // How many of the records' numbers are 7.
 fn sevens(list: &[Pair]) -> usize {
-    list.iter()
-        .flat_map(|p| [p.a, p.b, p.w])
-        .filter(|&x| x == 7)
-        .count()
+    let modules = list.iter().filter(|p| p.a == 7).count();
+    let others = list.iter().filter(|p| p.b == 7).count();
+    let counts = list.iter().filter(|p| p.w == 7).count();
+    modules.saturating_add(others).saturating_add(counts)
 }
 
 // The first three records, and how many numbers are as before.

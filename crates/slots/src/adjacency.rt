@@ -9,8 +9,8 @@ use crate::neighbours::{Neighbour, Neighbours};
 use crate::{add, other};
 use lists::List;
 
-// Each module's last slot, and the slot before each in its module's chain, 1 more and 0 for none: an Option, of NonZeroU16 too, takes four bytes, which would be
-// 17 KiB more of a caller's stack.
+// Each module's last slot, and the slot before each in its module's chain, 1 more and 0 for none: an Option, of NonZeroU16 too, takes four bytes, which would
+// be 17 KiB more of a caller's stack.
 #[derive(Clone, Copy)]
 pub struct Adjacency<'g, 'a> {
     pub list: List<'g>,
