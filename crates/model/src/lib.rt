@@ -112,7 +112,8 @@ pub fn raise(count: &mut u32, by: u32)
     *count = count.saturating_add(by);
 }
 
-// So does the count at place i, where there is one. There is no From of u32 for usize. (Tried: `get_mut`, after which a proof doesn't know what was written.)
+// So does the count at place i, where there is one. There is no From of u32 for usize. (Tried: `get_mut`, after which a proof doesn't know what was
+// written.)
 pub fn raise_at(counts: &mut [u32], i: u32, by: u32)
     ensures { counts.new ≡ raised_at counts.old i by }
 {
