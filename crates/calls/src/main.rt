@@ -5,6 +5,7 @@
 // and what it left of the lent buffers: of those of 8 entries all, each 9 before, and of the work buffer how many words are 0 and how many are 7 as before. The
 // numbers are those that C is answered with, and so no cases of an enum. Each call has buffers of its own, and the loop over its table is one call of its
 // `tried`: one loop over a closure for all would be longer.
+// `name` and `due` are no struct: it would be made at each call, to be taken apart in `begin`, and two of the calls need `due` alone.
 #![tactic(auto)]
 
 mod checks;

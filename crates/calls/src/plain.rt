@@ -1,6 +1,6 @@
 // What solve has to answer for its members, core numbers and shares, computed a second time from the records as plainly as can be.
 use crate::samples::Lent;
-use model::{front, reaching, rounded_up};
+use model::{front, raise_at, reaching, rounded_up};
 use records::Pair;
 
 // The members' inside count and number, that ratio rounded up, how many core numbers are that or more, how many shares are above W times Q, and how many
@@ -57,18 +57,11 @@ fn shares_above(pairs: &[Pair], shares: &[u32], q: u32) -> usize {
         .count()
 }
 
-// Adds x to a module's load.
-fn add_load(loads: &mut [u32], module: u16, x: u32) {
-    if let Some(load) = loads.get_mut(usize::from(module)) {
-        *load = load.wrapping_add(x);
-    }
-}
-
 // Adds what both modules of each pair receive.
 fn add_loads(pairs: &[Pair], shares: &[u32], q: u32, loads: &mut [u32]) {
     for (pair, &share) in pairs.iter().zip(shares.iter()) {
-        add_load(loads, pair.a, share);
-        add_load(loads, pair.b, units(pair, q).wrapping_sub(share));
+        raise_at(loads, u32::from(pair.a), share);
+        raise_at(loads, u32::from(pair.b), units(pair, q).wrapping_sub(share));
     }
 }
 

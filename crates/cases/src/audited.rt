@@ -76,7 +76,7 @@ fn alter_at(
     sheet[i] = byte;
 }
 
-// Every byte in turn.
+// Every byte in turn. (By index: audit reads the whole sheet.)
 fn alter_bytes(file: &[u8], sheet: &mut [u8]) -> Fates {
     let before = audit(file, sheet);
     let mut fates = Fates::default();

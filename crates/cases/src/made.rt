@@ -3,6 +3,7 @@ use crate::circle;
 use crate::words::Words;
 use dimacs::read_words;
 use lists::List;
+use model::raise;
 use records::Head;
 use std::alloc::{AllocError, Global};
 use std::io::{self, Write};
@@ -39,7 +40,7 @@ fn put_comment(file: &mut Vec<u8>, length: u32) -> io::Result<()> {
 }
 
 // A file that is made: N and M; how many `e` lines there are, and of the first again; before every how many of them a comment stands, as one does before the
-// `p` line and at the end, none where that is 0; and how long it is behind its `c`.
+// `p` line and at the end, none where that is 0; and how long it is behind its `c`. (0 as the case's line has it: `checked_rem` by it is None.)
 #[derive(Clone, Copy)]
 struct Plan {
     n: u32,
@@ -107,7 +108,7 @@ fn count_due(list: List, lines: u32) -> u32 {
     for &[a, b] in pairs.iter().take(list.m) {
         let pair = Some((a, b));
         if a < b && last < pair && circle::holds(a, b, lines) {
-            count = count.saturating_add(1);
+            raise(&mut count, 1);
         }
         last = pair;
     }

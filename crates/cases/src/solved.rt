@@ -50,7 +50,7 @@ pub(crate) fn try_file(rt: &HostRuntime, words: &mut Words) -> io::Result<String
 // ---- made here
 
 // A pair file that is made: N and M; the stops of the first pair, and behind how many lines a pair has one more, never where that is 0; how many lines of
-// pairs there are, of the first again, and of nothing.
+// pairs there are, of the first again, and of nothing. (0 as the case's line has it: `checked_div` by it is None.)
 #[derive(Clone, Copy)]
 pub(crate) struct Plan {
     pub(crate) n: u32,

@@ -3,7 +3,7 @@
 use crate::steps::Run;
 use model::below;
 
-// What a step does with a pair: it adds so many stops, or takes it out.
+// What a step does with a pair: it adds so many stops, or takes it out. (No Option: None would not say that the pair is taken out.)
 #[derive(Clone, Copy)]
 pub(crate) enum Change {
     Add(u32),

@@ -7,12 +7,10 @@ use model::{below, front};
 use records::Head;
 use std::alloc::{AllocError, Global};
 
-// Takes the pairs of the list's held records out of the model.
+// Takes the pairs of the list's held records out of the model. There is no From of u32 for usize.
 fn take_out(run: &mut Run) {
-    for j in 0..run.head.m {
-        if let Some((a, b, _)) = listed(run, j) {
-            run.model.take(a, b);
-        }
+    for pair in front(run.list.as_slice(), run.head.m as usize) {
+        run.model.take(u32::from(pair.a), u32::from(pair.b));
     }
 }
 
@@ -49,10 +47,10 @@ fn add_part(run: &mut Run, j: u32, part: Part) -> Result<(), AllocError> {
     Ok(())
 }
 
-// All steps: those drawn, and those that add what is left.
-fn add_all(run: &mut Run) -> Result<(), AllocError> {
+// All steps: those drawn, so many, and those that add what is left.
+fn add_all(run: &mut Run, many: u32) -> Result<(), AllocError> {
     let m = run.head.m;
-    for _ in 0..run.plan.again {
+    for _ in 0..many {
         let j = below(run.random.last, m);
         add_part(run, j, Part::Some)?;
     }
@@ -84,18 +82,18 @@ fn compare(run: &mut Run) {
     run.tally.list(same);
 }
 
-// All of it, on the list of a run.
+// All of it, on the list of a run, where the plan has it.
 pub(crate) fn again(run: &mut Run, alloc: Global) -> Result<(), AllocError> {
-    if run.plan.again == 0 {
+    let Some(many) = run.plan.again else {
         return Ok(());
-    }
+    };
     take_out(run);
     let head = Head {
         n: run.plan.n,
         m: 0,
     };
     run.own = Some(Own::new(head, run.plan.len, alloc)?);
-    add_all(run)?;
+    add_all(run, many)?;
     compare(run);
     Ok(())
 }

@@ -76,7 +76,7 @@ const LARGE: Plan = Plan {
     adds: 6,
     mixed: 10,
     every: 8,
-    again: 0,
+    again: None,
     altered: None,
 };
 
@@ -88,7 +88,7 @@ const SMALL: Plan = Plan {
     adds: 330,
     mixed: 100,
     every: 1,
-    again: 0,
+    again: None,
     altered: None,
 };
 
@@ -100,7 +100,7 @@ const AGAIN: Plan = Plan {
     adds: 400,
     mixed: 0,
     every: 50,
-    again: 300,
+    again: Some(300),
     altered: None,
 };
 
@@ -118,18 +118,18 @@ fn filled(n: u32, adds: u32) -> Plan {
 // Runs with each thing altered before it is compared.
 fn altered_runs(rt: &impl Print, alloc: Global) -> io::Result<()> {
     let runs = [
-        ("number altered", Altered::Number, 0),
-        ("number of pairs altered", Altered::PairCount, 0),
-        ("records altered", Altered::Records, 0),
-        ("number of add_to altered", Altered::OwnNumber, 0),
-        ("number of place altered", Altered::PlaceNumber, 0),
-        ("held altered", Altered::Held, 0),
-        ("place altered", Altered::Place, 0),
-        ("stop count altered", Altered::StopCount, 0),
+        ("number altered", Altered::Number, None),
+        ("number of pairs altered", Altered::PairCount, None),
+        ("records altered", Altered::Records, None),
+        ("number of add_to altered", Altered::OwnNumber, None),
+        ("number of place altered", Altered::PlaceNumber, None),
+        ("held altered", Altered::Held, None),
+        ("place altered", Altered::Place, None),
+        ("stop count altered", Altered::StopCount, None),
         (
             "stop count altered, of those added again",
             Altered::AddedAgain,
-            200,
+            Some(200),
         ),
     ];
     for (name, altered, again) in runs {

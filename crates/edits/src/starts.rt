@@ -1,7 +1,7 @@
 // start, of every number of modules from 0 to 70,000, and of the greatest: 1 to 512 are taken, all others refused by 2 with the head 0,0.
 use std::io;
 
-// Whether start answers n as is due.
+// Whether start answers n as is due. The numbers are those that document 01 gives, as C is answered.
 fn is_as_due(n: u32) -> bool {
     let begun = kandurzo::start(n);
     let due = if (1..=512).contains(&n) {

@@ -26,7 +26,7 @@ pub(crate) enum Altered {
 }
 
 // How a run goes: modules, records of the list, whether there is a second list, steps of adds alone, steps of both, every how many steps the records are
-// compared, how many steps are drawn when the same stops are added again in other steps (0: they are not), and what is altered.
+// compared, how many steps are drawn when the same stops are added again in other steps (None: they are not), and what is altered.
 #[derive(Clone, Copy)]
 pub(crate) struct Plan {
     pub(crate) n: u32,
@@ -35,7 +35,7 @@ pub(crate) struct Plan {
     pub(crate) adds: u32,
     pub(crate) mixed: u32,
     pub(crate) every: u32,
-    pub(crate) again: u32,
+    pub(crate) again: Option<u32>,
     pub(crate) altered: Option<Altered>,
 }
 

@@ -8,10 +8,11 @@ ghost use Rattle.std.specs.Prelude.{◌≤◌, length};
 
 use std::io;
 
-// Standard input read into one buffer, and the text of it printed from the other.
+// Standard input read into one buffer, and the text of it printed from the other. (Apart from `main`, where the length of an array of 1,048,577 bytes is
+// known by a law alone: computed, it takes more stack than the check has.)
 fn run(rt: &HostRuntime, file: &mut [u8], out: &mut [u8]) -> io::Result<()>
-    requires in_bounds { 1048577 ≤ length file.old }
-    requires in_bounds_2 { 65536 ≤ length out.old }
+    requires input_room { 1048577 ≤ length file.old }
+    requires output_room { 65536 ≤ length out.old }
 {
     let n = texts::read_full::<1048577, _>(&mut rt.stdin(), file)?;
     let r = texts::from_dimacs_text(&file[..n], out);

@@ -98,7 +98,7 @@ pub fn occurrences(items: &[u32], item: u32) -> usize
     items.iter().filter(|&&x| x == item).count()
 }
 
-// How many of the items are k or more.
+// How many of the items are k or more: k is a bound, no length. (Computed here, and not by the product's, which is what is tried.)
 pub fn reaching(items: &[u32], k: u32) -> usize
     ensures { result ≡ count_by (λ x. leb k x) items.now }
 {
@@ -112,7 +112,8 @@ pub fn raise(count: &mut u32, by: u32)
     *count = count.saturating_add(by);
 }
 
-// So does the count at place i, where there is one. There is no From of u32 for usize.
+// So does the count at place i, where there is one. There is no From of u32 for usize. (Tried: `get_mut`, after which a proof doesn't know what was
+// written.)
 pub fn raise_at(counts: &mut [u32], i: u32, by: u32)
     ensures { counts.new ≡ raised_at counts.old i by }
 {
@@ -137,7 +138,7 @@ impl Compared {
     }
 }
 
-// p over q, rounded up; 0 where q is 0.
+// p over q, rounded up; 0 where q is 0. (Computed here, and not by the product's, which is what is tried.)
 pub fn rounded_up(p: u32, q: u32) -> u32
     ensures { result ≡ rounded_up p q }
 {
@@ -208,8 +209,8 @@ impl Stops {
         self.counts.remove(&key(a, b))
     }
 
-    // Writes the pairs in rising order to the front of the list. The records after them stay. The loop counts: with `iter_mut` and `zip` it was tried, and the
-    // proof didn't close, since an invariant doesn't see what an iterator writes.
+    // Writes the pairs in rising order to the front of the list. The records after them stay. (Tried: `zip` with
+    // `list.iter_mut()`, after which a proof knows no record, only how many.)
     #[tactic(auto, unfolding(crate::specs::Counts::written))]
     pub fn write(&self, list: &mut [Pair])
         ensures { list.new ≡ written 0 (map record_at self.now.counts.entries) list.old }

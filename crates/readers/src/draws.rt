@@ -3,7 +3,7 @@
 use crate::plans::{Form, Plan};
 use crate::reads;
 use crate::ways::Way;
-use model::{Random, Stops, after, below};
+use model::{Random, Stops, after, below, raise};
 use std::alloc::{AllocError, Global};
 
 // Two modules of n by chance, or one of them twice.
@@ -53,7 +53,7 @@ fn put_comment(file: &mut File, drawn: u32) -> Result<(), AllocError> {
         3 => "c p edge 1 0\n",
         _ => return Ok(()),
     };
-    file.comments = file.comments.saturating_add(1);
+    raise(&mut file.comments, 1);
     file.text.push_str(comment)
 }
 

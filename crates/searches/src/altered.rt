@@ -33,7 +33,7 @@ const THINGS: [Altered; 11] = [
 ];
 
 impl Altered {
-    // The thing of a number; 0 stands for nothing.
+    // The thing of a number; None for one that no thing has.
     pub(crate) fn numbered(number: u32) -> Option<Altered> {
         let i = number.checked_sub(1)?;
         THINGS.get(i as usize).copied()

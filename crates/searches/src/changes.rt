@@ -9,7 +9,7 @@ pub(crate) struct Sheet<'a> {
     pub(crate) shares: &'a [u32],
 }
 
-// What is changed.
+// What is changed. (Nothing is a case, no Option: like the others it has a number in the table, and places.)
 #[derive(Clone, Copy)]
 pub(crate) enum Change {
     Nothing,

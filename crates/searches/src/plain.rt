@@ -62,7 +62,7 @@ pub(crate) fn product(x: u32, y: u32) -> u64 {
     u64::from(x) * u64::from(y)
 }
 
-// Whether the second ratio is higher.
+// Whether the second ratio is higher. (Computed here, and not by the product's, which is what is tried.)
 pub(crate) fn is_below(first: Ratio, second: Ratio) -> bool {
     product(first.p, second.q) < product(second.p, first.q)
 }

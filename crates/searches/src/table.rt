@@ -1,7 +1,7 @@
 // The table of what is tried, a row a line: nine numbers with a space between them, and behind a space, where a line of the output ends with the row, its
 // name. The numbers are what is asked and with what (module `trials`), the kind of the lists and its two numbers, which stop counts their pairs have (module
 // `kinds`), how many modules the first list has, how many lists there are of each number of modules, and how many in all. A number becomes a case by
-// `numbered`, None for one that stands for nothing: TryFrom would need an error that says no more.
+// `numbered`, None for one that no case has: TryFrom would need an error that says no more.
 use crate::draws::Lists;
 use crate::kinds::{Counts, Kind};
 use crate::tally::Tally;

@@ -26,10 +26,11 @@ pub(crate) enum Asked {
 }
 
 impl Asked {
-    // What a number asks, and with what.
+    // What a number asks, and with what: a search with 0 alters nothing.
     pub(crate) fn numbered(asked: u32, with: u32) -> Option<Asked> {
         match asked {
-            0 => Some(Asked::Search(Altered::numbered(with))),
+            0 if with == 0 => Some(Asked::Search(None)),
+            0 => Some(Asked::Search(Some(Altered::numbered(with)?))),
             1 => Some(Asked::Changed(Change::numbered(with)?)),
             2 => Some(Asked::Sheets(with)),
             3 => Some(Asked::Sets),
@@ -51,7 +52,7 @@ impl Asked {
     }
 }
 
-// A list that is tried, as the product and as the plain computations have it.
+// A list that is tried, as the product and as the plain computations have it. (Apart from the tally, which is changed and outlives it.)
 #[derive(Drop)]
 pub(crate) struct Tried {
     pub(crate) held: Held,

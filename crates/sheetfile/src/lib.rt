@@ -3,7 +3,7 @@
 // A sheet is read beside the list (sheet.rt). The group and the shares on it then go to check, which counts P and Q itself; the head is compared with
 // what check counted and with the list's cores. Nothing on the sheet is trusted.
 // Refuses by the pair file's numbers; 101 to 106, line by line; 7, 8, 9; 107, 108.
-// `as` stands where std has no `From`: from u32 to usize, and where a bound lets a number fit fewer bits.
+// `as` stands where std has no `From`: from u32 to usize.
 #![tactic(auto)]
 
 mod sheet;

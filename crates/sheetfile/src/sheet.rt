@@ -69,12 +69,12 @@ fn read_shares(reader: &mut Reader, list: List, shares: &mut [u32]) -> Result<()
     requires { length shares.old ≡ list.m }
     ensures { PartRead (read_shares (listed list.entry).pairs [] reader.old.left.now) shares.new result reader.new.left.now }
 {
-    for j in 0..list.m {
+    for (j, place) in shares.iter_mut().enumerate() {
         let [a, b, share] = line_due::<3>(reader, b"share=A,B,U\n", 7)?;
         if (a, b) != list.ends_of(j) {
             return Err(Refusal::AnotherPair);
         }
-        shares[j] = share;
+        *place = share;
     }
     Ok(())
 }

@@ -1,5 +1,5 @@
 // What the programs `from_dimacs` and `to_dimacs` print, written into a lent buffer (document 02, item 1): the pair file of the list in a DIMACS edge
-// file, and the other way round. 65,536 bytes hold any text.
+// file, and the other way round. 65,536 bytes hold any text: a clause of each function, as lib.rt says.
 //
 // The list is read into words and written from them. Of a DIMACS file, whose comments have no bound, 1,048,576 bytes are read at most, and a longer one is
 // refused whatever it holds: a program has a byte more of it, so that it shows.
@@ -16,7 +16,7 @@ use lists::List;
 use on_words::reading::{EdgeFile, Format, PairFile};
 use refusals::Refusal;
 
-// A form of files as which a list is written.
+// A form of file in which a list can be written.
 trait FileWriter {
     // The file of a list.
     ghost file_of: { Pairs → List ℕ };

@@ -3,9 +3,9 @@
 //
 // A program reads its input, calls one of the public functions, and writes the first bytes of the buffer out, as many as the function answers.
 // A text is written once, from front to back, line by line, at the cost of its bytes. 8,192 bytes hold the text of any group, 140,000 that of any
-// sheet, 64 that of any audit or pair: that room is a clause of each function, since a type of buffer that has it would ask more of callers. A file is
-// refused by its number on the status line, which `text_or_refusal` alone writes. Of its input a program has every byte that decides (the first 65,536 of a
-// pair file, 140,000 of a sheet), or all there are: the text is that of the whole file.
+// sheet, 64 that of any audit or pair: that room is a clause of each function, since a type of buffer that has it would ask more of callers. A
+// refused file has its number on the status line alone, which only `text_or_refusal` writes. Of its input a program has every byte that decides (the first
+// 65,536 of a pair file, 140,000 of a sheet), or all there are: the text is that of the whole file.
 // `as` stands where std has no `From`: from u32 to usize, and where a bound lets a number fit fewer bits.
 #![tactic(auto)]
 

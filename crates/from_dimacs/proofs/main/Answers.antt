@@ -10,8 +10,8 @@ use Rattle.from_dimacs.proofs.main.Goals as goal
 zeros_length : (n : ℕ) → n ≡ length {0} {A = ℕ} (replicate {0} {A = ℕ} n 0)
 zeros_length n = sym (length-replicate {0} {A = ℕ} n 0)
 
-pub run-requires-clause-in_bounds : goal.run-requires-clause-in_bounds
-run-requires-clause-in_bounds c = le_of_eq (zeros_length 1048577)
+pub run-requires-clause-input_room : goal.run-requires-clause-input_room
+run-requires-clause-input_room c = le_of_eq (zeros_length 1048577)
 
 pub slice_bounds-run-end : goal.slice_bounds-run-end
 slice_bounds-run-end c = zeros_length _

@@ -15,16 +15,16 @@ line_due-requires c = search rules
 
 pub returns-in_err-a : goal.returns-in_err-a
 unfolding share_form text list_in
-returns-in_err-a c = rw (handed_on c.from_residual.ensures.1) (shared_missing c.loop-j.invariant c.loop-j-test.true c.in_err-a.ensures)
+returns-in_err-a c = rw (handed_on c.from_residual.ensures.1) (shared_missing c.loop-j.invariant (rw c.requires at c.loop-j-test.true) c.in_err-a.ensures)
 
 pub returns-then-ne : goal.returns-then-ne
 unfolding share_form text list_in
-returns-then-ne c = shared_unfit c.loop-j.invariant c.loop-j-test.true c.in_ok-a.ensures (search (rules, tests))
+returns-then-ne c = shared_unfit c.loop-j.invariant (rw c.requires at c.loop-j-test.true) c.in_ok-a.ensures (search (rules, tests))
 
 pub loop-j-preserved : goal.loop-j-preserved
 unfolding share_form text
-loop-j-preserved c = shared_step c.loop-j.invariant c.loop-j-test.true c.in_ok-a.ensures (search (rules, tests))
+loop-j-preserved c = shared_step c.loop-j.invariant (rw c.requires at c.loop-j-test.true) c.in_ok-a.ensures (search (rules, tests))
 
 pub returns : goal.returns
 unfolding list_in
-returns c = shared_done c.loop-j.invariant c.loop-j-test.false
+returns c = shared_done c.loop-j.invariant (rw c.requires at c.loop-j-test.false)
