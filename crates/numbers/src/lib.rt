@@ -29,7 +29,7 @@ impl Ratio {
         f64::from(self.p) / f64::from(self.q)
     }
 
-    // Whether the other ratio is higher: cross products are compared, so nothing is rounded. (No PartialOrd: in it 1/2 and 2/4 would be equal, by == they are not.)
+    // Whether the other ratio is higher: cross products are compared, so nothing is rounded. (No PartialOrd: it would hold 1/2 and 2/4 equal, == does not.)
     pub fn is_below(self, other: Ratio) -> bool
         ensures { result ≡ nat_lt (self.p * other.q) (other.p * self.q) }
     {
