@@ -22,12 +22,18 @@ impl<'a> Known<'a> {
     ghost use Rattle.std.specs.Prelude.{◌≡◌};
     ghost use Rattle.lists.specs.Listed.{listed};
 
-    // The same list, at another ratio that some group of it reaches.
+    // The same list, at another ratio that some group of it reaches. (Field by field: a struct with ghost fields cannot be made with `..`, as yet.)
     pub(crate) fn at(self, ratio: Ratio) -> Known<'a>
         requires { Candidate (listed self.list) ratio.p ratio.q }
         ensures list { result.list ≡ self.entry.list }
         ensures ratio { result.ratio ≡ ratio }
     {
-        Known { ratio, ..self }
+        Known {
+            list: self.list,
+            cores: self.cores,
+            order: self.order,
+            place: self.place,
+            ratio,
+        }
     }
 }

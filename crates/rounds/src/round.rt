@@ -75,8 +75,9 @@ fn prepare(
     }
     let graph = units.graph;
     let shown = Graph {
+        n: graph.n,
         m: effort.arcs.min(graph.m),
-        ..graph
+        ends: graph.ends,
     };
     hints.lay(shown, known.place);
     let first = last.is_none() && effort.phases > 0;
