@@ -46,6 +46,7 @@ fn check_room(
 }
 
 // Adds w stops of a pair to the list of `len` records whose held ones lie in the words; refuses by 5, 4, 18, 19, 11. Answers the head after it.
+// (Adding and removing in one function would be no plainer: they differ in refusals and in what moves.)
 #[tactic(auto, using(pairs::proofs::Words::holds_rising, crate::proofs::Changes::raise_few))]
 pub fn add_on_words(
     head: Head,

@@ -9,7 +9,7 @@ pub(crate) struct Candidate {
     pub(crate) passed: u32,
 }
 
-// A kind of list.
+// A kind of list. (No Option or Result: no case says that there is none, or an error.)
 #[derive(Clone, Copy)]
 pub(crate) enum Kind {
     // The pairs of the bits of the list's number, bit 0 for the first pair of all.
@@ -67,7 +67,7 @@ impl Kind {
     }
 }
 
-// Which stop counts pairs have.
+// Which stop counts pairs have. (No Option, as above.)
 #[derive(Clone, Copy)]
 pub(crate) enum Counts {
     // 1,000.

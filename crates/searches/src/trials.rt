@@ -10,7 +10,7 @@ use crate::surpluses::{try_firsts, try_sets};
 use crate::tally::Tally;
 use std::alloc::{AllocError, Global};
 
-// What a list is asked for.
+// What a list is asked for. (No Option or Result: no case says that there is none, or an error.)
 #[derive(Clone, Copy)]
 pub(crate) enum Asked {
     // Peel and solve, with one thing altered.

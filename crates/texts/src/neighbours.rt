@@ -37,7 +37,7 @@ fn module_of(argument: &[u8]) -> Result<u32, Refusal>
     Ok(number)
 }
 
-// The line of a list's k-th record, counted from 1, if there is one.
+// The line of a list's k-th record, counted from 1, if there is one. (k is a record's number, no length.)
 fn write_record(list: List, form: &[u8], k: usize, writer: &mut Writer)
     requires { HasRoom (record_line form.now (record_before k (listed list).pairs)) writer.old }
     ensures { Writes (record_line form.now (record_before k (listed list.entry).pairs)) writer.old writer.new }
