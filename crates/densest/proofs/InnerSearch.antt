@@ -1,6 +1,6 @@
 -- The search among the pairs inside a core, as a search among all pairs.
 --   inner_candidate, inner_cored                what it starts from: the ratio, the core numbers of the core's order or more
---   GatheringFound, gathering_found             what it finds, and that with the units put back it is found among all pairs
+--   IsCore, GatheringFound, gathering_found     what it finds, and that with the units put back it is found among all pairs
 -- Assumes nothing.
 use Rattle.std.proofs.Common.{◌≡◌, ℕ, suc, ◌+◌, ◌-◌, ◌*◌, ◌/◌, ◌<◌, ◌≤◌, true, cond, leb, List, length, get_or, sym, refl, ap, ◌∙◌, le_trans, mul-le-mul_right, div-lt_iff_lt-mul, le_of_mul-le-mul_right, arith}
 use Rattle.theory.specs.Lists.{Pairs}
@@ -33,12 +33,17 @@ round_rise : (p q p' q' : ℕ) → 0 < q → 0 < q' → p * q' ≤ p' * q → ro
 round_rise p q p' q' h h' le =
     round_le p q (rounded_up p' q') h (le_of_mul-le-mul_right (omega (arith, le, mul-le-mul_right q (le_round p' q' h'))) h')
 
+-- a core of some order
+abbrev pub IsCore : Pairs → List ℕ → Type 0
+IsCore g s = (k : ℕ) × (s ≡ core g k)
+
 -- the found group, looked for among the pairs inside `core`, which has the scope of the last round within it; `units` are of the pairs gathered, and
--- all pairs stand packed among the shares
+-- all pairs stand packed among the shares; both are cores
 pub record GatheringFound (n m : ℕ) (ends weights core scope units shares group : List ℕ) (p q : ℕ) : Type 0 where
   pub held : HeldWords n m ends weights
   pub packed : Packed m ends weights shares
   pub sub : Sub scope core
+  pub cores : IsCore (list_in n m ends weights) core × IsCore (list_in n m ends weights) scope
   pub found : (hold : List ℕ) → Scattered m (word_pair ends weights) core units hold → GroupFound n m ends weights scope hold group p q
 
 module _ {n m p₀ q₀ r : ℕ} {ends weights scope inner_ends inner_weights : List ℕ}
@@ -117,4 +122,10 @@ module _ {n m p₀ q₀ r : ℕ} {ends weights scope inner_ends inner_weights : 
       found_among_all = record { found = found; inside_count = p_is; modules = f.modules; last = last }
 
     pub gathering_found : {shares : List ℕ} → Packed m ends weights shares → GatheringFound n m ends weights scope scope' units shares group p q
-    gathering_found packed = record { held = x.held; packed = packed; sub = sub; found = found_among_all }
+    gathering_found packed = record {
+      held = x.held;
+      packed = packed;
+      sub = sub;
+      cores = ((k₀, x.members_are), (rounded_up p q, scope_is));
+      found = found_among_all;
+    }

@@ -8,3 +8,4 @@ pub mod Gathering
 pub mod Scattering
 pub mod InnerSearch
 pub mod Lent
+pub mod Lasting

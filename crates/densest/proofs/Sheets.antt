@@ -1,11 +1,12 @@
 -- The load sheet: units inside the core, the other pairs wholly with the end that left first.
 --   only_table, merge_table           shares inside the core and all shares, as tables
---   Writing, writing_start, writing_next    a loop that writes the shares in the place of the pairs packed
+--   Writing, writing_start, packed_same, writing_next    a loop that writes the shares in the place of the pairs packed
+--   share_of                          a share as a maximum
 --   written_shares                    shares that are written by the units of the pairs gathered
 --   Sheet                             what the last round and the leaving places give
 --   sheet_optimal, sheet_outside      such a sheet is the split that solve hands out
 -- Assumes nothing.
-use Rattle.std.proofs.Common.{◌≡◌, ℕ, zero, suc, ◌+◌, ◌*◌, ◌<◌, ◌≤◌, Bool, true, false, cond, ltb, leb, List, length, get_or, set, sym, refl, ap, ◌∙◌, arith, length-set, get_or-set_other, ext_get_or}
+use Rattle.std.proofs.Common.{◌≡◌, ℕ, zero, suc, ◌+◌, ◌*◌, ◌<◌, ◌≤◌, Bool, true, false, cond, ltb, leb, min, max, List, length, get_or, set, sym, refl, ap, ◌∙◌, arith, length-set, get_or-set_other, ext_get_or}
 use Rattle.theory.specs.Basics.{table}
 use Rattle.theory.specs.Lists.{Pair, Pairs}
 use Rattle.theory.specs.Groups.{is_in, size, holds_pair, inside, Found}
@@ -75,8 +76,8 @@ writing_start q core scope place held shares = record {
 
 module _ {m j i q : ℕ} {core scope place held shares₀ shares : List ℕ} (low : j < m) (w : Writing m j i q core scope place held shares₀ shares) where
   -- pair j is read as it was
-  pair_same : packed_at shares j ≡ packed_at shares₀ j
-  pair_same = ap unpacked (w.ahead j (omega arith))
+  pub packed_same : packed_at shares j ≡ packed_at shares₀ j
+  packed_same = ap unpacked (w.ahead j (omega arith))
 
   -- pair j gets the share x
   pub writing_next : (x y d : ℕ) (t b : Bool) → t ≡ holds_pair scope (packed_at shares j) →
@@ -86,13 +87,24 @@ module _ {m j i q : ℕ} {core scope place held shares₀ shares : List ℕ} (lo
   writing_next x y d t b et ey ex eb ed =
       let sl = w.long in
       record {
-        passed = passed_next b d w.passed low (eb ∙ ap (holds_pair core) pair_same) ed;
+        passed = passed_next b d w.passed low (eb ∙ ap (holds_pair core) packed_same) ed;
         long = length-set shares j x ∙ sl;
         ahead = λ k h. get_or-set_other shares j k x 0 (λ z. omega arith) ∙ w.ahead k (omega arith);
         written =
             stored_more (λ k z. z ≡ sheet_share q scope place (packed_at shares₀ k) (get_or held (2 * inner_before (packed_at shares₀) core k) 0))
-            shares j x (omega arith) w.written (rw (← w.passed.place, ← pair_same, ← et, ← ey) ex);
+            shares j x (omega arith) w.written (rw (← w.passed.place, ← packed_same, ← et, ← ey) ex);
       }
+
+forced_none : (f : Bool) (w : ℕ) → ◌≡◌ {A = ℕ} (cond f (w * 0) 0) 0
+forced_none true w = omega arith
+forced_none false w = refl
+
+-- a share as a maximum: of h, which the slot holds, and what is forced one counts as 0
+pub share_of : (t f : Bool) (h w x q : ℕ) (p : Pair) → (t ≡ true → h ≤ 524288) → w ≡ cond f (units (cond t 0 q) p) 0 →
+    x ≡ max (min h (cond t 524288 0)) w → x ≡ cond t h (cond f (units q p) 0)
+unfolding units
+share_of true f h w x q p small ew ex = omega (arith, ex, small refl, ew, forced_none f p.w)
+share_of false f h w x q p small ew ex = omega (arith, ex, ew)
 
 -- a pair's share where what its first slot holds matters only inside the scope
 share_same : (b : Bool) (x y z : ℕ) → (b ≡ true → x ≡ y) → cond b x z ≡ cond b y z

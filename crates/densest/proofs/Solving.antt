@@ -1,20 +1,27 @@
 -- From the leaving order to the answer.
 --   peeled_cored, peeled_candidate, peeled_by_place    what `peel` gives the search
+--   peeled_last                                        cores leave last
 --   peelable_zeros, room_zeros                         buffers of zeros are long enough
 --   gathering_candidate, gathering_unpacks             what is found among the pairs gathered, and the pairs packed
+--   gathering_small                                    what their slots hold
 --   solution_written, solves_of                        the answer, and where it stands in the buffers
 -- Assumes nothing.
-use Rattle.std.proofs.Common.{◌≡◌, ℕ, ◌*◌, ◌<◌, ◌≤◌, true, ltb, List, ◌++◌, length, get_or, take, drop, replicate, sym, refl, ap, ◌∙◌, arith, length-take-le, take_at, drop_at}
-use lib.ListN.{length-replicate}
+use Rattle.std.proofs.Common.{◌≡◌, ℕ, suc, ◌*◌, ◌<◌, ◌≤◌, Bool, true, false, cond, ltb, eqb, List, [], ◌∷◌, ◌++◌, length, get_or, take, drop, replicate, sym, refl, ap, ◌∙◌, arith, length-take-le, take_at, drop_at}
+use lib.ListN.{length-replicate, get_or-append}
 use lib.Seq.{length_front}
 use Rattle.theory.specs.Lists.{Pairs, is_list}
-use Rattle.theory.specs.Groups.{size, inside}
+use Rattle.theory.specs.Groups.{size, inside, holds_pair}
 use Rattle.theory.specs.Leaving.{leaving, remainder, before}
 use Rattle.theory.specs.Cores.{core, core_number, core_numbers}
 use Rattle.theory.specs.Splits.{rounded_up}
+use Rattle.theory.specs.Basics.{table}
+use Rattle.theory.specs.Promise.{LeavingSteps}
 use Rattle.theory.specs.Words.{word_pair, list_in, laid_list, HeldWords}
+use Rattle.theory.proofs.Tests.{tests}
 use Rattle.theory.proofs.Tables.{length_table, table_at}
 use Rattle.theory.proofs.Lists.{listed}
+use Rattle.theory.proofs.Leaving.{leaving_steps}
+use Rattle.theory.proofs.Cores.{length_core}
 use Rattle.lists.specs.declared.list.List as L
 use Rattle.lists.specs.Listed.{listed as in_list}
 use Rattle.theory.proofs.Words.{length_laid}
@@ -22,6 +29,7 @@ use Rattle.slots.specs.Slots.{mate, Room}
 use Rattle.slots.proofs.Held.{zero_at}
 use Rattle.slots.proofs.Words.{good_pair}
 use Rattle.peel.specs.Peel.{Peelable, Peels}
+use Rattle.peel.specs.Places.{index_of, places}
 use Rattle.peel.specs.Promise.{PeelPromised}
 use Rattle.peel.specs.declared.Remainder.{Remainder}
 use Rattle.peel.proofs.Leavers.{remainder_group}
@@ -30,13 +38,24 @@ use Rattle.rounds.specs.Known.{Candidate, Cored}
 use Rattle.rounds.specs.Search.{Round, GroupFound}
 use Rattle.rounds.proofs.Rounds.{group_candidate, group_found_candidate}
 use Rattle.densest.specs.declared.Solution.{Solution}
-use Rattle.densest.specs.Gather.{Unpacks, sheet_share, Written}
+use Rattle.densest.specs.Gather.{unpacked, Unpacks, SmallShares, LastLeavers, sheet_share, Written}
 use Rattle.densest.specs.Solve.{IsSolution, Solves}
+use Rattle.densest.proofs.Gathering.{inner_before_ext}
 use Rattle.densest.proofs.Scattering.{put_back, put_back_is}
-use Rattle.densest.proofs.InnerSearch.{GatheringFound}
+use Rattle.densest.proofs.InnerSearch.{IsCore, GatheringFound}
 use Rattle.densest.proofs.Sheets.{Sheet, written_shares, sheet_optimal, sheet_outside}
 
 -- ---- the leaving order
+
+-- the place of a number that stands nowhere is the order's length
+index_low : (xs : List ℕ) (m : ℕ) → index_of xs m ≤ length xs
+unfolding index_of
+index_low [] m = omega arith
+index_low (x ∷ xs) m = go (eqb x m) (index_low xs m)
+  where
+    go : (b : Bool) → index_of xs m ≤ length xs → cond b 0 (suc (index_of xs m)) ≤ suc (length xs)
+    go true h = omega arith
+    go false h = omega (arith, h)
 
 module _ {g : Pairs} {order cores place order' cores' place' : List ℕ} {r : Remainder} (l : is_list g ≡ true)
     (h : Peels g 1 order cores place order' cores' place' r) where
@@ -56,6 +75,23 @@ module _ {g : Pairs} {order cores place order' cores' place' : List ℕ} {r : Re
   pub peeled_by_place : (a b : ℕ) → a < g.n → b < g.n → before (leaving g) a b ≡ ltb (get_or place' a 0) (get_or place' b 0)
   unfolding PeelPromised
   peeled_by_place = (peel_promised g 1 order cores place order' cores' place' r l (omega arith) (listed g l).some h).by_place
+
+  place_is : (v : ℕ) → v < g.n → get_or place' v 0 ≡ index_of (leaving g) v
+  unfolding places
+  place_is v b =
+      ap (λ (ys : List ℕ). get_or ys v 0) h.places_are
+      ∙ get_or-append (table g.n (index_of (leaving g))) (drop g.n place) 0 v (omega (arith, length_table g.n (index_of (leaving g))))
+      ∙ table_at g.n (index_of (leaving g)) v 0 b
+
+  pub peeled_last : {s : List ℕ} → IsCore g s → LastLeavers s place'
+  unfolding PeelPromised LeavingSteps
+  peeled_last {s} c =
+      let long : length s ≡ g.n = rw c.1 (length_core g c.0) in
+      let promise = peel_promised g 1 order cores place order' cores' place' r l (omega arith) (listed g l).some h in
+      record {
+        small = λ v b. omega (arith, place_is v (omega arith), index_low (leaving g) v, (leaving_steps g).0, (listed g l).few);
+        last = rw c.1 (λ a b la lb oa ib. (promise.outside_first c.0 a b (omega (arith, length_core g c.0)) (omega (arith, length_core g c.0)) oa ib).1);
+      }
 
 pub peelable_zeros : (list : L.List) (cores : List ℕ) → list.n ≤ length cores → Peelable list.n 1 (replicate {A = ℕ} 512 0) cores (replicate {A = ℕ} 512 0)
 unfolding list_in
@@ -116,6 +152,20 @@ module _ {n m : ℕ} {ends weights core scope units packed t : List ℕ} {p q : 
   gathering_unpacks = record {
     first = λ j l. rw (f.packed.pairs j l) (omega (arith, good_pair n m ends weights f.held.listed j l));
     second = λ j l. rw (f.packed.pairs j l) (good_pair n m ends weights f.held.listed j l).below;
+  }
+
+  pub gathering_small : SmallShares m core scope units packed
+  unfolding holds_pair
+  gathering_small = record {
+    small = λ j l y.
+        let at = word_pair ends weights in
+        let inside : holds_pair scope (at j) ≡ true = rw (← f.packed.pairs j l) y in
+        let y' = simp tests at inside in
+        let z : holds_pair core (at j) ≡ true = simp tests (f.sub _ y'.0, f.sub _ y'.1) in
+        let number = inner_before_ext at core (λ i. unpacked (get_or packed i 0)) j (λ i b. f.packed.pairs i (omega arith)) in
+        let back = ((put_back_is m at core units).slots j l).0 in
+        let fits = all_found.last.room.small (2 * j) (omega arith) in
+        rw number (omega (arith, fits, rw z at back));
   }
 
   pub solution_written : {place shares : List ℕ} {x : Solution} →

@@ -1,5 +1,5 @@
 // Pairs packed, each in one word: the first end from bit 19 on, the second end from bit 10 on, and the stop count in the lowest 10 bits.
-ghost use Rattle.std.specs.Prelude.{◌≡◌, ◌<◌, ◌≤◌, length, if◌then◌else◌};
+ghost use Rattle.std.specs.Prelude.{◌≡◌, ◌<◌, ◌≤◌, min, length, slice_index, if◌then◌else◌};
 ghost use Rattle.theory.specs.Groups.{holds_pair};
 ghost use Rattle.theory.specs.Splits.{units};
 ghost use Rattle.densest.specs.Gather.{first_left, unpacked};
@@ -52,6 +52,15 @@ impl PackedPair {
         ensures { result ≡ holds_pair group.now (unpacked self.0) }
     {
         (group[self.first()] == 1) & (group[self.second()] == 1)
+    }
+
+    // The place at which the first of its ends leaves.
+    pub(crate) fn first_place(self, place: &[u32]) -> u32
+        requires first_in_bounds { (unpacked self.0).a < length place.now }
+        requires second_in_bounds { (unpacked self.0).b < length place.now }
+        ensures { result ≡ min (slice_index place.now (unpacked self.0).a) (slice_index place.now (unpacked self.0).b) }
+    {
+        place[self.first()].min(place[self.second()])
     }
 
     // All units at share size q where the first end left before the second, else none.

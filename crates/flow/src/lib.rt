@@ -26,6 +26,7 @@ use slots::Units;
 
 // Settled: units lie in hold so that no load is above p, and `group` is the largest tight set inside the scope. Else more than p a module stays in
 // `group`. That holds for whatever loads modules have of their own, if `load` is their loads; afterwards `load` is free.
+#[inline(never)]
 pub fn flow(units: &mut Units, arcs: Arcs, p: u32, scope: &[u8], group: &mut [u8]) -> Ended
     requires n_bound { units.old.graph.n ≤ 512 }
     requires scope_len { (length scope.now ≡ units.old.graph.n) × (length group.old ≡ units.old.graph.n) }

@@ -2,7 +2,7 @@
 //
 // `flow` decides. Before it, crate `push` balances the split: the leavers' start, then push phases. Where these get stuck, the modules that no unit can leave
 // are counted, and if they are denser than p over q, the round is over.
-ghost use Rattle.std.specs.Prelude.{◌≡◌, length, IfSome};
+ghost use Rattle.std.specs.Prelude.{◌≡◌, ◌≤◌, length, IfSome};
 ghost use Rattle.slots.specs.Slots.{Room};
 ghost use Rattle.slots.specs.Views.{UnitsSame, UnitsKept};
 ghost use Rattle.rounds.specs.Search.{Searchable, no_load, Opened, UnitsOpened, Counted, DenserCounted, RoundMade};
@@ -52,12 +52,26 @@ fn is_even(p: u32, scope: &[u8], units: &Units) -> bool {
         .all(|(&byte, &load)| byte != 1 || load == p)
 }
 
-// What loads have above p, in all. It only guides: a sum that does not fit wraps.
+// What loads have above p, in all. It only guides (as the next one does): a sum that does not fit wraps.
 fn excess(p: u32, units: &Units) -> u32 {
     units.load.iter().fold(0u32, |sum, &load| sum.wrapping_add(load.saturating_sub(p)))
 }
 
-// Where units have to move, arcs; and where the first round's split has much above p, the leavers' start in its place.
+// Whether so much lies above p that the leavers' start is better than halves. Where the list has no more pairs than the scope modules, it is nearly a forest:
+// leavers then balance it nearly, and what halves have above p has far to go. Else it must be a 1,024th of all that fits, for p a module.
+fn is_uneven(p: u32, scope: &[u8], units: &Units) -> bool
+    requires { length scope.now ≤ 512 }
+{
+    let size = groups::group_size(scope);
+    let bound = if units.graph.m <= size as usize {
+        p / 32
+    } else {
+        (p / 1024).wrapping_mul(size)
+    };
+    excess(p, units) > bound
+}
+
+// Where units have to move, arcs; and where the first round's split is uneven, the leavers' start in its place.
 fn prepare(
     known: Known,
     effort: Effort,
@@ -81,7 +95,7 @@ fn prepare(
     };
     hints.lay(shown, known.place);
     let first = last.is_none() && effort.phases > 0;
-    if first && excess(p, units) > p / 32 {
+    if first && is_uneven(p, scope, units) {
         push::leavers(units, hints.arcs(), p, known.order, known.place);
     }
 }

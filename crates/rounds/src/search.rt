@@ -10,7 +10,8 @@ use flow::Searches;
 
 // Rounds from the ratio that is known on, and a split at the found group's size: `group` has the found group, whose ratio is answered, `scope` the core of
 // that ratio rounded up, and `hold` the split's units. Free are where the units of a pair inside the core lie, and what is said of searches. (The loop goes by
-// the ratio: it counts no index.)
+// the ratio: it counts no index. Not inlined, so that the caller has no room for the arcs on its stack while it peels.)
+#[inline(never)]
 pub fn find(
     mut known: Known,
     effort: Effort,

@@ -4,7 +4,7 @@ use Rattle.theory.specs.Words.{list_in, laid_pairs, laid_list}
 use Rattle.theory.proofs.Words.{holds_few}
 use Rattle.densest.proofs.Gathering.{gathered_few}
 use Rattle.densest.proofs.InnerSearch.{gathering_found}
-use Rattle.densest.proofs.Solving.{peeled_cored, peeled_candidate, peeled_by_place, peelable_zeros, room_zeros, gathering_candidate, gathering_unpacks, solution_written}
+use Rattle.densest.proofs.Solving.{peeled_cored, peeled_candidate, peeled_by_place, peeled_last, peelable_zeros, room_zeros, gathering_candidate, gathering_unpacks, gathering_small, solution_written}
 use Rattle.densest.proofs.solve_in.Goals as goal
 
 pub peel-requires : goal.peel-requires
@@ -40,11 +40,24 @@ write_shares-requires-clause-q_bound c =
     let f = gathering_candidate (gathering_found g.gathered (rw g.modules at c.find-found.ensures) g.packed) in
     omega (arith, few, f.small)
 
+pub write_shares-requires-clause-last : goal.write_shares-requires-clause-last
+unfolding laid_list laid_pairs list_in
+write_shares-requires-clause-last c =
+    let g = c.gather_core-list.ensures in
+    let cores = (gathering_found g.gathered (rw g.modules at c.find-found.ensures) g.packed).cores in
+    let peeled = rw c.in_words-all.ensures.value at c.peel.ensures in
+    (peeled_last c.requires.holds_list.listed peeled cores.0, peeled_last c.requires.holds_list.listed peeled cores.1)
+
 pub write_shares-requires-clause-unpacks : goal.write_shares-requires-clause-unpacks
 write_shares-requires-clause-unpacks c =
     let g = c.gather_core-list.ensures in
     rw (c.find-found.auto.scope, c.requires.scope_len, c.gather_core-list.auto.shares)
     (gathering_unpacks (gathering_found g.gathered (rw g.modules at c.find-found.ensures) g.packed))
+
+pub write_shares-requires-clause-small : goal.write_shares-requires-clause-small
+write_shares-requires-clause-small c =
+    let g = c.gather_core-list.ensures in
+    rw c.gather_core-list.auto.shares (gathering_small (gathering_found g.gathered (rw g.modules at c.find-found.ensures) g.packed))
 
 pub rounded_up-requires : goal.rounded_up-requires
 rounded_up-requires c =

@@ -1,6 +1,9 @@
 -- `densest::sheet::write_shares` meets its contract: the shares of the pairs passed are written. Assumes nothing.
-use Rattle.std.proofs.Common.{◌≡◌, ◌*◌, cond, get_or, arith, rules}
-use Rattle.densest.proofs.Sheets.{writing_start, writing_next}
+use Rattle.std.proofs.Common.{◌≡◌, ◌*◌, ◌<◌, ◌≤◌, true, cond, leb, min, max, length, get_or, refl, sym, ◌∙◌, arith, rules}
+use Rattle.theory.specs.Splits.{units}
+use Rattle.densest.specs.Gather.{first_left}
+use Rattle.densest.proofs.Lasting.{last_pair}
+use Rattle.densest.proofs.Sheets.{packed_at, packed_same, writing_start, writing_next, share_of}
 use Rattle.densest.proofs.sheet.write_shares.Goals as goal
 
 pub loop-share-init : goal.loop-share-init
@@ -8,6 +11,20 @@ loop-share-init c = writing_start _ _ _ _ _ _
 
 pub loop-share-preserved : goal.loop-share-preserved
 loop-share-preserved c =
-    let share : c.if-is_inner.share ≡ cond c.is_inner.result (get_or c.args.hold.now (2 * c.loop-share.i) 0) c.forced-whole.result = search rules in
-    let step : c.from-i.result ≡ cond c.is_inner-in-loop-share.result 1 0 = search rules in
-    writing_next (omega arith) c.loop-share.invariant _ _ _ _ _ c.is_inner.ensures c.forced-whole.ensures share c.is_inner-in-loop-share.ensures step
+    let w = c.loop-share.invariant in
+    let r = c.requires in
+    let j = c.loop-share.share-index in
+    let pair = packed_at c.loop-share.shares j in
+    let same = packed_same (omega arith) w in
+    let a : pair.a < length c.args.scope.now = rw same (r.unpacks.first j (omega arith)) in
+    let b : pair.b < length c.args.scope.now = rw same (r.unpacks.second j (omega arith)) in
+    let inside = rw (← c.first_place-first.ensures) at (last_pair r.last.1 c.first_place-kept.ensures pair a b) in
+    let counted = last_pair r.last.0 c.first_place-gathered.ensures pair (omega (arith, a)) (omega (arith, b)) in
+    let test = leb c.first_place-kept.result c.first_place-first.result in
+    let held = get_or c.args.hold.now (2 * c.loop-share.i) 0 in
+    let small : test ≡ true → held ≤ 524288 = λ y. rw w.passed.place (r.small.small j (omega arith) (rw (← same) (inside ∙ y))) in
+    let whole : c.forced.result ≡ cond (first_left c.args.place.now pair) (units (cond test 0 c.args.q) pair) 0 = search rules in
+    let share : c.max.result ≡ max (min held (cond test 524288 0)) c.forced.result = search rules in
+    let step : c.from-i.result ≡ cond (leb c.first_place-gathered.result c.first_place-first.result) 1 0 = search rules in
+    writing_next (omega arith) w _ _ _ test _ (sym inside) refl (share_of test _ held _ _ _ pair small whole share)
+    (rw c.first_place-first.ensures (sym counted)) step
