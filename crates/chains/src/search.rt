@@ -1,7 +1,7 @@
 // Searches for chains (augmenting paths): breadth first from a module loaded above p along slots that hold units, to the first module loaded below p;
 // then units are pulled along the chain.
-ghost use Rattle.std.specs.Prelude.{◌≡◌, ◌<◌, ◌≤◌, length, slice_index};
-ghost use Rattle.slots.specs.Views.{UnitsSame};
+ghost use Rattle.std.specs.Prelude.{◌≡◌, ◌<◌, ◌≤◌, length, slice_index, IfSome, IfNone, IsSome};
+ghost use Rattle.slots.specs.Views.{UnitsSame, UnitsKept};
 ghost use Rattle.chains.specs.Search.{ChainFound, Pulled, Settled};
 
 use crate::cut::Cut;
@@ -68,32 +68,44 @@ fn pull(units: &mut Units, p: u32, root: usize, found: usize, reached: &Reached)
     }
 }
 
-// Searches and pulls until no load is above p. Not settled: the last search reached a set that no unit can leave, those with a rank. Free are where the units
-// of a pair lie, the ranks where it is settled, and what is said of searches. (How often a root is searched from is not known: no index is counted.)
-pub fn settle(units: &mut Units, arcs: Arcs, p: u32, rank: &mut [u32]) -> Ended
+// Searches and pulls until no load is above p, or as many chains as are wanted at most were found, if a number is given: then there is no answer. Not settled:
+// the last search reached a set that no unit can leave, those with a rank. Free are where the units of a pair lie, the ranks where it is settled, and what is
+// said of searches. (How often a root is searched from is not known: no index is counted.)
+#[inline(never)]
+pub fn settle(
+    units: &mut Units,
+    arcs: Arcs,
+    p: u32,
+    most: Option<u32>,
+    rank: &mut [u32],
+) -> Option<Ended>
     requires { (units.old.graph.n ≤ 512) × (512 ≤ length rank.old) }
-    ensures same { UnitsSame units.old units.new }
-    ensures settled { Settled units.old.graph.n units.old.graph.m p units.old.graph.ends.now units.old.hold.now units.old.load.now
-        units.new.hold.now units.new.load.now rank.new result.settled }
+    ensures kept { UnitsKept units.old units.new }
+    ensures settled { IfSome result (λ ended. Settled units.old.graph.n units.old.graph.m p units.old.graph.ends.now units.old.hold.now units.old.load.now
+        units.new.hold.now units.new.load.now rank.new ended.settled) }
+    ensures all { IfNone most (IsSome result) }
 {
     let n = units.graph.n;
     let mut reached = Reached::new();
     let mut searches = Searches::default();
     for root in 0..n {
         while units.load[root] > p {
+            if most == Some(searches.chains) {
+                return None;
+            }
             let Some(found) = search(units, arcs, p, root, &mut reached) else {
                 rank[..n].copy_from_slice(&reached.rank[..n]);
                 searches.none = 1;
-                return Ended {
+                return Some(Ended {
                     settled: false,
                     searches,
-                };
+                });
             };
             searches = searches.with_chain(pull(units, p, root, found, &reached));
         }
     }
-    Ended {
+    Some(Ended {
         settled: true,
         searches,
-    }
+    })
 }

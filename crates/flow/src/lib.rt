@@ -36,7 +36,7 @@ pub fn flow(units: &mut Units, arcs: Arcs, p: u32, scope: &[u8], group: &mut [u8
         result.settled }
 {
     let mut rank = [0u32; 512];
-    let split = settle(units, arcs, p, &mut rank);
+    let split = settle(units, arcs, p, None, &mut rank).unwrap();
     if split.settled {
         drain(units, arcs, p, scope, &mut rank);
     }

@@ -4,7 +4,7 @@
 --   core_marked                                          a scope by core numbers is the core of the ratio rounded up
 --   group_candidate, group_found_candidate               a group's own ratio is one that some group reaches
 --   found_bounded                                        the found group's inside count and size are small
---   opened_kept, opened_long, opened_loads               what a round begins with stays so; as units
+--   opened_kept, opened_long, opened_few, opened_loads   what a round begins with stays so; as units
 --   opened_room, opened_covers                           room for the units, and each load is what the module holds
 --   marked_denser                                        modules marked by a number of theirs, counted, if they are denser
 --   round_of                                             a round, from what `flow` answers
@@ -123,6 +123,10 @@ opened_kept {known} {scope} {units} {units'} u kept =
 pub opened_long : {known : Known} {scope : List ℕ} {units : Units} → UnitsOpened known scope units → length scope ≡ units.graph.n
 unfolding list_in
 opened_long {known} u = ap length u.opened.scope_is ∙ length_core (listed known.list) _ ∙ sym u.graph.modules
+
+-- so at most 512 bytes
+pub opened_few : {known : Known} {scope : List ℕ} {units : Units} → UnitsOpened known scope units → length scope ≤ 512
+opened_few {known} u = omega (arith, opened_long u, u.graph.modules, known_few known)
 
 -- the loads, as the units have them
 pub opened_loads : {known : Known} {scope : List ℕ} {units : Units} → UnitsOpened known scope units →

@@ -1,15 +1,16 @@
 // One round: a split at share size q inside the core of p over q rounded up with no load above p, and the found group; or a group denser than p over q.
 //
-// `flow` decides. Before it, crate `push` balances the split: the leavers' start, then push phases. Where these get stuck, the modules that no unit can leave
-// are counted, and if they are denser than p over q, the round is over.
+// `flow` decides. Before it the split is balanced: by the leavers' start, a few chains, push phases (crates `push`, `chains`). Where these get stuck, the modules
+// that no unit can leave are counted, and if they are denser than p over q, the round is over.
 ghost use Rattle.std.specs.Prelude.{◌≡◌, ◌≤◌, length, IfSome};
 ghost use Rattle.slots.specs.Slots.{Room};
 ghost use Rattle.slots.specs.Views.{UnitsSame, UnitsKept};
 ghost use Rattle.rounds.specs.Search.{Searchable, no_load, Opened, UnitsOpened, Counted, DenserCounted, RoundMade};
 
 use crate::hints::Hints;
-use crate::{Effort, Known, Reached};
+use crate::{CHAINS, Effort, Known, Reached};
 use arcs::Arcs;
+use chains::settle;
 use flow::{Searches, flow};
 use lists::List;
 use numbers::Ratio;
@@ -57,16 +58,23 @@ fn excess(p: u32, units: &Units) -> u32 {
     units.load.iter().fold(0u32, |sum, &load| sum.wrapping_add(load.saturating_sub(p)))
 }
 
-// Whether so much lies above p that the leavers' start is better than halves. Where the list has no more pairs than the scope modules, it is nearly a forest:
-// leavers then balance it nearly, and what halves have above p has far to go. Else it must be a 1,024th of all that fits, for p a module.
+// Whether the list has at most five fourths as many pairs as the scope has modules: nearly a forest, in which units seldom have two ways to go.
+fn is_sparse(scope: &[u8], units: &Units) -> bool
+    requires { length scope.now ≤ 512 }
+{
+    let size = groups::group_size(scope) as usize;
+    units.graph.m <= size + size / 4
+}
+
+// Whether so much lies above p that the leavers' start is better than halves. Nearly a forest leavers balance nearly, and what halves have above p has far to
+// go there. Else it must be a 1,024th of all that fits, for p a module.
 fn is_uneven(p: u32, scope: &[u8], units: &Units) -> bool
     requires { length scope.now ≤ 512 }
 {
-    let size = groups::group_size(scope);
-    let bound = if units.graph.m <= size as usize {
+    let bound = if is_sparse(scope, units) {
         p / 32
     } else {
-        (p / 1024).wrapping_mul(size)
+        (p / 1024).wrapping_mul(groups::group_size(scope))
     };
     excess(p, units) > bound
 }
@@ -111,9 +119,30 @@ fn count(list: List, group: &[u8]) -> Ratio
     }
 }
 
-// Push phases; where they get stuck, the modules that no unit can leave, counted, if they are denser than the ratio at hand. (A struct of the six that this and
-// `decide` take would hold units and group by `&mut`: each would have to say that they are the same ones afterwards, and that known and scope are. That the
-// units are such as the round opened with is said of three values, of which none holds another.)
+// A few chains, and push phases where these do not do. Where either gets stuck, the modules that no unit can leave have that number or a higher one.
+#[tactic(auto, using(slots::proofs::Moves::kept_more))]
+fn stuck(
+    p: u32,
+    phases: usize,
+    arcs: Arcs,
+    scope: &[u8],
+    units: &mut Units,
+    numbers: &mut [u32; 512],
+) -> Option<u32>
+    requires n_bound { units.old.graph.n ≤ 512 }
+    requires n_in_bounds { units.old.graph.n ≤ length scope.now }
+    requires load_long { 512 ≤ length units.old.load.now }
+    ensures { UnitsKept units.old units.new }
+{
+    match settle(units, arcs, p, Some(CHAINS), numbers) {
+        Some(ended) => (!ended.settled).then_some(1),
+        None => push::phases(units, arcs, p, phases, scope, numbers).then_some(push::FAR),
+    }
+}
+
+// What is stuck, counted, if it is denser than the ratio at hand. In a sparse list chains are short, and are left to the exact search. (A struct of the six that this and `decide` take would hold units and group by
+// `&mut`: each would have to say that they are the same ones afterwards, and that known and scope are. That the units are such as the round opened with is
+// said of three values, of which none holds another.)
 fn balance(
     known: Known,
     phases: usize,
@@ -127,11 +156,12 @@ fn balance(
     ensures kept { UnitsKept units.old units.new }
     ensures denser { IfSome result (DenserCounted known.entry group.new) }
 {
-    let mut label = [0u32; 512];
-    if !push::phases(units, arcs, known.ratio.p, phases, scope, &mut label) {
+    if phases == 0 || is_sparse(scope, units) {
         return None;
     }
-    groups::mark_at_least(push::FAR, &label, group);
+    let mut numbers = [0u32; 512];
+    let least = stuck(known.ratio.p, phases, arcs, scope, units, &mut numbers)?;
+    groups::mark_at_least(least, &numbers, group);
     let ratio = count(known.list, group);
     known.ratio.is_below(ratio).then_some(ratio)
 }
