@@ -21,7 +21,9 @@ pub use search::find;
 // At most so many push phases before the searches of a round: enough to leave these next to nothing to do.
 pub const PHASES: usize = 64;
 
-// At most so many chains before the push phases of a round: where these are enough, phases would be the longer way.
+// Where at most so many modules are loaded above p, at most so many chains go before the push phases of a round: mostly they do, and phases would be the
+// longer way.
+const ACTIVE: usize = 16;
 const CHAINS: u32 = 32;
 
 // What goes before the searches to make them short: at most so many push phases, and arcs of at most so many pairs.

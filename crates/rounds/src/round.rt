@@ -8,7 +8,7 @@ ghost use Rattle.slots.specs.Views.{UnitsSame, UnitsKept};
 ghost use Rattle.rounds.specs.Search.{Searchable, no_load, Opened, UnitsOpened, Counted, DenserCounted, RoundMade};
 
 use crate::hints::Hints;
-use crate::{CHAINS, Effort, Known, Reached};
+use crate::{ACTIVE, CHAINS, Effort, Known, Reached};
 use arcs::Arcs;
 use chains::settle;
 use flow::{Searches, flow};
@@ -119,7 +119,13 @@ fn count(list: List, group: &[u8]) -> Ratio
     }
 }
 
-// A few chains, and push phases where these do not do. Where either gets stuck, the modules that no unit can leave have that number or a higher one.
+// Whether at most a few modules are active, which is to say loaded above p.
+fn few_active(p: u32, units: &Units) -> bool {
+    units.load.iter().filter(|&&load| p < load).count() <= ACTIVE
+}
+
+// Where few modules are active, a few chains; else, or where these do not do, push phases. Where either gets stuck, the modules that no unit can leave have
+// the number that is answered or a higher one.
 #[tactic(auto, using(slots::proofs::Moves::kept_more))]
 fn stuck(
     p: u32,
@@ -134,10 +140,12 @@ fn stuck(
     requires load_long { 512 ≤ length units.old.load.now }
     ensures { UnitsKept units.old units.new }
 {
-    match settle(units, arcs, p, Some(CHAINS), numbers) {
-        Some(ended) => (!ended.settled).then_some(1),
-        None => push::phases(units, arcs, p, phases, scope, numbers).then_some(push::FAR),
+    if few_active(p, units)
+        && let Some(ended) = settle(units, arcs, p, Some(CHAINS), numbers)
+    {
+        return (!ended.settled).then_some(1);
     }
+    push::phases(units, arcs, p, phases, scope, numbers).then_some(push::FAR)
 }
 
 // What is stuck, counted, if it is denser than the ratio at hand. In a sparse list chains are short, and are left to the exact search. (A struct of the six that this and `decide` take would hold units and group by
