@@ -3,7 +3,7 @@
 //
 // Units lie in slots (crate `slots`). A module loaded above p sends units along a chain of slots that hold some, found breadth first, to the first module
 // loaded below p (augmenting paths: `search`, `pull`). That goes on until no load is above p, or no chain leads to a module loaded below p: then the modules
-// reached are a set that no unit can leave (`settle`).
+// reached are a set that no unit can leave (`settle`). A caller who only wants a start may have it end after a number of chains.
 // Cost: a search takes a step for each arc of the modules that it reaches. Arcs (crate `arcs`) say where to look first; that nothing leads out of a
 // set is found by one scan over all pairs (`Cut::exit`). There are at most as many searches as units lie above p. Nothing is refused.
 // `as` stands where std has no `From`: from u32 to usize, and where a bound lets a number fit fewer bits.

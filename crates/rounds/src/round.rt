@@ -1,7 +1,7 @@
 // One round: a split at share size q inside the core of p over q rounded up with no load above p, and the found group; or a group denser than p over q.
 //
-// `flow` decides. Before it the split is balanced: by the leavers' start, a few chains, push phases (crates `push`, `chains`). Where these get stuck, the modules
-// that no unit can leave are counted, and if they are denser than p over q, the round is over.
+// `flow` decides. Before it the split is balanced: by the leavers' start, then by a few chains or push phases (crates `push`, `chains`). Where these get stuck,
+// the modules that no unit can leave are counted, and if they are denser than p over q, the round is over.
 ghost use Rattle.std.specs.Prelude.{◌≡◌, ◌≤◌, length, IfSome};
 ghost use Rattle.slots.specs.Slots.{Room};
 ghost use Rattle.slots.specs.Views.{UnitsSame, UnitsKept};
@@ -148,9 +148,9 @@ fn stuck(
     push::phases(units, arcs, p, phases, scope, numbers).then_some(push::FAR)
 }
 
-// What is stuck, counted, if it is denser than the ratio at hand. In a sparse list chains are short, and are left to the exact search. (A struct of the six that this and `decide` take would hold units and group by
-// `&mut`: each would have to say that they are the same ones afterwards, and that known and scope are. That the units are such as the round opened with is
-// said of three values, of which none holds another.)
+// What is stuck, counted, if it is denser than the ratio at hand. In a sparse list chains are short, and are left to the exact search. (A struct of the six that
+// this and `decide` take would hold units and group by `&mut`: each would have to say that they are the same ones afterwards, and that known and scope are.
+// That the units are such as the round opened with is said of three values, of which none holds another.)
 fn balance(
     known: Known,
     phases: usize,
