@@ -148,9 +148,9 @@ fn stuck(
     push::phases(units, arcs, p, phases, scope, numbers).then_some(push::FAR)
 }
 
-// What is stuck, counted, if it is denser than the ratio at hand. In a sparse list chains are short, and are left to the exact search. (A struct of the six that
-// this and `decide` take would hold units and group by `&mut`: each would have to say that they are the same ones afterwards, and that known and scope are.
-// That the units are such as the round opened with is said of three values, of which none holds another.)
+// What is stuck, counted, if it is denser than the ratio at hand. In a sparse list chains are short, and are left to the exact search. (A struct of the six
+// that this and `decide` take would hold units and group by `&mut`: each would have to say that they are the same ones afterwards, and that known and scope
+// are. That the units are such as the round opened with is said of three values, of which none holds another.)
 fn balance(
     known: Known,
     phases: usize,
