@@ -1,4 +1,4 @@
-// The chain search, by which the split search (crate `flow`) moves units: from modules loaded above p to modules loaded below p (document 01, "The list and
+// The chain search, by which the split search (crate `flow`) moves units, and at times a start before it: from modules loaded above p to modules loaded below p (document 01, "The list and
 // its calls": the split search).
 //
 // Units lie in slots (crate `slots`). A module loaded above p sends units along a chain of slots that hold some, found breadth first, to the first module

@@ -1,6 +1,7 @@
 -- The search among the pairs inside a core, as a search among all pairs.
 --   inner_candidate, inner_cored                what it starts from: the ratio, the core numbers of the core's order or more
---   IsCore, GatheringFound, gathering_found     what it finds, and that with the units put back it is found among all pairs
+--   IsCore                                      a core of some order
+--   GatheringFound, gathering_found             what it finds, and that with the units put back it is found among all pairs
 -- Assumes nothing.
 use Rattle.std.proofs.Common.{◌≡◌, ℕ, suc, ◌+◌, ◌-◌, ◌*◌, ◌/◌, ◌<◌, ◌≤◌, true, cond, leb, List, length, get_or, sym, refl, ap, ◌∙◌, le_trans, mul-le-mul_right, div-lt_iff_lt-mul, le_of_mul-le-mul_right, arith}
 use Rattle.theory.specs.Lists.{Pairs}
@@ -38,7 +39,7 @@ abbrev pub IsCore : Pairs → List ℕ → Type 0
 IsCore g s = (k : ℕ) × (s ≡ core g k)
 
 -- the found group, looked for among the pairs inside `core`, which has the scope of the last round within it; `units` are of the pairs gathered, and
--- all pairs stand packed among the shares; both are cores
+-- all pairs stand packed among the shares; `core` and `scope` are cores
 pub record GatheringFound (n m : ℕ) (ends weights core scope units shares group : List ℕ) (p q : ℕ) : Type 0 where
   pub held : HeldWords n m ends weights
   pub packed : Packed m ends weights shares

@@ -1,6 +1,6 @@
 -- Groups that leave last, as cores do.
 --   first_start, first_next    a loop that looks for the place from which on members leave
---   last_pair                  whoever leaves from that place on is a member: so a pair is inside where the first of its ends to leave is
+--   last_pair                  whoever leaves from that place on is a member: so a pair is inside exactly if its first leaver is
 -- Assumes nothing.
 use Rattle.std.proofs.Common.{◌≡◌, ℕ, suc, ◌+◌, ◌<◌, ◌≤◌, Bool, true, false, ◌&&◌, cond, leb, min, max, List, length, get_or, sym, refl, ap, ⊎_elim, arith}
 use borrow.Author.Tests.{leb-true, leb-false, le-leb, lt-leb}
@@ -13,12 +13,13 @@ use Rattle.densest.specs.Gather.{LastLeavers, FirstPlace}
 -- ---- the place from which on members leave
 
 pub first_start : (group place : List ℕ) → FirstPlace 0 group place 1024
-first_start group place = record { low = λ v b. absurd (omega arith); greatest = λ i small below. small }
+first_start group place = record { most = omega arith; low = λ v b. absurd (omega arith); greatest = λ i small below. small }
 
 -- module n counts with its place, or with 1,024 or more where it is no member
 pub first_next : {n k : ℕ} {group place : List ℕ} (x : ℕ) → FirstPlace n group place k → x ≡ cond (is_in group n) 0 1024 →
     FirstPlace (n + 1) group place (min k (max (get_or place n 0) x))
 first_next {n} {k} {group} {place} x f e = record {
+  most = omega (arith, f.most);
   low = λ v b m. ⊎_elim
       (λ (z : v ≡ n). omega (arith, e, chosen (is_in group n) (rw (← z) m), ap {B = ℕ} (λ (u : ℕ). get_or place u 0) z))
       (λ ne. omega (arith, f.low v (omega arith) m))

@@ -38,7 +38,7 @@ use Rattle.rounds.specs.Known.{Candidate, Cored}
 use Rattle.rounds.specs.Search.{Round, GroupFound}
 use Rattle.rounds.proofs.Rounds.{group_candidate, group_found_candidate}
 use Rattle.densest.specs.declared.Solution.{Solution}
-use Rattle.densest.specs.Gather.{unpacked, Unpacks, SmallShares, LastLeavers, sheet_share, Written}
+use Rattle.densest.specs.Gather.{unpacked, Unpacks, SmallUnits, LastLeavers, sheet_share, Written}
 use Rattle.densest.specs.Solve.{IsSolution, Solves}
 use Rattle.densest.proofs.Gathering.{inner_before_ext}
 use Rattle.densest.proofs.Scattering.{put_back, put_back_is}
@@ -154,7 +154,7 @@ module _ {n m : ℕ} {ends weights core scope units packed t : List ℕ} {p q : 
     second = λ j l. rw (f.packed.pairs j l) (good_pair n m ends weights f.held.listed j l).below;
   }
 
-  pub gathering_small : SmallShares m core scope units packed
+  pub gathering_small : SmallUnits m core scope units packed
   unfolding holds_pair
   gathering_small = record {
     small = λ j l y.

@@ -4,7 +4,7 @@
 --   unpacked, Packed, Unpacks  the pair of one word; entries that are the pairs, packed; entries whose ends are modules
 --   first_left, sheet_share    who of a pair left first; a pair's share, from its first slot and the leaving places
 --   LastLeavers, FirstPlace    a group that leaves last (as cores do); the place from which on its members leave
---   SmallShares, Written       what slots hold inside the scope is small; the load sheet, from the pairs packed and the units of the pairs gathered
+--   SmallUnits, Written        what slots hold inside the scope is small; the load sheet, from the pairs packed and the units of the pairs gathered
 -- Assumes nothing: these are definitions.
 use Rattle.std.specs.Prelude.{◌≡◌, ℕ, ◌*◌, ◌/◌, ◌%◌, ◌<◌, ◌≤◌, Bool, true, false, cond, List, length, nat_lt, slice_index}
 use Rattle.theory.specs.Lists.{Pair}
@@ -54,14 +54,15 @@ pub record Unpacks (n m : ℕ) (shares : List ℕ) : Type 0 where
 abbrev pub first_left : (place : List ℕ) → Pair → Bool
 first_left place p = nat_lt (slice_index place p.a) (slice_index place p.b)
 
--- whoever is outside the group leaves before all members
+-- whoever is outside the group leaves before all members; no place is above 512
 pub record LastLeavers (group place : List ℕ) : Type 0 where
   pub small : (v : ℕ) → v < length group → slice_index place v ≤ 512
   pub last : (a b : ℕ) → a < length group → b < length group → is_in group a ≡ false → is_in group b ≡ true →
       slice_index place a < slice_index place b
 
--- k is the lowest place of a member among the first n modules, or 1,024 where there is none
+-- k is the lowest place of a member among the first n modules, but 1,024 at most
 pub record FirstPlace (n : ℕ) (group place : List ℕ) (k : ℕ) : Type 0 where
+  pub most : k ≤ 1024
   pub low : (v : ℕ) → v < n → is_in group v ≡ true → k ≤ slice_index place v
   pub greatest : (i : ℕ) → i ≤ 1024 → ((v : ℕ) → v < n → is_in group v ≡ true → i ≤ slice_index place v) → i ≤ k
 
@@ -70,7 +71,7 @@ unfoldable pub sheet_share : (q : ℕ) → (scope place : List ℕ) → Pair →
 sheet_share q scope place p x = cond (holds_pair scope p) x (cond (first_left place p) (units q p) 0)
 
 -- what a pair inside the scope has in its first slot fits 19 bits; pairs stand packed in `shares`, units at their numbers among those inside the core
-pub record SmallShares (m : ℕ) (core scope units shares : List ℕ) : Type 0 where
+pub record SmallUnits (m : ℕ) (core scope units shares : List ℕ) : Type 0 where
   pub small : (j : ℕ) → j < m → holds_pair scope (unpacked (slice_index shares j)) ≡ true →
       slice_index units (2 * inner_before (λ i. unpacked (slice_index shares i)) core j) ≤ 524288
 

@@ -54,8 +54,8 @@ impl PackedPair {
         (group[self.first()] == 1) & (group[self.second()] == 1)
     }
 
-    // The place at which the first of its ends leaves.
-    pub(crate) fn first_place(self, place: &[u32]) -> u32
+    // The lower of the places at which its ends leave.
+    pub(crate) fn leaves_at(self, place: &[u32]) -> u32
         requires first_in_bounds { (unpacked self.0).a < length place.now }
         requires second_in_bounds { (unpacked self.0).b < length place.now }
         ensures { result ≡ min (slice_index place.now (unpacked self.0).a) (slice_index place.now (unpacked self.0).b) }

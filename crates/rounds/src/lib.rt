@@ -18,16 +18,17 @@ pub use known::Known;
 pub use reached::Reached;
 pub use search::find;
 
-// At most so many push phases before the searches of a round: enough to leave these next to nothing to do.
+// At most so many push phases before the exact search of a round, where there are any: enough to leave it next to nothing to do.
 pub const PHASES: usize = 64;
 
 // Chains go before the push phases of a round where at most so many modules are loaded above p.
 const ACTIVE: usize = 16;
 
-// At most so many chains go before the push phases: mostly they do, and phases would be the longer way.
+// At most so many chains go before the push phases: mostly so many are enough, and phases would take longer.
 const CHAINS: u32 = 32;
 
-// What goes before the searches to make them short: at most so many push phases, and arcs of at most so many pairs.
+// What goes before the searches to make them short: at most so many push phases (with none there are no chains before the exact search either, and no leavers'
+// start), and arcs of at most so many pairs.
 #[derive(Clone, Copy, Debug, PartialEq, Eq)]
 pub struct Effort {
     pub phases: usize,

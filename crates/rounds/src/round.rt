@@ -1,7 +1,7 @@
 // One round: a split at share size q inside the core of p over q rounded up with no load above p, and the found group; or a group denser than p over q.
 //
-// `flow` decides. Before it the split is balanced: by the leavers' start, then by a few chains or push phases (crates `push`, `chains`). Where these get stuck,
-// the modules that no unit can leave are counted, and if they are denser than p over q, the round is over.
+// `flow` decides. Before it the split is balanced: by the leavers' start, then, unless the list is nearly a forest, by a few chains, push phases, or both
+// (crates `push`, `chains`). Where units are stuck, the modules that none can leave are counted, and if they are denser than p over q, the round is over.
 ghost use Rattle.std.specs.Prelude.{◌≡◌, ◌≤◌, length, IfSome};
 ghost use Rattle.slots.specs.Slots.{Room};
 ghost use Rattle.slots.specs.Views.{UnitsSame, UnitsKept};
@@ -53,25 +53,25 @@ fn is_even(p: u32, scope: &[u8], units: &Units) -> bool {
         .all(|(&byte, &load)| byte != 1 || load == p)
 }
 
-// What loads have above p, in all. It only guides (as the next one does): a sum that does not fit wraps.
+// What loads have above p, in all. It only guides: a sum that does not fit wraps.
 fn excess(p: u32, units: &Units) -> u32 {
     units.load.iter().fold(0u32, |sum, &load| sum.wrapping_add(load.saturating_sub(p)))
 }
 
-// Whether the list has at most five fourths as many pairs as the scope has modules: nearly a forest, in which units seldom have two ways to go.
-fn is_sparse(scope: &[u8], units: &Units) -> bool
+// Whether the list has at most five fourths as many pairs as the scope has modules: then it is nearly a forest, and units seldom have two ways to go.
+fn is_near_forest(scope: &[u8], units: &Units) -> bool
     requires { length scope.now ≤ 512 }
 {
     let size = groups::group_size(scope) as usize;
     units.graph.m <= size + size / 4
 }
 
-// Whether so much lies above p that the leavers' start is better than halves. Nearly a forest leavers balance nearly, and what halves have above p has far to
-// go there. Else it must be a 1,024th of all that fits, for p a module.
-fn is_uneven(p: u32, scope: &[u8], units: &Units) -> bool
+// Whether so much lies above p that the leavers' start is better than halves. Near a forest it is more than p/32: the leavers' start is nearly even there, and
+// what halves have above p has far to go. Else it is more than p/1024, rounded down, for each module of the scope. (A product that does not fit wraps.)
+fn much_above(p: u32, scope: &[u8], units: &Units) -> bool
     requires { length scope.now ≤ 512 }
 {
-    let bound = if is_sparse(scope, units) {
+    let bound = if is_near_forest(scope, units) {
         p / 32
     } else {
         (p / 1024).wrapping_mul(groups::group_size(scope))
@@ -79,7 +79,7 @@ fn is_uneven(p: u32, scope: &[u8], units: &Units) -> bool
     excess(p, units) > bound
 }
 
-// Where units have to move, arcs; and where the first round's split is uneven, the leavers' start in its place.
+// Where units have to move, arcs; and where the first round's split has much above p, the leavers' start in its place.
 fn prepare(
     known: Known,
     effort: Effort,
@@ -103,7 +103,7 @@ fn prepare(
     };
     hints.lay(shown, known.place);
     let first = last.is_none() && effort.phases > 0;
-    if first && is_uneven(p, scope, units) {
+    if first && much_above(p, scope, units) {
         push::leavers(units, hints.arcs(), p, known.order, known.place);
     }
 }
@@ -119,21 +119,21 @@ fn count(list: List, group: &[u8]) -> Ratio
     }
 }
 
-// Whether at most a few modules are active, which is to say loaded above p.
+// Whether at most `ACTIVE` modules are active: loaded above p.
 fn few_active(p: u32, units: &Units) -> bool {
     units.load.iter().filter(|&&load| p < load).count() <= ACTIVE
 }
 
-// Where few modules are active, a few chains; else, or where these do not do, push phases. Where either gets stuck, the modules that no unit can leave have
-// the number that is answered or a higher one.
+// Where few modules are active, a few chains; else, or where these are not enough, push phases. Where units are stuck, the modules that none can leave have
+// marks of the number that is answered, or higher ones.
 #[tactic(auto, using(slots::proofs::Moves::kept_more))]
-fn stuck(
+fn move_until_stuck(
     p: u32,
     phases: usize,
     arcs: Arcs,
     scope: &[u8],
     units: &mut Units,
-    numbers: &mut [u32; 512],
+    marks: &mut [u32; 512],
 ) -> Option<u32>
     requires n_bound { units.old.graph.n ≤ 512 }
     requires n_in_bounds { units.old.graph.n ≤ length scope.now }
@@ -141,14 +141,14 @@ fn stuck(
     ensures { UnitsKept units.old units.new }
 {
     if few_active(p, units)
-        && let Some(ended) = settle(units, arcs, p, Some(CHAINS), numbers)
+        && let Some(ended) = settle(units, arcs, p, Some(CHAINS), marks)
     {
         return (!ended.settled).then_some(1);
     }
-    push::phases(units, arcs, p, phases, scope, numbers).then_some(push::FAR)
+    push::phases(units, arcs, p, phases, scope, marks).then_some(push::FAR)
 }
 
-// What is stuck, counted, if it is denser than the ratio at hand. In a sparse list chains are short, and are left to the exact search. (A struct of the six
+// What is stuck, counted, if it is denser than the ratio at hand. Near a forest chains are short, and are left to the exact search. (A struct of the six
 // that this and `decide` take would hold units and group by `&mut`: each would have to say that they are the same ones afterwards, and that known and scope
 // are. That the units are such as the round opened with is said of three values, of which none holds another.)
 fn balance(
@@ -164,17 +164,17 @@ fn balance(
     ensures kept { UnitsKept units.old units.new }
     ensures denser { IfSome result (DenserCounted known.entry group.new) }
 {
-    if phases == 0 || is_sparse(scope, units) {
+    if phases == 0 || is_near_forest(scope, units) {
         return None;
     }
-    let mut numbers = [0u32; 512];
-    let least = stuck(known.ratio.p, phases, arcs, scope, units, &mut numbers)?;
-    groups::mark_at_least(least, &numbers, group);
+    let mut marks = [0u32; 512];
+    let least = move_until_stuck(known.ratio.p, phases, arcs, scope, units, &mut marks)?;
+    groups::mark_at_least(least, &marks, group);
     let ratio = count(known.list, group);
     known.ratio.is_below(ratio).then_some(ratio)
 }
 
-// What a round decides: a counted group where phases get stuck and that is denser, else what the exact search finds.
+// What a round decides: a counted group where units are stuck and it is denser, else what the exact search finds.
 fn decide(
     known: Known,
     phases: usize,

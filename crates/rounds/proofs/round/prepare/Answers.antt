@@ -2,5 +2,5 @@
 use Rattle.rounds.proofs.Rounds.{opened_few}
 use Rattle.rounds.proofs.round.prepare.Goals as goal
 
-pub is_uneven-requires : goal.is_uneven-requires
-is_uneven-requires c = opened_few c.requires.opened
+pub much_above-requires : goal.much_above-requires
+much_above-requires c = opened_few c.requires.opened
