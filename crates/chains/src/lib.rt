@@ -1,5 +1,5 @@
-// The chain search, by which the split search (crate `flow`) moves units, and at times a start before it: from modules loaded above p to modules loaded below p (document 01, "The list and
-// its calls": the split search).
+// The chain search, by which the split search (crate `flow`) moves units, and at times a start before it: from modules loaded above p to modules loaded
+// below p (document 01, "The list and its calls": the split search).
 //
 // Units lie in slots (crate `slots`). A module loaded above p sends units along a chain of slots that hold some, found breadth first, to the first module
 // loaded below p (augmenting paths: `search`, `pull`). That goes on until no load is above p, or no chain leads to a module loaded below p: then the modules

@@ -68,10 +68,10 @@ fn pull(units: &mut Units, p: u32, root: usize, found: usize, reached: &Reached)
     }
 }
 
-// Searches and pulls until no load is above p; or, if `most` is a number, until so many chains were pulled and a load is still above p: then there is no answer.
-// Not settled: the last search reached a set that no unit can leave, those with a rank. Free are where the units of a pair lie, the ranks where it is settled or
-// there is no answer, what is said of searches, and, if `most` is a number, whether there is an answer. (How often a root is searched from is not known: no
-// index is counted. Not inlined, so that room for what is reached is on the stack only while it runs.)
+// Searches and pulls until no load is above p; or, if `most` is a number, until so many chains were pulled and a load is still above p: then there is no
+// answer. Not settled: the last search reached a set that no unit can leave, those with a rank. Free are where the units of a pair lie, the ranks where it is
+// settled or there is no answer, what is said of searches, and, if `most` is a number, whether there is an answer. (How often a root is searched from is not
+// known: no index is counted. Not inlined, so that room for what is reached is on the stack only while it runs.)
 #[inline(never)]
 pub fn settle(
     units: &mut Units,

@@ -4,7 +4,7 @@
 // of modules in which more than p a module stays, however units move. It knows loads and units, nothing of ratios and best groups.
 // How: modules loaded above p send units along chains to modules loaded below p (crate `chains`: augmenting paths). Where no chain leads to one, the modules
 // reached are such a set (a minimum cut). Once no load is above p, modules of the scope loaded below p drain, and so does whoever could pass units on to them:
-// what stays is the largest set loaded p throughout. Where push phases (crate `push`) leave little to search, they go before, in the caller, and the promise does
+// what stays is the largest set loaded p throughout. Where push phases (crate `push`) leave little to search, they go before, in the caller; the promise does
 // not depend on them.
 // Cost: the searches for chains, a step for each arc of the modules that drain, and scans over all pairs for who else does. Nothing is refused.
 // That n ≤ 512, and how long lent buffers are, are clauses: an invariant of `Graph`, or arrays for slices, would ask more of who calls public functions.
