@@ -60,7 +60,7 @@ enum {
     KANDURZO_STACK_READ_DIMACS = 16384,
     KANDURZO_STACK_WRITE_DIMACS = 59392,
     KANDURZO_STACK_PEEL = 40960,
-    KANDURZO_STACK_SOLVE = 126976, /* the most: enough for every call */
+    KANDURZO_STACK_SOLVE = 106496, /* the most: enough for every call */
     KANDURZO_STACK_CHECK = 16384,
     KANDURZO_STACK_SURPLUS = 59392
 };

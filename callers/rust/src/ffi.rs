@@ -23,7 +23,7 @@ pub mod stack {
     /// Of [`peel`](super::peel).
     pub const PEEL: usize = 40960;
     /// Of [`solve`](super::solve); the most.
-    pub const SOLVE: usize = 126976;
+    pub const SOLVE: usize = 106496;
     /// Of [`check`](super::check).
     pub const CHECK: usize = 16384;
     /// Of [`surplus`](super::surplus).
