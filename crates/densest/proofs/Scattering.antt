@@ -1,7 +1,6 @@
 -- The units of the pairs gathered, put back in the slots of all pairs.
 --   ScatteredAt, Scattered   slots of all pairs that have them
 --   put_back, put_back_is    such slots
---   sub_holds                a pair inside a part is inside the whole
 --   scattered_held           each module holds what it held among the pairs gathered
 --   scattered_split          a split of the pairs gathered is one of all pairs
 -- Assumes nothing.
@@ -50,11 +49,6 @@ put_back_is m h scope units =
         slot (2 * j + 1) j 1 (omega arith) (omega arith) (omega arith),
       );
     }
-
--- a pair inside a part of a scope is inside the scope
-pub sub_holds : (part scope : List ℕ) → Sub part scope → (p : Pair) → holds_pair part p ≡ true → holds_pair scope p ≡ true
-unfolding holds_pair
-sub_holds part scope sub p y = let y' = simp tests at y in simp tests (sub p.a y'.0, sub p.b y'.1)
 
 -- ---- what is put back
 
@@ -137,5 +131,5 @@ module _ (n m r : ℕ) (ends weights scope inner_ends inner_weights units hold :
     whole = λ j h. whole j h
         ∙ part_only (holds_pair scope (at j)) (holds_pair part (at j)) _ (units_at q (at j))
         (λ y. sp.whole (number j) (kept_low j h y) ∙ ap {B = ℕ} (λ (p : Pair). cond (holds_pair part p) (units_at q p) 0) (g.pairs j h y))
-        (sub_holds part scope sub (at j));
+        (λ y. let y' = simp tests at y in simp tests (sub _ y'.0, sub _ y'.1));
   }

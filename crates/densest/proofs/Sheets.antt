@@ -15,6 +15,7 @@ use Rattle.theory.specs.Cores.{core, core_number}
 use Rattle.theory.specs.Splits.{units, shares_good, is_split, load_of, greatest_load, core_order, pair_in_core, wholly_first, outside_good}
 use Rattle.theory.specs.Words.{word_pair, pairs_in, list_in, HeldWords}
 use Rattle.theory.specs.Promise.{Optimal, CoreMembers}
+use Rattle.theory.proofs.Tests.{tests}
 use Rattle.theory.proofs.Tables.{length_table, table_at, table_ext}
 use Rattle.theory.proofs.Groups.{Sub}
 use Rattle.theory.proofs.Densest.{found_densest}
@@ -26,7 +27,7 @@ use Rattle.slots.specs.Split.{scope_units, Split}
 use Rattle.slots.proofs.Choice.{stored_more}
 use Rattle.slots.proofs.Words.{good_pair}
 use Rattle.densest.specs.Gather.{inner_before, unpacked, Packed, first_left, sheet_share, Written}
-use Rattle.densest.proofs.Scattering.{Scattered, sub_holds}
+use Rattle.densest.proofs.Scattering.{Scattered}
 use Rattle.densest.proofs.Loads.{load_held, shares_table}
 use Rattle.densest.proofs.Gathering.{inner_before_ext, InnerPassed, passed_start, passed_next}
 
@@ -123,7 +124,8 @@ written_shares m q ends weights core scope place units hold old new pk sub sc w 
     w.shares j l
     ∙ ap (λ (r : Pair). sheet_share q scope place r (get_or units (2 * inner_before (packed_at old) core j) 0)) (pk.pairs j l)
     ∙ share_same (holds_pair scope p) _ _ _ (λ y.
-    let z = sub_holds scope core sub p y in
+    let y' = simp tests at y in
+    let z : holds_pair core p ≡ true = simp tests (sub _ y'.0, sub _ y'.1) in
     ap (λ (k : ℕ). get_or units (2 * k) 0) number ∙ sym ((sc.slots j l).0 ∙ rw z))
 
 -- ---- the sheet is the split that is handed out

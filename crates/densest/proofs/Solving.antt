@@ -17,6 +17,7 @@ use Rattle.theory.specs.Splits.{rounded_up}
 use Rattle.theory.specs.Basics.{table}
 use Rattle.theory.specs.Promise.{LeavingSteps}
 use Rattle.theory.specs.Words.{word_pair, list_in, laid_list, HeldWords}
+use Rattle.theory.proofs.Tests.{tests}
 use Rattle.theory.proofs.Tables.{length_table, table_at}
 use Rattle.theory.proofs.Lists.{listed}
 use Rattle.theory.proofs.Leaving.{leaving_steps}
@@ -40,7 +41,7 @@ use Rattle.densest.specs.declared.Solution.{Solution}
 use Rattle.densest.specs.Gather.{unpacked, Unpacks, SmallUnits, LastLeavers, sheet_share, Written}
 use Rattle.densest.specs.Solve.{IsSolution, Solves}
 use Rattle.densest.proofs.Gathering.{inner_before_ext}
-use Rattle.densest.proofs.Scattering.{put_back, put_back_is, sub_holds}
+use Rattle.densest.proofs.Scattering.{put_back, put_back_is}
 use Rattle.densest.proofs.InnerSearch.{IsCore, GatheringFound}
 use Rattle.densest.proofs.Sheets.{Sheet, written_shares, sheet_optimal, sheet_outside}
 
@@ -159,7 +160,8 @@ module _ {n m : ℕ} {ends weights core scope units packed t : List ℕ} {p q : 
     small = λ j l y.
         let at = word_pair ends weights in
         let inside : holds_pair scope (at j) ≡ true = rw (← f.packed.pairs j l) y in
-        let z = sub_holds scope core f.sub (at j) inside in
+        let y' = simp tests at inside in
+        let z : holds_pair core (at j) ≡ true = simp tests (f.sub _ y'.0, f.sub _ y'.1) in
         let number = inner_before_ext at core (λ i. unpacked (get_or packed i 0)) j (λ i b. f.packed.pairs i (omega arith)) in
         let back = ((put_back_is m at core units).slots j l).0 in
         let fits = all_found.last.room.small (2 * j) (omega arith) in
