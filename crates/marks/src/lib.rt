@@ -47,7 +47,8 @@ impl Marks {
     // The least number that is marked.
     pub fn first(&self) -> usize
         requires { SomeMarked self.now.words }
-        ensures { First self.now.words result }
+        ensures first { First self.now.words result }
+        ensures bound { result < 4096 }
     {
         let word = self.top.trailing_zeros() as usize;
         64 * word + self.words[word].trailing_zeros() as usize

@@ -1,3 +1,3 @@
--- The contract of the three functions, and what only the functions below them cite; each file opens with what it gives.
+-- The contract of `Ranking`'s functions, and how the ranking lies in words; each file opens with what it gives.
 pub mod Ranking
-pub mod Words
+pub mod Chains
