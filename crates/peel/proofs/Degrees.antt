@@ -2,10 +2,11 @@
 --   degree_ends                the degree among all modules: what the pairs weigh at a module
 --   adjacency_degrees          the degrees that `slots::Adjacency` adds up
 --   joint_row                  what joins two modules, by the neighbours of one
+--   apart_joined               nothing, where no pair joins them
 -- Assumes nothing.
 use mathlib.Core.Path.{◌≡◌, refl, sym, ◌∙◌}
 use mathlib.Core.Bool.{Bool, true, false, ◌&&◌, ◌||◌, cond}
-use mathlib.Core.List.{List}
+use mathlib.Core.List.{List, [], ◌∷◌}
 use mathlib.Core.Logic.{⊎_elim}
 use Prim.Native.Nat.{ℕ, zero, suc, ◌+◌, ◌*◌, ◌/◌, ◌<◌}
 use native.Mathlib.Omega.{arith}
@@ -17,16 +18,19 @@ use Rattle.theory.specs.Lists.{Pair, is_list}
 use Rattle.theory.specs.Groups.{everyone}
 use Rattle.theory.specs.Leaving.{joins, degree_of, degree}
 use Rattle.theory.specs.Words.{word_pair, pairs_in, list_in, HeldWords}
-use Rattle.theory.proofs.Tests.{no}
+use Rattle.theory.proofs.Tests.{no, or_fails}
 use Rattle.theory.proofs.Groups.{in_everyone}
 use Rattle.theory.proofs.Peeling.{joint}
+use Rattle.lists.specs.declared.list.List.{List as HeldList}
+use Rattle.lists.specs.Listed.{listed}
 use Rattle.slots.specs.Slots.{mate, total}
+use Rattle.slots.specs.Neighbours.{neighbours_of}
 use Rattle.slots.specs.Rows.{first_end, second_end, weight_at, row}
 use Rattle.slots.proofs.Totals.{total_ext, total_first, total_pairs}
 use Rattle.slots.proofs.Choice.{eq_or_ne}
 use Rattle.slots.proofs.Mates.{mate_even, mate_odd}
 use Rattle.slots.proofs.Words.{good_pair}
-use Rattle.peel.specs.Steps.{joined, Degrees}
+use Rattle.peel.specs.Steps.{joined, are_joined_by, are_joined, Degrees}
 
 -- ---- sums over pairs
 
@@ -142,3 +146,27 @@ pub adjacency_degrees : {n m : ℕ} {ends weights : List ℕ} (degrees : List �
     ((v : ℕ) → v < n → get_or degrees v 0 ≡ weight_at ends weights m v) → Degrees (list_in n m ends weights) degrees
 unfolding Degrees list_in
 adjacency_degrees {n} {m} {ends} {weights} degrees h d v l = d v l ∙ sym (degree_ends n m ends weights h.listed v)
+
+-- ---- modules that no pair joins
+
+none_joint : (av bu au bv : Bool) (w : ℕ) → ((av && bu) || (au && bv)) ≡ false → cond ((au && bv) || (bu && av)) w 0 ≡ 0
+none_joint true true au bv w e = no (sym e)
+none_joint av bu true true w e = no (sym (or_fails (av && bu) true e).1)
+none_joint true false true false w e = omega arith
+none_joint true false false bv w e = omega arith
+none_joint false true true false w e = omega arith
+none_joint false true false bv w e = omega arith
+none_joint false false true false w e = omega arith
+none_joint false false false bv w e = omega arith
+
+apart_joint : (ps : List Pair) (v u : ℕ) → are_joined_by ps v u ≡ false → joint ps u v ≡ 0
+unfolding are_joined_by joint
+apart_joint [] v u e = refl
+apart_joint (p ∷ ps) v u e =
+    let f = or_fails ((eqb p.a v && eqb p.b u) || (eqb p.a u && eqb p.b v)) (are_joined_by ps v u) e in
+    omega (arith, none_joint (eqb p.a v) (eqb p.b u) (eqb p.a u) (eqb p.b v) p.w f.0, apart_joint ps v u f.1)
+
+pub apart_joined : (l : HeldList) (v u : ℕ) → are_joined (listed l) v u ≡ false → joined (neighbours_of l v) u ≡ 0
+unfolding are_joined list_in
+apart_joined l v u e =
+    sym (joint_row l.n l.m l.ends.now l.weights.now l.held.listed u v) ∙ apart_joint (listed l).pairs v u e

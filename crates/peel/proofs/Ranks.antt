@@ -1,27 +1,26 @@
 -- One turn: the first of the ranking is the leaver, and what the ranking holds then.
 --   ranked_buildable, ranked_built    all modules, each with its degree
---   Turn, ranked_some                 the module that the leaving order has there is present
---   ranked_first, ranked_degree       it is the first of the ranking
---   ranked_below, ranked_lowerable, ranked_next    it is a module; it has left, and the others carry less
+--   ranked_below, ranked_lowerable    who leaves is a module; its neighbours carry what joins them to it
+--   ranked_turned                     once they carry less, the turn is done
 -- Assumes nothing.
 use mathlib.Core.Path.{◌≡◌, refl, sym, ap, ◌∙◌}
-use mathlib.Core.Bool.{Bool, true, false, ◌&&◌, not}
+use mathlib.Core.Bool.{Bool, true, false}
 use mathlib.Core.List.{List}
 use mathlib.Core.Option.{some}
 use Prim.Native.Nat.{ℕ, ◌+◌, ◌≤◌, ◌<◌}
 use native.Mathlib.Omega.{arith}
-use lib.Dec.{ltb, eqb}
+use lib.Dec.{ltb}
 use lib.ListN.{length, set, take}
-use Rattle.std.proofs.lemmas.List.{get_or-take, length-take-le}
+use Rattle.std.proofs.lemmas.List.{get_or-take, length-take-le, length-set}
 use borrow.Author.Tests.{ltb-true, ltb-false}
 use Rattle.theory.specs.Groups.{is_in, everyone, inside}
 use Rattle.theory.specs.Leaving.{degree, leaver}
 use Rattle.theory.specs.Words.{list_in}
-use Rattle.theory.specs.Promise.{LeaverFewest, LeaverLowest}
+use Rattle.theory.specs.Promise.{LeaverFewest, LeaverLowest, LeaverThere}
 use Rattle.theory.proofs.Tests.{tests, fails}
 use Rattle.theory.proofs.Lists.{proper}
 use Rattle.theory.proofs.Groups.{in_lt, in_leave, in_everyone, length_everyone}
-use Rattle.theory.proofs.Leaving.{leaver_fewest, leaver_lowest}
+use Rattle.theory.proofs.Leaving.{leaver_fewest, leaver_lowest, leaver_there}
 use Rattle.theory.proofs.Peeling.{degree_leave}
 use Rattle.theory.proofs.Cores.{inside_leave}
 use Rattle.lists.specs.declared.list.List.{List as HeldList}
@@ -29,10 +28,10 @@ use Rattle.lists.specs.Listed.{listed}
 use Rattle.slots.proofs.Words.{held_few}
 use Rattle.slots.specs.Neighbours.{neighbours_of}
 use Rattle.ranking.specs.declared.Leaver.{Leaver}
-use Rattle.ranking.specs.Ranking.{has, carries, SomePresent, Buildable, Built, Taken}
+use Rattle.ranking.specs.Ranking.{has, carries, Buildable, Built, Taken}
 use Rattle.ranking.proofs.Order.{has_below, key_first}
-use Rattle.peel.specs.Steps.{joined, Degrees, RankingOf, LowerableBy, LoweredBy}
-use Rattle.peel.proofs.Degrees.{joint_row}
+use Rattle.peel.specs.Steps.{joined, Degrees, RankingOf, Turned, LowerableBy, LoweredBy}
+use Rattle.peel.proofs.Degrees.{joint_row, apart_joined}
 use Rattle.peel.proofs.Remainders.{all_light}
 
 -- ---- at first
@@ -57,10 +56,11 @@ module _ (l : HeldList) (degrees : List ℕ) (x : Degrees (listed l) degrees) (l
         );
   }
 
-  pub ranked_built : {words : List ℕ} → Built (take l.n degrees) words → RankingOf (listed l) (everyone (listed l)) words
+  pub ranked_built : {keys : List ℕ} → Built (take l.n degrees) keys → RankingOf (listed l) (everyone (listed l)) keys
   unfolding Degrees list_in
   ranked_built b =
       record {
+        full = length_everyone (listed l);
         present = λ u. b.present u ∙ rw first_long (all u (ltb u l.n) refl);
         carried = λ u e.
             let k : u < l.n = ltb-true u l.n (rw first_long at (sym (b.present u) ∙ e)) in
@@ -76,76 +76,62 @@ module _ (l : HeldList) (degrees : List ℕ) (x : Degrees (listed l) degrees) (l
 
 -- ---- a turn
 
--- the ranking holds the modules of s, of which v leaves next
-pub record Turn (l : HeldList) (s words : List ℕ) (v : ℕ) : Type 0 where
-  pub full : length s ≡ l.n
-  pub ranked : RankingOf (listed l) s words
-  pub next : leaver (listed l) s ≡ some v
+-- the ranking holds the modules of s, and k leaves it
+module _ (l : HeldList) {s keys new : List ℕ} {k : Leaver} (r : RankingOf (listed l) s keys) (t : Taken keys new k) where
+  here : is_in s k.number ≡ true
+  here = sym (r.present k.number) ∙ t.there
 
-module _ {l : HeldList} {s words : List ℕ} {v : ℕ} (r : Turn l s words v) where
-  there : is_in s v ≡ true
-  unfolding LeaverFewest
-  there = (leaver_fewest (listed l) s v r.next).1
+  pub ranked_below : k.number < l.n
+  unfolding list_in
+  ranked_below = omega (arith, in_lt s k.number here, r.full)
 
-  ranked_there : has words v ≡ true
-  ranked_there = r.ranked.present v ∙ there
+  -- none has a lower key than the first, and none fewer than the leaver, or as few and a lower number
+  first_leaves : (v : ℕ) → leaver (listed l) s ≡ some v → v ≡ k.number
+  unfolding LeaverFewest LeaverLowest list_in
+  first_leaves v n =
+      let few = leaver_fewest (listed l) s v n in
+      let there : has keys v ≡ true = r.present v ∙ few.1 in
+      let d : carries keys k.number ≡ degree (listed l) s k.number = r.carried k.number t.there in
+      let e : carries keys v ≡ degree (listed l) s v = r.carried v there in
+      let f =
+      key_first (carries keys k.number) (carries keys v) k.number v (has_below keys k.number t.there) (has_below keys v there) (t.first v there) in
+      let same : degree (listed l) s k.number ≡ degree (listed l) s v = omega (arith, few.2 k.number ranked_below here, f.0, d, e) in
+      omega (arith, leaver_lowest (listed l) s v k.number n ranked_below here same, f.1 (omega (arith, d, e)))
 
-  pub ranked_some : SomePresent words
-  unfolding SomePresent
-  ranked_some = (v, ranked_there)
+  next : leaver (listed l) s ≡ some k.number
+  unfolding LeaverThere list_in
+  next = let n = leaver_there (listed l) s k.number ranked_below here in n.1 ∙ ap some (first_leaves n.0 n.1)
 
-  -- when v leaves, the degree of u falls by what joins them
-  fallen : (u : ℕ) → degree (listed l) (set s v 0) u + joined (neighbours_of l v) u ≡ degree (listed l) s u
+  -- when it leaves, the degree of u falls by what joins them
+  fallen : (u : ℕ) → degree (listed l) (set s k.number 0) u + joined (neighbours_of l k.number) u ≡ degree (listed l) s u
   unfolding degree list_in
   fallen u =
       omega (
         arith,
-        joint_row l.n l.m l.ends.now l.weights.now l.held.listed u v,
-        degree_leave l.n (listed l).pairs s u v (proper (listed l) l.held.listed) there,
+        joint_row l.n l.m l.ends.now l.weights.now l.held.listed u k.number,
+        degree_leave l.n (listed l).pairs s u k.number (proper (listed l) l.held.listed) here,
       )
 
-  module _ {new : List ℕ} {k : Leaver} (t : Taken words new k) where
-    -- none has a lower key than the first, and none fewer than the leaver, or as few and a lower number
-    pub ranked_first : k.number ≡ v
-    unfolding LeaverFewest LeaverLowest list_in
-    ranked_first =
-        let here : is_in s k.number ≡ true = sym (r.ranked.present k.number) ∙ t.there in
-        let low : k.number < l.n = omega (arith, in_lt s k.number here, r.full) in
-        let d : carries words k.number ≡ degree (listed l) s k.number = r.ranked.carried k.number t.there in
-        let e : carries words v ≡ degree (listed l) s v = r.ranked.carried v ranked_there in
-        let f =
-        key_first (carries words k.number) (carries words v) k.number v (has_below words k.number t.there) (has_below words v ranked_there)
-        (t.first v ranked_there) in
-        let same : degree (listed l) s k.number ≡ degree (listed l) s v =
-        omega (arith, (leaver_fewest (listed l) s v r.next).2 k.number low here, f.0, d, e) in
-        omega (arith, leaver_lowest (listed l) s v k.number r.next low here same, f.1 (omega (arith, d, e)))
+  -- who is present still carries what joins it to the leaver
+  left_carries : (u : ℕ) → has new u ≡ true →
+      carries new u ≡ degree (listed l) (set s k.number 0) u + joined (neighbours_of l k.number) u
+  left_carries u e =
+      let was : has keys u ≡ true = (simp tests at (sym (t.present u) ∙ e)).0 in
+      t.carried u e ∙ r.carried u was ∙ sym (fallen u)
 
-    pub ranked_degree : k.carried ≡ degree (listed l) s v
-    ranked_degree = t.degree ∙ r.ranked.carried k.number t.there ∙ ap (degree (listed l) s) ranked_first
+  pub ranked_lowerable : LowerableBy (neighbours_of l k.number) new
+  ranked_lowerable = record { enough = λ u e. omega (arith, left_carries u e) }
 
-    -- ---- it has left
-
-    left_present : (u : ℕ) → has new u ≡ is_in (set s v 0) u
-    left_present u =
-        let e : has new u ≡ (has words u && not (eqb u v)) = rw ranked_first at (t.present u) in
-        e ∙ rw (r.ranked.present u) (sym (in_leave s v u))
-
-    -- who is present still carries what joins it to the leaver
-    left_carries : (u : ℕ) → has new u ≡ true → carries new u ≡ degree (listed l) (set s v 0) u + joined (neighbours_of l v) u
-    left_carries u e =
-        let was : has words u ≡ true = (simp tests at (sym (t.present u) ∙ e)).0 in
-        t.carried u e ∙ r.ranked.carried u was ∙ sym (fallen u)
-
-    pub ranked_below : k.number < l.n
-    ranked_below = omega (arith, ranked_first, in_lt s v there, r.full)
-
-    pub ranked_lowerable : LowerableBy (neighbours_of l k.number) new
-    ranked_lowerable = rw ranked_first (record { enough = λ u e. omega (arith, left_carries u e) })
-
-    pub ranked_next : {after : List ℕ} → LoweredBy (neighbours_of l k.number) new after → RankingOf (listed l) (set s v 0) after
-    ranked_next {after} o =
-        let o' : LoweredBy (neighbours_of l v) new after = rw ranked_first at o in
-        record {
-          present = λ u. o'.present u ∙ left_present u;
-          carried = λ u e. let was : has new u ≡ true = sym (o'.present u) ∙ e in omega (arith, o'.carried u was, left_carries u was);
-        }
+  pub ranked_turned : {after : List ℕ} → LoweredBy (neighbours_of l k.number) new after → Turned (listed l) s keys after k
+  ranked_turned {after} o =
+      let was : (u : ℕ) → has after u ≡ true → has new u ≡ true = λ u e. sym (o.present u) ∙ e in
+      record {
+        next = next;
+        degree_is = t.degree ∙ r.carried k.number t.there;
+        others = record {
+          full = length-set s k.number 0 ∙ r.full;
+          present = λ u. o.present u ∙ t.present u ∙ rw (r.present u) (sym (in_leave s k.number u));
+          carried = λ u e. omega (arith, o.carried u (was u e), left_carries u (was u e));
+        };
+        still = λ u e n. omega (arith, o.carried u (was u e), t.carried u (was u e), apart_joined l k.number u n);
+      }

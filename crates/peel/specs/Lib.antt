@@ -4,3 +4,4 @@ pub mod Remainders
 pub mod Peel
 pub mod Promise
 pub mod Steps
+pub mod Turns

@@ -1,6 +1,8 @@
 -- What the functions under `peel` take and leave; only this crate cites it.
 --   joined                         what joins a module to another one, by its neighbours
 --   Degrees, RankingOf             degrees at first; the ranking holds the modules present, each with its degree
+--   SomeRanked                     what a turn takes
+--   IsPresent                      a neighbour is present
 --   LowerableBy, LoweredBy         before and after the pairs of a leaver are taken from its neighbours
 --   LeaversWritten                 the leaving order and the final degrees: those at leaving
 --   Numberable, Numbered           core numbers and places, from those
@@ -16,7 +18,7 @@ use Rattle.theory.specs.Groups.{is_in, everyone}
 use Rattle.theory.specs.Leaving.{degree, leaving, leaving_degree}
 use Rattle.slots.specs.declared.neighbours.Neighbour.{Neighbour}
 use Rattle.slots.specs.Buffers.{entry, WrittenFront}
-use Rattle.ranking.specs.Ranking.{has, carries}
+use Rattle.ranking.specs.Ranking.{has, carries, SomePresent}
 use Rattle.peel.specs.declared.Remainder.{Remainder}
 
 -- ---- neighbours
@@ -33,13 +35,22 @@ unfoldable pub Degrees : Pairs → (degrees : List ℕ) → Type 0
 Degrees g degrees = (v : ℕ) → v < g.n → get_or degrees v 0 ≡ degree g (everyone g) v
 
 -- the ranking holds exactly the modules of s, each with its degree among them
-pub record RankingOf (g : Pairs) (s words : List ℕ) : Type 0 where
-  pub present : (u : ℕ) → has words u ≡ is_in s u
-  pub carried : (u : ℕ) → has words u ≡ true → carries words u ≡ degree g s u
+pub record RankingOf (g : Pairs) (s keys : List ℕ) : Type 0 where
+  pub full : length s ≡ g.n
+  pub present : (u : ℕ) → has keys u ≡ is_in s u
+  pub carried : (u : ℕ) → has keys u ≡ true → carries keys u ≡ degree g s u
+
+-- it holds some modules so, and one of them is there
+unfoldable pub SomeRanked : (g : Pairs) → (keys : List ℕ) → Type 0
+SomeRanked g keys = (s : List ℕ) × (RankingOf g s keys × SomePresent keys)
+
+-- the neighbour is present
+unfoldable pub IsPresent : (keys : List ℕ) → Neighbour → Type 0
+IsPresent keys x = has keys x.number ≡ true
 
 -- whoever is present carries what is to be taken from it for these neighbours
-pub record LowerableBy (xs : List Neighbour) (words : List ℕ) : Type 0 where
-  pub enough : (u : ℕ) → has words u ≡ true → joined xs u ≤ carries words u
+pub record LowerableBy (xs : List Neighbour) (keys : List ℕ) : Type 0 where
+  pub enough : (u : ℕ) → has keys u ≡ true → joined xs u ≤ carries keys u
 
 -- that is taken from it
 pub record LoweredBy (xs : List Neighbour) (old new : List ℕ) : Type 0 where

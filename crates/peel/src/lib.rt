@@ -7,18 +7,19 @@
 // `as` stands where std has no `From`: from u32 to usize, and where a bound lets a number fit fewer bits.
 #![tactic(auto)]
 
-ghost use Rattle.std.specs.Prelude.{◌≡◌, ◌-◌, ◌≤◌, ◌<◌, length};
+ghost use Rattle.std.specs.Prelude.{◌≡◌, All, ◌-◌, ◌≤◌, ◌<◌, length};
 ghost use Rattle.theory.specs.Groups.{everyone};
 ghost use Rattle.lists.specs.Listed.{listed};
 ghost use Rattle.slots.specs.Neighbours.{neighbours_of};
 ghost use Rattle.peel.specs.Peel.{Peelable, Peels};
-ghost use Rattle.peel.specs.Steps.{LowerableBy, LoweredBy, RankingOf, LeaversWritten, Numberable, Numbered};
+ghost use Rattle.peel.specs.Steps.{IsPresent, LowerableBy, LoweredBy, RankingOf, SomeRanked, LeaversWritten, Numberable, Numbered};
+ghost use Rattle.peel.specs.Turns.{TurnOf};
 ghost use Rattle.peel.specs.Steps.{remaining, densest_by, denser, Comparable, RemainderAt};
 
 use lists::List;
 use numbers::Ratio;
-use ranking::Ranking;
-use slots::Adjacency;
+use ranking::{Leaver, Ranking};
+use slots::{Adjacency, Neighbour};
 
 // What is left when `at` modules have left: its ratio, not reduced.
 #[derive(Clone, Copy, Debug, PartialEq, Eq)]
@@ -41,30 +42,67 @@ impl Remainder {
     }
 }
 
-// Module v has left: its neighbours carry less.
-fn lower_neighbours(adjacency: Adjacency, v: usize, ranking: &mut Ranking)
-    requires below { v < adjacency.list.n }
-    requires lowerable { LowerableBy (neighbours_of adjacency.list v) ranking.old.words }
-    ensures { LoweredBy (neighbours_of adjacency.entry.list v) ranking.old.words ranking.new.words }
+// The neighbours at hand carry less.
+fn lower_all(touched: &[Neighbour], ranking: &mut Ranking)
+    requires there { All (IsPresent ranking.old.keys) touched.now }
+    requires lowerable { LowerableBy touched.now ranking.old.keys }
+    ensures { LoweredBy touched.now ranking.old.keys ranking.new.keys }
 {
-    for neighbour in adjacency.neighbours(v) {
+    for neighbour in touched {
         ranking.lower(neighbour.number, neighbour.weight);
     }
+}
+
+// Module v has left: its neighbours that are present carry less. They are gathered first, some at a time, and where one has left, the next one takes its
+// place: a step of 0 or 1 instead of a branch, as who has left comes as by chance.
+fn lower_neighbours(
+    adjacency: Adjacency,
+    v: usize,
+    touched: &mut [Neighbour; 64],
+    ranking: &mut Ranking,
+)
+    requires below { v < adjacency.list.n }
+    requires lowerable { LowerableBy (neighbours_of adjacency.list v) ranking.old.keys }
+    ensures { LoweredBy (neighbours_of adjacency.entry.list v) ranking.old.keys ranking.new.keys }
+{
+    let mut count = 0;
+    for neighbour in adjacency.neighbours(v) {
+        touched[count] = neighbour;
+        count += usize::from(ranking.has(neighbour.number));
+        if count == 64 {
+            lower_all(&touched[..count], ranking);
+            count = 0;
+        }
+    }
+    lower_all(&touched[..count], ranking);
+}
+
+// One turn: the first of the ranking leaves, and the modules joined to it are ranked anew.
+fn turn(adjacency: Adjacency, touched: &mut [Neighbour; 64], ranking: &mut Ranking) -> Leaver
+    requires { SomeRanked (listed adjacency.list) ranking.old.keys }
+    ensures { TurnOf (listed adjacency.entry.list) ranking.old.keys ranking.old.next ranking.new.keys ranking.new.next result }
+{
+    let leaver = ranking.take();
+    lower_neighbours(adjacency, leaver.number, touched, ranking);
+    leaver
 }
 
 // N turns: who leaves, and with what degree, its final one. (Both are written by an index: of what a zip of `iter_mut` writes no proof knows the entries.)
 #[tactic(auto, unfolding(theory::specs::Leaving::remainder, theory::specs::Leaving::left_behind))]
 fn turns(adjacency: Adjacency, ranking: &mut Ranking, order: &mut [u32], finals: &mut [u32])
-    requires ranking_of { RankingOf (listed adjacency.list) (everyone (listed adjacency.list)) ranking.old.words }
+    requires ranking_of { RankingOf (listed adjacency.list) (everyone (listed adjacency.list)) ranking.old.keys }
     requires order_long { adjacency.list.n ≤ length order.old }
     requires finals_long { adjacency.list.n ≤ length finals.old }
     ensures { LeaversWritten (listed adjacency.entry.list) adjacency.entry.list.n order.old finals.old order.new finals.new }
 {
+    let mut touched = [Neighbour {
+        number: 0,
+        weight: 0,
+    }; 64];
     for i in 0..adjacency.list.n {
-        let leaver = ranking.take();
+        let leaver = turn(adjacency, &mut touched, ranking);
         order[i] = leaver.number as u32;
         finals[i] = leaver.carried;
-        lower_neighbours(adjacency, leaver.number, ranking);
     }
 }
 

@@ -1,25 +1,21 @@
 -- `peel::turns` meets its contract: i modules have left.
 use native.Mathlib.Omega.{arith}
 use Rattle.slots.proofs.Words.{held_few}
-use Rattle.peel.proofs.Ranks.{ranked_some, ranked_below, ranked_lowerable}
-use Rattle.peel.proofs.Orders.{turn, turn_next}
+use Rattle.peel.specs.Steps.{TurnOf}
+use Rattle.peel.proofs.Orders.{turn_ranked, turn_below, turn_next}
 use Rattle.peel.proofs.turns.Goals as goal
 
-pub take-leaver-requires : goal.take-leaver-requires
-take-leaver-requires c = ranked_some (turn c.loop-i.invariant (omega arith))
+pub turn-leaver-requires : goal.turn-leaver-requires
+turn-leaver-requires c = turn_ranked c.loop-i.invariant (omega arith)
 
 pub overflow_cast-order : goal.overflow_cast-order
+unfolding TurnOf
 overflow_cast-order c =
-    let below = ranked_below (turn c.loop-i.invariant (omega arith)) c.take-leaver.ensures in
+    let below = turn_below c.loop-i.invariant (omega arith) (c.turn-leaver.ensures _ c.loop-i.invariant.ranked) in
     let few = held_few c.args.adjacency.list.held in
     omega arith
 
-pub lower_neighbours-requires-clause-below : goal.lower_neighbours-requires-clause-below
-lower_neighbours-requires-clause-below c = ranked_below (turn c.loop-i.invariant (omega arith)) c.take-leaver.ensures
-
-pub lower_neighbours-requires-clause-lowerable : goal.lower_neighbours-requires-clause-lowerable
-lower_neighbours-requires-clause-lowerable c = ranked_lowerable (turn c.loop-i.invariant (omega arith)) c.take-leaver.ensures
-
 pub loop-i-preserved : goal.loop-i-preserved
+unfolding TurnOf
 loop-i-preserved c =
-    turn_next c.loop-i.invariant (omega arith) c.take-leaver.ensures c.lower_neighbours.ensures c.requires.order_long c.requires.finals_long
+    turn_next c.loop-i.invariant (omega arith) (c.turn-leaver.ensures _ c.loop-i.invariant.ranked) c.requires.order_long c.requires.finals_long
