@@ -30,7 +30,8 @@ use Rattle.slots.proofs.Totals.{total_ext, total_first, total_pairs}
 use Rattle.slots.proofs.Choice.{eq_or_ne}
 use Rattle.slots.proofs.Mates.{mate_even, mate_odd}
 use Rattle.slots.proofs.Words.{good_pair}
-use Rattle.peel.specs.Steps.{joined, are_joined_by, are_joined, Degrees}
+use Rattle.peel.specs.Steps.{joined, Degrees}
+use Rattle.peel.specs.Turns.{are_joined_by, are_joined}
 
 -- ---- sums over pairs
 

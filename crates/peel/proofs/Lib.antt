@@ -2,6 +2,7 @@
 pub mod Degrees
 pub mod Leavers
 pub mod Ranks
+pub mod Stepping
 pub mod Walks
 pub mod Orders
 pub mod Numbers

@@ -1,23 +1,24 @@
 -- One turn: the first of the ranking is the leaver, and what the ranking holds then.
 --   ranked_buildable, ranked_built    all modules, each with its degree
 --   ranked_below, ranked_lowerable    who leaves is a module; its neighbours carry what joins them to it
---   ranked_turned                     once they carry less, the turn is done
+--   Left, ranked_left                 once they carry less, the others are ranked, and those untouched as they were
 -- Assumes nothing.
 use mathlib.Core.Path.{◌≡◌, refl, sym, ap, ◌∙◌}
-use mathlib.Core.Bool.{Bool, true, false}
+use mathlib.Core.Bool.{Bool, true, false, ◌&&◌, not, and-true}
 use mathlib.Core.List.{List}
 use mathlib.Core.Option.{some}
 use Prim.Native.Nat.{ℕ, ◌+◌, ◌≤◌, ◌<◌}
 use native.Mathlib.Omega.{arith}
-use lib.Dec.{ltb}
+use lib.Dec.{ltb, eqb}
 use lib.ListN.{length, set, take}
 use Rattle.std.proofs.lemmas.List.{get_or-take, length-take-le, length-set}
 use borrow.Author.Tests.{ltb-true, ltb-false}
+use Rattle.theory.specs.Lists.{Pairs}
 use Rattle.theory.specs.Groups.{is_in, everyone, inside}
 use Rattle.theory.specs.Leaving.{degree, leaver}
 use Rattle.theory.specs.Words.{list_in}
 use Rattle.theory.specs.Promise.{LeaverFewest, LeaverLowest, LeaverThere}
-use Rattle.theory.proofs.Tests.{tests, fails}
+use Rattle.theory.proofs.Tests.{tests, no, fails}
 use Rattle.theory.proofs.Lists.{proper}
 use Rattle.theory.proofs.Groups.{in_lt, in_leave, in_everyone, length_everyone}
 use Rattle.theory.proofs.Leaving.{leaver_fewest, leaver_lowest, leaver_there}
@@ -30,7 +31,9 @@ use Rattle.slots.specs.Neighbours.{neighbours_of}
 use Rattle.ranking.specs.declared.Leaver.{Leaver}
 use Rattle.ranking.specs.Ranking.{has, carries, Buildable, Built, Taken}
 use Rattle.ranking.proofs.Order.{has_below, key_first}
-use Rattle.peel.specs.Steps.{joined, Degrees, RankingOf, Turned, LowerableBy, LoweredBy}
+use Rattle.ranking.proofs.Alike.{Same}
+use Rattle.peel.specs.Steps.{joined, Degrees, RankingOf, LowerableBy, LoweredBy}
+use Rattle.peel.specs.Turns.{are_joined, untouched}
 use Rattle.peel.proofs.Degrees.{joint_row, apart_joined}
 use Rattle.peel.proofs.Remainders.{all_light}
 
@@ -75,6 +78,18 @@ module _ (l : HeldList) (degrees : List ℕ) (x : Degrees (listed l) degrees) (l
           (λ i. omega (arith, in_lt (everyone (listed l)) u i, length_everyone (listed l), ltb-false u l.n e)))
 
 -- ---- a turn
+
+-- what a turn leaves: `keys` is the ranking before, `keys'` afterwards, r has left
+pub record Left (g : Pairs) (s keys keys' : List ℕ) (r : Leaver) : Type 0 where
+  pub next : leaver g s ≡ some r.number
+  pub degree_is : r.carried ≡ degree g s r.number
+  pub others : RankingOf g (set s r.number 0) keys'
+  pub alike : (u : ℕ) → untouched g r.number u ≡ true → Same keys keys' u
+
+apart : (a b : Bool) → (not a && not b) ≡ true → (a ≡ false) × (b ≡ false)
+apart true b e = no e
+apart false true e = no e
+apart false false e = (refl, refl)
 
 -- the ranking holds the modules of s, and k leaves it
 module _ (l : HeldList) {s keys new : List ℕ} {k : Leaver} (r : RankingOf (listed l) s keys) (t : Taken keys new k) where
@@ -122,8 +137,20 @@ module _ (l : HeldList) {s keys new : List ℕ} {k : Leaver} (r : RankingOf (lis
   pub ranked_lowerable : LowerableBy (neighbours_of l k.number) new
   ranked_lowerable = record { enough = λ u e. omega (arith, left_carries u e) }
 
-  pub ranked_turned : {after : List ℕ} → LoweredBy (neighbours_of l k.number) new after → Turned (listed l) s keys after k
-  ranked_turned {after} o =
+  -- of those untouched none has left, and nothing joins them to the leaver
+  ranked_alike : {after : List ℕ} → LoweredBy (neighbours_of l k.number) new after → (u : ℕ) → untouched (listed l) k.number u ≡ true →
+      Same keys after u
+  unfolding untouched
+  ranked_alike {after} o u e =
+      let f = apart (eqb u k.number) (are_joined (listed l) k.number u) e in
+      let stays : has new u ≡ has keys u = t.present u ∙ rw f.0 (and-true (has keys u)) in
+      record {
+        present = o.present u ∙ stays;
+        carried = λ h. let there : has new u ≡ true = stays ∙ h in omega (arith, o.carried u there, t.carried u there, apart_joined l k.number u f.1);
+      }
+
+  pub ranked_left : {after : List ℕ} → LoweredBy (neighbours_of l k.number) new after → Left (listed l) s keys after k
+  ranked_left {after} o =
       let was : (u : ℕ) → has after u ≡ true → has new u ≡ true = λ u e. sym (o.present u) ∙ e in
       record {
         next = next;
@@ -133,5 +160,5 @@ module _ (l : HeldList) {s keys new : List ℕ} {k : Leaver} (r : RankingOf (lis
           present = λ u. o.present u ∙ t.present u ∙ rw (r.present u) (sym (in_leave s k.number u));
           carried = λ u e. omega (arith, o.carried u (was u e), left_carries u (was u e));
         };
-        still = λ u e n. omega (arith, o.carried u (was u e), t.carried u (was u e), apart_joined l k.number u n);
+        alike = ranked_alike o;
       }

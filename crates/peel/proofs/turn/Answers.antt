@@ -1,6 +1,8 @@
--- `peel::turn` meets its contract: the first of the ranking is the leaver, and its neighbours carry less.
-use Rattle.peel.specs.Steps.{SomeRanked, TurnOf}
-use Rattle.peel.proofs.Ranks.{ranked_below, ranked_lowerable, ranked_turned}
+-- `peel::turn` meets its contract: the first of the ranking is the leaver, its neighbours carry less, and a walk over the ranking is in order.
+use Rattle.ranking.proofs.Walks.{in_order}
+use Rattle.peel.specs.Steps.{SomeRanked}
+use Rattle.peel.proofs.Ranks.{ranked_below, ranked_lowerable, ranked_left}
+use Rattle.peel.proofs.Stepping.{turn_of}
 use Rattle.peel.proofs.turn.Goals as goal
 
 pub take-leaver-requires : goal.take-leaver-requires
@@ -16,5 +18,6 @@ unfolding SomeRanked
 lower_neighbours-requires-clause-lowerable c = ranked_lowerable c.args.adjacency.list c.requires.1.0 c.take-leaver.ensures
 
 pub returns : goal.returns
-unfolding TurnOf
-returns c = λ s r. ranked_turned c.args.adjacency.list r c.take-leaver.ensures c.lower_neighbours.ensures
+returns c =
+    turn_of (in_order c.args.ranking.now.ranked.linked) (in_order c.lower_neighbours.new.ranking.ranked.linked) c.take-leaver.ensures
+    (λ s r. ranked_left c.args.adjacency.list r c.take-leaver.ensures c.lower_neighbours.ensures)
