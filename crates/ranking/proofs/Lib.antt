@@ -6,6 +6,7 @@ pub mod Removing
 pub mod Inserting
 pub mod Yields
 pub mod Walks
+pub mod Promises
 pub mod Alike
 pub mod Keys
 pub mod Steps
