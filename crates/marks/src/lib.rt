@@ -1,7 +1,7 @@
 // A set of numbers below 4,096, with its least one in a few steps.
 //
 // A number is a bit of 64 words of 64 bits, and a bit of one word above them says whether a word is not 0.
-// `as` stands where a bound lets a number fit fewer bits.
+// `as` stands where std has no `From`: from u32 to usize.
 #![tactic(auto)]
 
 ghost use Rattle.std.specs.Prelude.{◌≡◌, false, ◌&&◌, ◌||◌, not, ℕ, ◌<◌, eqb};

@@ -16,9 +16,9 @@ use Rattle.lists.specs.Listed.{listed}
 use Rattle.slots.specs.Buffers.{entry}
 use Rattle.slots.proofs.Buffers.{written_next}
 use Rattle.ranking.specs.declared.Leaver.{Leaver}
-use Rattle.ranking.specs.Ranking.{walk, SomePresent}
+use Rattle.ranking.specs.Ranking.{SomePresent}
 use Rattle.peel.specs.Steps.{RankingOf, SomeRanked, LeaversWritten}
-use Rattle.peel.specs.Turns.{Turned, TurnOf}
+use Rattle.peel.specs.Turns.{Turned}
 use Rattle.peel.proofs.Leavers.{leaver_at, leaver_in, leaver_below}
 
 -- i modules have left
@@ -35,13 +35,10 @@ module _ {l : HeldList} {i : ℕ} {order finals keys order' finals' : List ℕ} 
       (remainder (listed l) i, (t.ranked, (v, t.ranked.present v ∙ leaver_in (listed l) i low)))
 
   -- it is the one that leaves
-  module _ {next after next' : List ℕ} {k : Leaver} (turn : TurnOf (listed l) keys next after next' k) where
-    turned : Turned (listed l) (remainder (listed l) i) keys (walk next) after (walk next') k
-    turned = turn.turned (remainder (listed l) i) t.ranked
-
+  module _ {ranked after ranked' : List ℕ} {k : Leaver} (turned : Turned (listed l) (remainder (listed l) i) keys ranked after ranked' k) where
     as_leaving : get_or (leaving (listed l)) i 0 ≡ k.number
     unfolding list_in
-    as_leaving = cc (turned.next, leaver_at (listed l) i low)
+    as_leaving = cc (turned.leaver_is, leaver_at (listed l) i low)
 
     pub turn_below : k.number < l.n
     unfolding list_in
@@ -50,7 +47,7 @@ module _ {l : HeldList} {i : ℕ} {order finals keys order' finals' : List ℕ} 
     pub turn_next : l.n ≤ length order → l.n ≤ length finals → TurnsDone l (i + 1) order finals after (set order' i k.number) (set finals' i k.carried)
     unfolding remainder left_behind entry leaving_degree
     turn_next room space = record {
-      ranked = rw (add-one, as_leaving) (turn.ranked (remainder (listed l) i) t.ranked);
+      ranked = rw (add-one, as_leaving) turned.after.held;
       written = record {
         order_is = written_next i (entry (leaving (listed l))) order order' _ (omega arith) (sym as_leaving) t.written.order_is;
         finals_are = written_next i (leaving_degree (listed l)) finals finals' _ (omega arith) (rw as_leaving turned.degree_is) t.written.finals_are;

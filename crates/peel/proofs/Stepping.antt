@@ -38,10 +38,10 @@ module _ {g : Pairs} {s keys order : List ℕ} (r : RankingOf g s keys) (w : Wal
 
   ranks : Ranks g s keys order
   ranks = record {
+    held = r;
     only = λ i h. sym (r.present (get_or order i 0)) ∙ w.each i h;
     all = λ u h. w.all u (r.present u ∙ h);
     once = w.once;
-    carried = λ u h. r.carried u (r.present u ∙ h);
     in_order = λ i j d h.
         let h' : i < length order = omega arith in
         rw (sym (carried_at i h'), sym (carried_at j h))
@@ -65,13 +65,14 @@ module _ {keys new order : List ℕ} {k : Leaver} (w : WalksInOrder keys order) 
     before = ranks r w;
     there = stands_first.0;
     first = stands_first.1;
-    next = o.next;
+    leaver_is = o.next;
     degree_is = o.degree_is;
     after = ranks o.others w';
     still = λ u h e. (o.alike u e).carried (r.present u ∙ h);
     stand = sym (same_walk (untouched g k.number) o.alike w w');
   }
 
-pub turn_of : {g : Pairs} {keys next new keys' next' : List ℕ} {k : Leaver} → WalksInOrder keys (walk next) → WalksInOrder keys' (walk next') →
+pub turn_of : {g : Pairs} {keys new keys' : List ℕ} {k : Leaver} (next next' : List ℕ) → WalksInOrder keys (walk next) → WalksInOrder keys' (walk next') →
     Taken keys new k → ((s : List ℕ) → RankingOf g s keys → Left g s keys keys' k) → TurnOf g keys next keys' next' k
-turn_of w w' t left = record { turned = λ s r. turned w t r (left s r) w'; ranked = λ s r. (left s r).others }
+unfolding TurnOf
+turn_of next next' w w' t left = λ s r. turned w t r (left s r) w'

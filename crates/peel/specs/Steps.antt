@@ -40,7 +40,7 @@ pub record RankingOf (g : Pairs) (s keys : List ℕ) : Type 0 where
   pub present : (u : ℕ) → has keys u ≡ is_in s u
   pub carried : (u : ℕ) → has keys u ≡ true → carries keys u ≡ degree g s u
 
--- it holds some modules so, and one of them is there
+-- the ranking holds the modules of some set so, at least one
 unfoldable pub SomeRanked : (g : Pairs) → (keys : List ℕ) → Type 0
 SomeRanked g keys = (s : List ℕ) × (RankingOf g s keys × SomePresent keys)
 

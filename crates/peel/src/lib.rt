@@ -13,8 +13,8 @@ ghost use Rattle.lists.specs.Listed.{listed};
 ghost use Rattle.slots.specs.Neighbours.{neighbours_of};
 ghost use Rattle.peel.specs.Peel.{Peelable, Peels};
 ghost use Rattle.peel.specs.Steps.{IsPresent, LowerableBy, LoweredBy, RankingOf, SomeRanked, LeaversWritten, Numberable, Numbered};
-ghost use Rattle.peel.specs.Turns.{TurnOf};
 ghost use Rattle.peel.specs.Steps.{remaining, densest_by, denser, Comparable, RemainderAt};
+ghost use Rattle.peel.specs.Turns.{TurnOf};
 
 use lists::List;
 use numbers::Ratio;
@@ -54,7 +54,7 @@ fn lower_all(touched: &[Neighbour], ranking: &mut Ranking)
 }
 
 // Module v has left: its neighbours that are present carry less. They are gathered first, some at a time, and where one has left, the next one takes its
-// place: a step of 0 or 1 instead of a branch, as who has left comes as by chance.
+// place: a step of 0 or 1 instead of a branch, as who has left comes as by chance. (What is left in `touched` is free.)
 fn lower_neighbours(
     adjacency: Adjacency,
     v: usize,
@@ -77,7 +77,7 @@ fn lower_neighbours(
     lower_all(&touched[..count], ranking);
 }
 
-// One turn: the first of the ranking leaves, and the modules joined to it are ranked anew.
+// One turn: the first of the ranking leaves, and the modules joined to it are ranked anew. (What is left in `touched` is free.)
 fn turn(adjacency: Adjacency, touched: &mut [Neighbour; 64], ranking: &mut Ranking) -> Leaver
     requires { SomeRanked (listed adjacency.list) ranking.old.keys }
     ensures { TurnOf (listed adjacency.entry.list) ranking.old.keys ranking.old.next ranking.new.keys ranking.new.next result }
@@ -87,7 +87,8 @@ fn turn(adjacency: Adjacency, touched: &mut [Neighbour; 64], ranking: &mut Ranki
     leaver
 }
 
-// N turns: who leaves, and with what degree, its final one. (Both are written by an index: of what a zip of `iter_mut` writes no proof knows the entries.)
+// N turns: who leaves, and with what degree, its final one. (Both are written by an index: of what a zip of `iter_mut` writes no proof knows the entries. What
+// is left of the ranking is free.)
 #[tactic(auto, unfolding(theory::specs::Leaving::remainder, theory::specs::Leaving::left_behind))]
 fn turns(adjacency: Adjacency, ranking: &mut Ranking, order: &mut [u32], finals: &mut [u32])
     requires ranking_of { RankingOf (listed adjacency.list) (everyone (listed adjacency.list)) ranking.old.keys }

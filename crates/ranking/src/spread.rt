@@ -1,7 +1,7 @@
 // How keys are spread over the buckets.
 
-// Keys below `split` at the scale `low`, those from there on at the scale `high`, in 2^32nds of a bucket for a key. Lower keys are in lower buckets, whatever
-// the three are: they only decide how many keys come into a bucket.
+// The part of a key below `split` counts at the scale `low`, the rest at the scale `high`, in 2^32nds of a bucket for a key. A lower key is in no higher bucket,
+// whatever the three are: they only decide how many keys come into a bucket.
 #[derive(Clone, Copy, Debug, PartialEq, Eq)]
 pub struct Spread {
     pub split: u32,
@@ -13,8 +13,8 @@ impl Spread {
     ghost use Rattle.std.specs.Prelude.{◌≡◌, ◌≤◌, ◌<◌, length};
     ghost use Rattle.ranking.specs.Chains.{bucket};
 
-    // For keys of these degrees and lower ones: three quarters of the buckets for keys up to some times the usual one, the others for those above; all
-    // buckets where none is above. So a few modules that carry much more than the others do not bring those into a few buckets. (The three are free.)
+    // For keys of these degrees and lower ones: three quarters of the buckets for keys up to 4 to 8 times a usual one, by the mean number of bits, the others
+    // for those above; all buckets where none is above. So a few modules that carry much more than the others do not bring those into a few buckets. (Free.)
     pub(crate) fn new(degrees: &[u32]) -> Spread
         requires { length degrees.now ≤ 512 }
     {
@@ -47,7 +47,7 @@ impl Spread {
     }
 }
 
-// So many buckets for so many keys, or as near as 32 bits allow.
+// So many buckets for so many keys, or as near as 32 bits allow. (Free.)
 fn scale(buckets: u32, keys: u64) -> u32 {
     ((u64::from(buckets) << 32) / keys.max(1)).min(u64::from(u32::MAX)) as u32
 }

@@ -1,5 +1,6 @@
 -- `peel::turn` meets its contract: the first of the ranking is the leaver, its neighbours carry less, and a walk over the ranking is in order.
-use Rattle.ranking.proofs.Walks.{in_order}
+use Rattle.ranking.specs.Promise.{RankedInOrder}
+use Rattle.ranking.proofs.Promises.{ranked_in_order}
 use Rattle.peel.specs.Steps.{SomeRanked}
 use Rattle.peel.proofs.Ranks.{ranked_below, ranked_lowerable, ranked_left}
 use Rattle.peel.proofs.Stepping.{turn_of}
@@ -18,6 +19,7 @@ unfolding SomeRanked
 lower_neighbours-requires-clause-lowerable c = ranked_lowerable c.args.adjacency.list c.requires.1.0 c.take-leaver.ensures
 
 pub returns : goal.returns
+unfolding RankedInOrder
 returns c =
-    turn_of (in_order c.args.ranking.now.ranked.linked) (in_order c.lower_neighbours.new.ranking.ranked.linked) c.take-leaver.ensures
+    turn_of _ _ (ranked_in_order _ _ _ _ _ c.args.ranking.now.ranked) (ranked_in_order _ _ _ _ _ c.lower_neighbours.new.ranking.ranked) c.take-leaver.ensures
     (λ s r. ranked_left c.args.adjacency.list r c.take-leaver.ensures c.lower_neighbours.ensures)
