@@ -1,7 +1,7 @@
 // How keys are spread over the buckets.
 
-// The part of a key below `split` counts at the scale `low`, the rest at the scale `high`, in 2^32nds of a bucket for a key. A lower key is in no higher bucket,
-// whatever the three are: they only decide how many keys come into a bucket.
+// The part of a key below `split` counts at the scale `low`, the rest at the scale `high`, in 2^32nds of a bucket for a key. A lower key is in no higher
+// bucket, whatever the three are: they only decide how many keys come into a bucket.
 #[derive(Clone, Copy, Debug, PartialEq, Eq)]
 pub struct Spread {
     pub split: u32,
