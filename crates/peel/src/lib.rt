@@ -44,9 +44,9 @@ impl Remainder {
 
 // The neighbours at hand carry less.
 fn lower_all(touched: &[Neighbour], ranking: &mut Ranking)
-    requires there { All (IsPresent ranking.old.keys) touched.now }
-    requires lowerable { LowerableBy touched.now ranking.old.keys }
-    ensures { LoweredBy touched.now ranking.old.keys ranking.new.keys }
+    requires there { All (IsPresent ranking.old.links.keys.now) touched.now }
+    requires lowerable { LowerableBy touched.now ranking.old.links.keys.now }
+    ensures { LoweredBy touched.now ranking.old.links.keys.now ranking.new.links.keys.now }
 {
     for neighbour in touched {
         ranking.lower(neighbour.number, neighbour.weight);
@@ -62,8 +62,8 @@ fn lower_neighbours(
     ranking: &mut Ranking,
 )
     requires below { v < adjacency.list.n }
-    requires lowerable { LowerableBy (neighbours_of adjacency.list v) ranking.old.keys }
-    ensures { LoweredBy (neighbours_of adjacency.entry.list v) ranking.old.keys ranking.new.keys }
+    requires lowerable { LowerableBy (neighbours_of adjacency.list v) ranking.old.links.keys.now }
+    ensures { LoweredBy (neighbours_of adjacency.entry.list v) ranking.old.links.keys.now ranking.new.links.keys.now }
 {
     let mut count = 0;
     for neighbour in adjacency.neighbours(v) {
@@ -79,8 +79,8 @@ fn lower_neighbours(
 
 // One turn: the first of the ranking leaves, and the modules joined to it are ranked anew. (What is left in `touched` is free.)
 fn turn(adjacency: Adjacency, touched: &mut [Neighbour; 64], ranking: &mut Ranking) -> Leaver
-    requires { SomeRanked (listed adjacency.list) ranking.old.keys }
-    ensures { TurnOf (listed adjacency.entry.list) ranking.old.keys ranking.old.next ranking.new.keys ranking.new.next result }
+    requires { SomeRanked (listed adjacency.list) ranking.old.links.keys.now }
+    ensures { TurnOf (listed adjacency.entry.list) ranking.old.links.keys.now ranking.old.links.next.now ranking.new.links.keys.now ranking.new.links.next.now result }
 {
     let leaver = ranking.take();
     lower_neighbours(adjacency, leaver.number, touched, ranking);
@@ -91,7 +91,7 @@ fn turn(adjacency: Adjacency, touched: &mut [Neighbour; 64], ranking: &mut Ranki
 // is left of the ranking is free.)
 #[tactic(auto, unfolding(theory::specs::Leaving::remainder, theory::specs::Leaving::left_behind))]
 fn turns(adjacency: Adjacency, ranking: &mut Ranking, order: &mut [u32], finals: &mut [u32])
-    requires ranking_of { RankingOf (listed adjacency.list) (everyone (listed adjacency.list)) ranking.old.keys }
+    requires ranking_of { RankingOf (listed adjacency.list) (everyone (listed adjacency.list)) ranking.old.links.keys.now }
     requires order_long { adjacency.list.n ≤ length order.old }
     requires finals_long { adjacency.list.n ≤ length finals.old }
     ensures { LeaversWritten (listed adjacency.entry.list) adjacency.entry.list.n order.old finals.old order.new finals.new }
@@ -167,7 +167,10 @@ pub fn peel(
     let mut before = [0; 8192];
     let mut degrees = [0; 512];
     let adjacency = Adjacency::new(list, &mut last, &mut before, &mut degrees);
-    let mut ranking = Ranking::new(&degrees[..list.n]);
+    let mut keys = [0; 512];
+    let mut next = [0; 4608];
+    let mut back = [0; 512];
+    let mut ranking = Ranking::new(&degrees[..list.n], &mut keys, &mut next, &mut back);
     turns(adjacency, &mut ranking, order, &mut degrees);
     let finals = &degrees[..list.n];
     number(&order[..list.n], finals, cores, place);

@@ -4,4 +4,4 @@ use Rattle.peel.proofs.Walks.{Lowering}
 use Rattle.peel.proofs.lower_all.Given as goal
 
 abbrev pub invariant-loop-neighbour : goal.invariant-loop-neighbour
-invariant-loop-neighbour l = Lowering l.touched (drop l.neighbour-index l.touched) l.initial.ranking.keys l.ranking.keys
+invariant-loop-neighbour l = Lowering l.touched (drop l.neighbour-index l.touched) l.initial.ranking.links.keys.now l.ranking.links.keys.now

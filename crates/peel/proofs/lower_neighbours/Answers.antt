@@ -27,7 +27,7 @@ has-requires c =
 gathered : (c : After-from-count) →
     Gathering c.args.adjacency.list.n (neighbours_of c.args.adjacency.list c.args.v) (neighbours_left c.next.new.self)
     (set c.loop-neighbour.touched c.loop-neighbour.count c.in-Some.neighbour) (c.loop-neighbour.count + c.from-count.result)
-    c.args.ranking.now.keys c.loop-neighbour.ranking.keys
+    c.args.ranking.now.links.keys.now c.loop-neighbour.ranking.links.keys.now
 gathered c =
     let step : c.from-count.result ≡ cond c.has.result 1 0 = search rules in
     gathering_next c.loop-neighbour.invariant.gathering c.in-Some.ensures.steps c.has.result c.from-count.result (omega arith) c.has.ensures step

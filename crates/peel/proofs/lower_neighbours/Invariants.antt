@@ -12,5 +12,5 @@ invariant-loop-neighbour l =
       few : l.count < 64;
       gathering :
           Gathering l.adjacency.list.n (neighbours_of l.adjacency.list l.v) (neighbours_left l.neighbour-iterator) l.touched l.count
-          l.initial.ranking.keys l.ranking.keys;
+          l.initial.ranking.links.keys.now l.ranking.links.keys.now;
     }
