@@ -80,7 +80,8 @@ fn lower_neighbours(
 // One turn: the first of the ranking leaves, and the modules joined to it are ranked anew. (What is left in `touched` is free.)
 fn turn(adjacency: Adjacency, touched: &mut [Neighbour; 64], ranking: &mut Ranking) -> Leaver
     requires { SomeRanked (listed adjacency.list) ranking.old.links.keys.now }
-    ensures { TurnOf (listed adjacency.entry.list) ranking.old.links.keys.now ranking.old.links.next.now ranking.new.links.keys.now ranking.new.links.next.now result }
+    ensures { TurnOf (listed adjacency.entry.list) ranking.old.links.keys.now ranking.old.links.next.now
+        ranking.new.links.keys.now ranking.new.links.next.now result }
 {
     let leaver = ranking.take();
     lower_neighbours(adjacency, leaver.number, touched, ranking);
