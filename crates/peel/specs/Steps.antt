@@ -34,7 +34,7 @@ joined (x ∷ xs) u = cond (eqb u x.number) x.weight 0 + joined xs u
 unfoldable pub Degrees : Pairs → (degrees : List ℕ) → Type 0
 Degrees g degrees = (v : ℕ) → v < g.n → get_or degrees v 0 ≡ degree g (everyone g) v
 
--- the ranking holds exactly the modules of s, each with its degree among them
+-- s says of each of N modules whether it is present; the ranking holds exactly those, each with its degree among them
 pub record RankingOf (g : Pairs) (s keys : List ℕ) : Type 0 where
   pub full : length s ≡ g.n
   pub present : (u : ℕ) → has keys u ≡ is_in s u

@@ -2,8 +2,8 @@
 //
 // Works on a held list in words (theory's specs/Words.antt). One pass over the pairs chains each module's slots and adds up its degree
 // (`slots::Adjacency`). Module by module the first of the ranking leaves, and the degrees of its neighbours, the modules that its pairs join
-// it to, get lower: for N modules and M pairs about N + M steps of the ranking. The core number of a leaver is the greatest degree at leaving so
-// far. Refuses nothing: its callers have tested the list and the buffers.
+// it to, get lower: N `take`s and at most M `lower`s, of which crate ranking says what each costs. The core number of a leaver is the greatest
+// degree at leaving so far. Refuses nothing: its callers have tested the list and the buffers.
 // `as` stands where std has no `From`: from u32 to usize, and where a bound lets a number fit fewer bits.
 #![tactic(auto)]
 

@@ -25,11 +25,11 @@ impl Spread {
             bits = bits.wrapping_add(u32::BITS - degree.leading_zeros());
         }
         let all = 512 * (u64::from(most) + 1);
-        let usual = 2048u64 << (bits / (degrees.len() as u32).max(1)).min(20);
-        let split = all.min(usual).min(u64::from(u32::MAX));
+        let much = 2048u64 << (bits / (degrees.len() as u32).max(1)).min(20);
+        let split = all.min(much).min(u64::from(u32::MAX));
         Spread {
             split: split as u32,
-            low: scale(if all <= usual { 4096 } else { 3072 }, split),
+            low: scale(if all <= much { 4096 } else { 3072 }, split),
             high: scale(1024, all - split),
         }
     }
