@@ -21,7 +21,7 @@ pub mod stack {
     /// Of [`write_dimacs`](super::write_dimacs).
     pub const WRITE_DIMACS: usize = 59392;
     /// Of [`peel`](super::peel).
-    pub const PEEL: usize = 40960;
+    pub const PEEL: usize = 56320;
     /// Of [`solve`](super::solve); the most.
     pub const SOLVE: usize = 106496;
     /// Of [`check`](super::check).
