@@ -15,7 +15,7 @@ use Rattle.theory.specs.Ratio.{float_ratio}
 use Rattle.theory.specs.Words.{laid_pairs}
 use Rattle.refusals.specs.declared.Refusal.{Refusal}
 use Rattle.lines.specs.Outcomes.{Outcome, refused, taken, outcome_of}
-use Rattle.pairfile.specs.File.{read_file}
+use Rattle.pairfile.specs.File.{group_list}
 use Rattle.pairfile.specs.Answers.{SamePast}
 use Rattle.on_words.specs.declared.Solved.{Solved}
 use Rattle.on_words.specs.Buffers.{in_front}
@@ -31,7 +31,7 @@ group_answer g s = record {
   coresize = size (core g (core_order g s));
 }
 
--- a refused file is answered by its number, a list by its found group (`found_of` of crate theory; `FoundOutright` says that it is the found group)
+-- a refusal is answered by its number, a list by its found group (`found_of` of crate theory; `FoundOutright` says that it is the found group)
 unfoldable pub answer_to : Outcome Pairs → Outcome Answer
 answer_to (refused k) = refused k
 answer_to (taken g) = taken (group_answer g (found_of g))
@@ -41,10 +41,10 @@ unfoldable pub members_after : Outcome Pairs → (members : List ℕ) → List �
 members_after (refused k) ms = ms
 members_after (taken g) ms = in_front (found_of g) ms
 
--- THE ANSWER TO ANY BYTES: a file of up to 4,096 pairs names a list; any other is refused by its number
+-- THE ANSWER TO ANY BYTES: a file of 1 to 4,096 pairs names a list with a group; any other is refused by its number, or by 20
 pub record Answers (bytes members : List ℕ) (r : Result Answer Refusal) (members' : List ℕ) : Type 0 where
-  pub answer_is : answer_to (read_file 4096 bytes) ≡ outcome_of (λ a. a) r
-  pub members_are : members' ≡ members_after (read_file 4096 bytes) members
+  pub answer_is : answer_to (group_list bytes) ≡ outcome_of (λ a. a) r
+  pub members_are : members' ≡ members_after (group_list bytes) members
 
 -- the buffers have an entry for each module and each pair of the largest list, the words a place for each of its pairs
 pub record RoomEnough (members cores shares words : ℕ) : Type 0 where
@@ -67,6 +67,6 @@ pub record HandedOver (g : Pairs) (members cores shares words : List ℕ) (a : A
 -- the answer, and a sheet beside it; after a refusal all buffers are as they were
 pub record Sheeted (bytes members cores shares words : List ℕ) (r : Result Answer Refusal) (members' cores' shares' words' : List ℕ) : Type 0 where
   pub answers : Answers bytes members r members'
-  pub taken : (g : Pairs) → read_file 4096 bytes ≡ taken g →
+  pub taken : (g : Pairs) → group_list bytes ≡ taken g →
       HandedOver g members cores shares words (group_answer g (found_of g)) members' cores' shares' words'
-  pub refused : (k : ℕ) → read_file 4096 bytes ≡ refused k → (cores' ≡ cores) × (shares' ≡ shares) × (words' ≡ words)
+  pub refused : (k : ℕ) → group_list bytes ≡ refused k → (cores' ≡ cores) × (shares' ≡ shares) × (words' ≡ words)

@@ -34,7 +34,8 @@ fn lay(list: List, words: &mut [u32])
     words[8192..8192 + list.m].copy_from_slice(&list.weights[..list.m]);
 }
 
-// Reads the file and solves its list: the member bytes mark the found group, then core numbers, load sheet, and the list in words.
+// Reads the file and solves its list: the member bytes mark the found group, then core numbers, load sheet, and the list in words. Refuses by the file's
+// numbers, 20.
 pub fn sheet_file(
     bytes: &[u8],
     members: &mut [u8],
@@ -49,7 +50,7 @@ pub fn sheet_file(
     let mut work = [0; 16384];
     let head = read_words(bytes, 4096, &mut work)?;
     lay(head.list(&work), words);
-    let found = solve_on_words(head, members, cores, shares, &mut work);
+    let found = solve_on_words(head, members, cores, shares, &mut work)?;
     Ok(Answer {
         head,
         ratio: found.ratio,

@@ -2,20 +2,20 @@
 -- Lent, PeelServed, SolveServed, PeelingOf, BestOfAll, SharesAlike and CompareAlike are what statements say of one list, call or answer. A statement
 -- speaks of a call by what its contract in src/lib.rt says of it (AddSays, PeelCall and so on). The planner's demands:
 --   1. Every list, with buffers of the stated sizes, gets its group, core numbers and load sheet; a call that meets a refusal condition gets that
---      number and changes no head, list or answer buffer.
+--      number and changes no head, list or answer buffer. A list without pairs has no group (document 02, item 6): solve and check turn it down.
 --   2. The group is the largest of all groups of greatest ratio; core numbers, leaving order, surplus and file reading are those of document 01, where a
 --      pair counts as often as it has stops (document 02, item 4).
 --   3. For every list, group and split: ratio and greatest load over share size are equal exactly when both are best among all groups and all splits at
 --      every share size. What solve hands out, and whatever check accepts, reaches that equality; P and Q returned are the group's, and the greatest load
 --      at share size Q is exactly P. (The equality: theory, specs/Promise.antt; of solve and check: Optimal, in Handed and in CheckCall.)
 -- The statements:
---   every list    Lent, LentHeld; PeelServed, EveryListPeeled; SolveServed, EveryListSolved; EveryListJudged, EveryListCompared
+--   every list    Lent, LentHeld; PeelServed, EveryListPeeled; SolveServed, EveryListSolved; EveryListJudged, EveryListCompared; TurnedDown, NoStopsNoGroup
 --   refusals      RefusalsKeep; UnsplitNever, FifteenNever
 --   answers       PeelingOf, PeelExact; BestOfAll, CheckExact; SharesAlike, SolveAlone, SolveAccepted; CompareAlike, RecordsInOrder
 -- Those of start, add, remove and read are in Keeping (and 13 after read_dimacs), the others of read_dimacs and write_dimacs in Exchange; what 5 before 4
 -- says of add, remove, place and both readers is in Twice, and where a pair stands in Placing.
 -- Assumes nothing: these are definitions.
-use Rattle.std.specs.Prelude.{◌≡◌, true, false, List, ◌↔◌, ℕ, ◌*◌, ◌≤◌, ◌<◌, ltb, leb, eqb, length, get_or, take, drop}
+use Rattle.std.specs.Prelude.{◌≡◌, true, false, List, [], ◌↔◌, ℕ, ◌*◌, ◌≤◌, ◌<◌, ltb, leb, eqb, length, get_or, take, drop}
 use Rattle.std.proofs.Math.Option.{some}
 use Rattle.std.specs.Float.Ieee.{lt, le, eq}
 use Rattle.theory.specs.Lists.{Pairs, pair, is_list}
@@ -26,7 +26,7 @@ use Rattle.theory.specs.Splits.{is_split, pair_in_core}
 use Rattle.theory.specs.Promise.{BothBest, LargestOrder}
 use Rattle.verify.specs.declared.Verdict.{Verdict}
 use Rattle.verify.specs.declared.Difference.{Difference}
-use Rattle.verify.specs.Answers.{CheckSays, SurplusSays}
+use Rattle.verify.specs.Answers.{refused_by, CheckSays, SurplusSays}
 use Rattle.records.specs.declared.Pair.{Pair}
 use Rattle.records.specs.declared.Head.{Head}
 use Rattle.records.specs.Records.{held_list, agrees}
@@ -40,7 +40,7 @@ use Rattle.on_words.specs.Reading.{Reader}
 use Rattle.kandurzo.specs.Reading.{ReadCall}
 use Rattle.kandurzo.specs.Writing.{WriteCall}
 use Rattle.kandurzo.specs.Peeling.{PeelCall}
-use Rattle.on_words.specs.Solving.{Handed}
+use Rattle.on_words.specs.Solving.{Handed, Declined}
 use Rattle.kandurzo.specs.Solving.{Unsplit, SolveCall}
 use Rattle.kandurzo.specs.Judging.{CheckCall, SurplusCall}
 
@@ -76,26 +76,44 @@ pub record SolveServed (g : Pairs) (members cores shares work : List ℕ) (r : S
   pub handed : Handed g members cores shares r members' cores' shares'
   pub left : work' ≡ cleared work
 
--- SOLVE SERVES EVERY LIST that is lent with buffers of the stated sizes
+-- SOLVE SERVES EVERY LIST WITH A PAIR that is lent with buffers of the stated sizes
 unfoldable pub EveryListSolved : Type 0
 EveryListSolved =
     (g : Pairs) (h : Head) (ps : List Pair) (members cores shares work : List ℕ) (r : Solved) (members' cores' shares' work' : List ℕ) →
-    Lent g h ps → g.n ≤ length members → g.n ≤ length cores → length g.pairs ≤ length shares → 16384 ≤ length work →
+    Lent g h ps → 1 ≤ length g.pairs → g.n ≤ length members → g.n ≤ length cores → length g.pairs ≤ length shares → 16384 ≤ length work →
     SolveCall h ps members cores shares work r members' cores' shares' work' → SolveServed g members cores shares work r members' cores' shares' work'
 
--- CHECK LOOKS AT GROUP AND SHARES FOR EVERY SUCH LIST: neither 13 nor 12 comes; 7, 8, 9 or 0, P and Q are said of that list, group and shares
+-- CHECK LOOKS AT GROUP AND SHARES FOR EVERY SUCH LIST: none of 13, 12 and 20 comes; 7, 8, 9 or 0, P and Q are said of that list, group and shares
 unfoldable pub EveryListJudged : Type 0
 EveryListJudged =
     (g : Pairs) (h : Head) (ps : List Pair) (members shares work : List ℕ) (v : Verdict) (work' : List ℕ) →
-    Lent g h ps → g.n ≤ length members → length g.pairs ≤ length shares → 16384 ≤ length work →
+    Lent g h ps → 1 ≤ length g.pairs → g.n ≤ length members → length g.pairs ≤ length shares → 16384 ≤ length work →
     CheckCall h ps members shares work v work' →
     CheckSays g (take g.n members) (take (length g.pairs) shares) v × (work' ≡ cleared work)
 
--- SURPLUS LOOKS AT THE TWO GROUPS OF EVERY SUCH LIST: neither 13 nor 12 comes; 7 or 0, and the value, are said of that list and the two groups
+-- SURPLUS LOOKS AT THE TWO GROUPS OF EVERY LIST that is lent with buffers of the stated sizes: neither 13 nor 12 comes; 7 or 0, and the value, are said of that list and the two groups
 unfoldable pub EveryListCompared : Type 0
 EveryListCompared =
     (g : Pairs) (h : Head) (ps : List Pair) (t s : List ℕ) (d : Difference) → Lent g h ps → g.n ≤ length t → g.n ≤ length s →
     SurplusCall h ps t s d → SurplusSays g (take g.n t) (take g.n s) d
+
+-- a call that turns a list down answers 20 and no other value, its answer buffers are as before, and the work buffer is cleared
+pub record TurnedDown (members cores shares work : List ℕ) (r : Solved) (members' cores' shares' work' : List ℕ) : Type 0 where
+  pub number : r.number ≡ 20
+  pub answer : Declined members cores shares r members' cores' shares'
+  pub left : work' ≡ cleared work
+
+-- NO STOPS, NO GROUP: of the lists that are lent with buffers of the stated sizes solve and check turn down those without pairs, by 20, and no others; check
+-- whatever group and shares it is handed. (Peel serves these lists too: EveryListPeeled.)
+pub record NoStopsNoGroup : Type 0 where
+  pub solve : (g : Pairs) (h : Head) (ps : List Pair) (members cores shares work : List ℕ) (r : Solved) (members' cores' shares' work' : List ℕ) →
+      Lent g h ps → g.n ≤ length members → g.n ≤ length cores → length g.pairs ≤ length shares → 16384 ≤ length work →
+      SolveCall h ps members cores shares work r members' cores' shares' work' →
+      (g.pairs ≡ []) ↔ TurnedDown members cores shares work r members' cores' shares' work'
+  pub check : (g : Pairs) (h : Head) (ps : List Pair) (members shares work : List ℕ) (v : Verdict) (work' : List ℕ) →
+      Lent g h ps → g.n ≤ length members → length g.pairs ≤ length shares → 16384 ≤ length work →
+      CheckCall h ps members shares work v work' →
+      (g.pairs ≡ []) ↔ ((v ≡ refused_by 20) × (work' ≡ cleared work))
 
 -- ---- refusals
 
@@ -152,13 +170,13 @@ pub record BestOfAll (g : Pairs) (s xs : List ℕ) : Type 0 where
   pub split : is_split g (size s) xs ≡ true
   pub best : BothBest g s (size s) xs
 
--- CHECK ACCEPTS WHATEVER IS BEST, AND NOTHING ELSE
+-- CHECK ACCEPTS WHATEVER IS BEST OF A LIST WITH A PAIR, AND NOTHING ELSE
 unfoldable pub CheckExact : Type 0
 CheckExact =
     (g : Pairs) (h : Head) (ps : List Pair) (members shares work : List ℕ) (v : Verdict) (work' : List ℕ) →
     Lent g h ps → g.n ≤ length members → length g.pairs ≤ length shares → 16384 ≤ length work →
     CheckCall h ps members shares work v work' →
-    (v.number ≡ 0) ↔ BestOfAll g (take g.n members) (take (length g.pairs) shares)
+    (v.number ≡ 0) ↔ ((1 ≤ length g.pairs) × BestOfAll g (take g.n members) (take (length g.pairs) shares))
 
 -- two buffers of shares that are the same for each pair with an end outside the core of order k, and past the first M
 pub record SharesAlike (g : Pairs) (k : ℕ) (xs ys : List ℕ) : Type 0 where

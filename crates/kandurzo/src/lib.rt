@@ -1,7 +1,8 @@
-// The public calls of Kandurzo, over lent records (document 01, "The list and its calls"; document 02, items 1 to 4: DIMACS files; 5 before 4; place;
-// stop counts). An entry is one line: it turns the `Result` of the call's own function, which refuses by `?`, into what C is answered. That function takes
-// the records that are held, copies them to words (crate records), and leaves the rest to crate `on_words`. Head and list are two parameters, as C passes
-// them. The entries are here for Rattle callers, and once more in `kandurzo_c` for C: a static library is a crate that no other can use.
+// The public calls of Kandurzo, over lent records (document 01, "The list and its calls"; document 02, items 1 to 4 and 6: DIMACS files; 5 before 4;
+// place; stop counts; no group without pairs). An entry is one line: it turns the `Result` of the call's own function, which refuses by `?`, into what C is
+// answered. That function takes the records that are held, copies them to words (crate records), and leaves the rest to crate `on_words`. Head and list are
+// two parameters, as C passes them. The entries are here for Rattle callers, and once more in `kandurzo_c` for C: a static library is a crate that no other
+// can use.
 // `as` stands where std has no `From`: from u32 to usize, and where a bound lets a number fit fewer bits.
 #![tactic(auto)]
 
@@ -171,7 +172,7 @@ pub extern "C" fn kandurzo_peel(
 }
 
 // The largest group of greatest ratio, by member bytes; the core numbers; and a load sheet: a share for each pair, of a split at share size Q
-// with no load above P. Refuses by 13, 12 (members, cores, shares, work), 15.
+// with no load above P. A list without pairs has no group. Refuses by 13, 12 (members, cores, shares, work), 20, 15.
 #[unsafe(no_mangle)]
 pub extern "C" fn kandurzo_solve(
     head: Head,
@@ -190,7 +191,7 @@ pub extern "C" fn kandurzo_solve(
 pub use kandurzo_solve as solve;
 
 // Whether the shares are a split at the group's size Q with no load above its inside count P: then no group is denser and no split has a
-// lower greatest load over its share size. Refuses by 13, 12 (members, shares, work), 7, 8, 9.
+// lower greatest load over its share size. Refuses by 13, 12 (members, shares, work), 20, 7, 8, 9.
 #[unsafe(no_mangle)]
 pub extern "C" fn kandurzo_check(
     head: Head,

@@ -32,7 +32,7 @@ pub(crate) fn peeled(
     Ok(())
 }
 
-// Group, core numbers and load sheet; refuses by 13, 12.
+// Group, core numbers and load sheet; refuses by 13, 12, 20.
 #[tactic(auto, using(on_words::proofs::Enough::solve_enough))]
 pub(crate) fn solved(
     head: Head,
@@ -47,10 +47,10 @@ pub(crate) fn solved(
 {
     let lent = solve_buffers(head, members.len(), cores.len(), shares.len(), work.len());
     lay_held(head, list, &lent, work)?;
-    Ok(solve_on_words(head, members, cores, shares, work))
+    solve_on_words(head, members, cores, shares, work)
 }
 
-// The ratio of a group whose load sheet is right; refuses by 13, 12, 7, 8, 9.
+// The ratio of a group whose load sheet is right; refuses by 13, 12, 20, 7, 8, 9.
 #[tactic(auto, using(on_words::proofs::Enough::check_enough))]
 pub(crate) fn checked(
     head: Head,

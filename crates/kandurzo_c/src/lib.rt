@@ -110,7 +110,7 @@ pub extern "C" fn kandurzo_peel(
 }
 
 // The largest group of greatest ratio, by member bytes; the core numbers; and a load sheet: a share for each pair, of a split at share size Q
-// with no load above P. Refuses by 13, 12 (members, cores, shares, work), 15.
+// with no load above P. A list without pairs has no group. Refuses by 13, 12 (members, cores, shares, work), 20, 15.
 #[unsafe(no_mangle)]
 pub extern "C" fn kandurzo_solve(
     head: Head,
@@ -127,7 +127,7 @@ pub extern "C" fn kandurzo_solve(
 }
 
 // Whether the shares are a split at the group's size Q with no load above its inside count P: then no group is denser and no split has a
-// lower greatest load over its share size. Refuses by 13, 12 (members, shares, work), 7, 8, 9.
+// lower greatest load over its share size. Refuses by 13, 12 (members, shares, work), 20, 7, 8, 9.
 #[unsafe(no_mangle)]
 pub extern "C" fn kandurzo_check(
     head: Head,

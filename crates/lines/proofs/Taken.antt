@@ -1,6 +1,6 @@
 -- What follows where a line is not refused, and by which numbers it is.
 --   refused_not_taken, taken_same    an outcome is one thing
---   bind_taken                       both steps have been taken
+--   bind_taken, judged_taken         both steps have been taken
 --   LinePassed, line_passed          a line has its form, and none of its causes is met
 --   Given, given_taken, given_refused, given_bind, given_judge, given_line    the refusal numbers, step by step, by any test of them
 -- Assumes nothing.
@@ -29,6 +29,17 @@ pub bind_taken : {A B : Type 0} (o : Outcome A) (f : A → Outcome B) (b : B) �
 unfolding ◌>>=◌
 bind_taken (refused k) f b e = absurd (refused_not_taken e)
 bind_taken (taken a) f b e = (a, refl, e)
+
+-- and what is taken behind causes that are judged is taken where none is met
+pub judged_taken : {A : Type 0} (cs : List Cause) (a b : A) → (do
+  judge cs
+  taken a) ≡ taken b → (refusal cs ≡ 0) × (a ≡ b)
+unfolding judge passed ◌>>◌
+judged_taken {A} cs a b e = go (refusal cs) refl e
+  where
+    go : (k : ℕ) → refusal cs ≡ k → ◌>>◌ (passed k) (taken a) ≡ taken b → (refusal cs ≡ 0) × (a ≡ b)
+    go zero d h = (d, taken_same h)
+    go (suc k) d h = absurd (refused_not_taken h)
 
 -- a line of its form, none of whose causes is met
 pub record LinePassed {B : Type 0} (d : ℕ) (form bs : List ℕ) (cs : Line → List Cause) (f : Line → Outcome B) (b : B) : Type 0 where

@@ -1,7 +1,8 @@
--- Document 01, "Solve", on words: what is lent, and what is handed out of the list that lies in them.
+-- Document 01, "Solve", on words: what is lent, and what is handed out of the list that lies in them, if it has a pair (document 02, item 6).
 --   solve_buffers            what is lent
 --   answered, declined, solved_of    the record of what is found, that beside a refusal, and that of an answer
 --   Handed                   what is handed out; free are only the shares of pairs inside the core of order K
+--   Declined                 beside a refusal nothing is
 --   SolveOn                 the record, and every buffer
 -- Assumes nothing: these are definitions.
 use Rattle.std.specs.Prelude.{◌≡◌, true, List, [], ◌∷◌, ℕ, length, take, drop, Result, Ok, Err}
@@ -12,6 +13,7 @@ use Rattle.theory.specs.Splits.{rounded_up, outside_good}
 use Rattle.theory.specs.Ratio.{float_ratio}
 use Rattle.theory.specs.Promise.{Optimal}
 use Rattle.theory.specs.Words.{laid_list}
+use Rattle.theory.specs.Pairless.{group_number}
 use Rattle.refusals.specs.declared.Refusal.{Refusal}
 use Rattle.refusals.specs.Numbers.{number_of}
 use Rattle.densest.specs.declared.Solution.{Solution}
@@ -53,8 +55,16 @@ pub record Handed (g : Pairs) (members cores shares : List ℕ) (r : Solved) (me
   -- P divided by Q, rounded once
   pub float : r.ratio ≡ float_ratio r.p r.q
 
--- on words, with the work buffer cleared
+-- beside a refusal nothing is handed out
+pub record Declined (members cores shares : List ℕ) (r : Solved) (members' cores' shares' : List ℕ) : Type 0 where
+  pub answer : r ≡ declined r.number
+  pub members_are : members' ≡ members
+  pub cores_are : cores' ≡ cores
+  pub shares_are : shares' ≡ shares
+
+-- on words, with the work buffer cleared: 20, or what is handed out
 pub record SolveOn (h : Head) (members cores shares work : List ℕ) (r : Solved) (members' cores' shares' work' : List ℕ) : Type 0 where
-  pub number : r.number ≡ 0
-  pub handed : Handed (laid_list h.n h.m work) members cores shares r members' cores' shares'
+  pub number : r.number ≡ group_number h.m
+  pub handed : r.number ≡ 0 → Handed (laid_list h.n h.m work) members cores shares r members' cores' shares'
+  pub refused : (r.number ≡ 0 → ⊥) → Declined members cores shares r members' cores' shares'
   pub left : work' ≡ cleared work

@@ -6,6 +6,7 @@ ghost use Rattle.on_words.specs.Judging.{check_buffers, surplus_buffers, CheckOn
 
 use crate::buffers::{Buffer, clear};
 use numbers::Ratio;
+use pairs::check_some_pair;
 use records::Head;
 use refusals::Refusal;
 use verify::{check_words, surplus_words};
@@ -21,7 +22,7 @@ pub fn check_buffers(head: Head, members: usize, shares: usize, work: usize) -> 
     ]
 }
 
-// Check of the list in the words; refuses by 7, 8, 9.
+// Check of the list in the words; refuses by 20, 7, 8, 9.
 pub fn check_on_words(
     head: Head,
     members: &[u8],
@@ -34,8 +35,10 @@ pub fn check_on_words(
     requires work_long { 16384 ≤ length work.old }
     ensures { CheckOn head members.now shares.now work.old (verdict_of result) work.new }
 {
-    let list = head.list(work);
-    let judged = check_words(list, members, shares);
+    let judged = match check_some_pair(head.m) {
+        Err(refusal) => Err(refusal),
+        Ok(()) => check_words(head.list(work), members, shares),
+    };
     clear(work);
     judged
 }

@@ -1,11 +1,12 @@
 // Solve on words: the list in the work buffer's words, then zeros; and the record of what it finds. 15 never comes.
 ghost use Rattle.std.specs.Prelude.{◌≡◌, ◌≤◌, length};
 ghost use Rattle.theory.specs.Words.{HoldsList};
-ghost use Rattle.on_words.specs.Solving.{solve_buffers, answered, solved_of, SolveOn};
+ghost use Rattle.on_words.specs.Solving.{solve_buffers, solved_of, SolveOn};
 
 use crate::Solved;
 use crate::buffers::{Buffer, clear};
 use densest::{Effort, PHASES, Solution, solve};
+use pairs::check_some_pair;
 use records::Head;
 use refusals::Refusal;
 
@@ -29,7 +30,7 @@ pub fn solve_buffers(
     ]
 }
 
-// Group, core numbers and load sheet of the list in the words. Any effort gives such an answer.
+// Group, core numbers and load sheet of the list in the words; refuses by 20. Any effort gives such an answer.
 #[tactic(auto, using(crate::proofs::Sheets::front_holds))]
 pub fn solve_on_words(
     head: Head,
@@ -37,27 +38,30 @@ pub fn solve_on_words(
     cores: &mut [u32],
     shares: &mut [u32],
     work: &mut [u32],
-) -> Solution
+) -> Result<Solution, Refusal>
     requires holds_list { HoldsList head.n head.m work.old }
     requires members_long { head.n ≤ length members.old }
     requires cores_long { head.n ≤ length cores.old }
     requires shares_long { head.m ≤ length shares.old }
     requires work_long { 16384 ≤ length work.old }
-    ensures { SolveOn head members.old cores.old shares.old work.old (answered result) members.new cores.new shares.new work.new }
+    ensures { SolveOn head members.old cores.old shares.old work.old (solved_of result) members.new cores.new shares.new work.new }
 {
     let effort = Effort {
         phases: PHASES,
         arcs: head.m as usize,
     };
-    let found = solve(
-        head.n as usize,
-        head.m as usize,
-        effort,
-        &mut work[..12288],
-        members,
-        cores,
-        shares,
-    );
+    let found = match check_some_pair(head.m) {
+        Err(refusal) => Err(refusal),
+        Ok(()) => Ok(solve(
+            head.n as usize,
+            head.m as usize,
+            effort,
+            &mut work[..12288],
+            members,
+            cores,
+            shares,
+        )),
+    };
     clear(work);
     found
 }

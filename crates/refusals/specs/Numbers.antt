@@ -4,7 +4,7 @@
 -- Assumes nothing: these are definitions.
 use Rattle.std.specs.Prelude.{ℕ, Result, Ok, Err}
 use Rattle.refusals.specs.declared.Refusal.{Refusal}
-use Rattle.refusals.specs.declared.Refusal.TheVariants.{BadLine, BadModuleCount, TooManyPairs, UnknownModule, PairedWithItself, BytesFollow, NoGroup, ShareTooLarge, LoadTooLarge, NamedTwice, ListFull, BufferTooShort, HeadDisagrees, NotHeld, BadEdgeLine, BadEdgeCount, BadStopCount, TooManyStops, BadSheetLine, BadGroupSize, BadMember, BadCoreNumber, AnotherPair, SheetGoesOn, BadRatio, BadCore, FileTooLong, BadArgument}
+use Rattle.refusals.specs.declared.Refusal.TheVariants.{BadLine, BadModuleCount, TooManyPairs, UnknownModule, PairedWithItself, BytesFollow, NoGroup, ShareTooLarge, LoadTooLarge, NamedTwice, ListFull, BufferTooShort, HeadDisagrees, NotHeld, BadEdgeLine, BadEdgeCount, BadStopCount, TooManyStops, NoPair, BadSheetLine, BadGroupSize, BadMember, BadCoreNumber, AnotherPair, SheetGoesOn, BadRatio, BadCore, FileTooLong, BadArgument}
 
 -- the number of each case
 abbrev pub number_of : Refusal → ℕ
@@ -26,6 +26,7 @@ number_of BadEdgeLine = 16
 number_of BadEdgeCount = 17
 number_of BadStopCount = 18
 number_of TooManyStops = 19
+number_of NoPair = 20
 number_of BadSheetLine = 101
 number_of BadGroupSize = 102
 number_of BadMember = 103

@@ -45,6 +45,8 @@ pub enum Refusal {
     BadStopCount = 18,
     // The raised stop count would pass 1,000.
     TooManyStops = 19,
+    // The list holds no pair.
+    NoPair = 20,
     // A line of a sheet is missing, isn't of the form due there, or lacks its LF.
     BadSheetLine = 101,
     // Q outside 1 to N.

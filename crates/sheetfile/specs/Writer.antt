@@ -11,7 +11,7 @@ use Rattle.theory.specs.Groups.{size, is_group}
 use Rattle.theory.specs.Cores.{core, core_numbers}
 use Rattle.theory.specs.Splits.{rounded_up}
 use Rattle.theory.specs.Promise.{Optimal}
-use Rattle.pairfile.specs.File.{read_file}
+use Rattle.pairfile.specs.File.{group_list}
 use Rattle.sheetfile.specs.Audit.{audit}
 use Rattle.lines.specs.Lines.{filled}
 use Rattle.lines.specs.Outcomes.{taken}
@@ -56,10 +56,10 @@ pub record Writable (g : Pairs) (s : Sheet) : Type 0 where
 unfoldable pub SheetBack : Type 0
 SheetBack = (g : Pairs) (s : Sheet) → is_list g ≡ true → Writable g s → read_sheet g (sheet_file g s) ≡ taken s
 
--- AND EVERY BEST SHEET IS ACCEPTED, whoever made it: beside a pair file that names the list, group and shares that are optimal with their P and Q, and
+-- AND EVERY BEST SHEET IS ACCEPTED, whoever made it: beside a pair file that names the list, which has a pair, group and shares that are optimal with their P and Q, and
 -- the list's core line
 unfoldable pub AcceptsBack : Type 0
 AcceptsBack =
-    (file : List ℕ) (g : Pairs) (s : Sheet) → read_file 4096 file ≡ taken g →
+    (file : List ℕ) (g : Pairs) (s : Sheet) → group_list file ≡ taken g →
     Optimal g s.members s.shares s.p s.q → s.k ≡ rounded_up s.p s.q → s.coresize ≡ size (core g s.k) →
     audit file (sheet_file g s) ≡ taken s

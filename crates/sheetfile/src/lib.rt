@@ -2,7 +2,7 @@
 //
 // A sheet is read beside the list (sheet.rt). The group and the shares on it then go to check, which counts P and Q itself; the head is compared with
 // what check counted and with the list's cores. Nothing on the sheet is trusted.
-// Refuses by the pair file's numbers; 101 to 106, line by line; 7, 8, 9; 107, 108.
+// Refuses by the pair file's numbers; 20; 101 to 106, line by line; 7, 8, 9; 107, 108.
 // `as` stands where std has no `From`: from u32 to usize.
 #![tactic(auto)]
 
@@ -18,6 +18,7 @@ ghost use Rattle.sheetfile.specs.Answers.{at_least, judged_head, RatioSays};
 use lists::List;
 use numbers::Ratio;
 use pairfile::read_words;
+use pairs::check_some_pair;
 use refusals::Refusal;
 use sheet::{SheetHead, read_sheet};
 use verify::check_words;
@@ -77,5 +78,6 @@ pub fn audit(file: &[u8], sheet: &[u8]) -> Result<Ratio, Refusal>
 {
     let mut words = [0; 12288];
     let head = read_words(file, 4096, &mut words)?;
+    check_some_pair(head.m)?;
     audit_list(head.list(&words), sheet)
 }

@@ -5,6 +5,7 @@
 --   ReadOf                    these bytes are a file's, to its end or as many as decide
 --   GroupRead, SheetRead, AuditRead    what is right of whatever files were read
 --   SheetAnswered             what `audit` prints of it; the theorem is `sheet_answered`
+--   PairlessPrinted, PairlessTurned    what the three print of a file without pairs; the theorem is `pairless_turned`
 --   answer_lines, sheet_lines  the lines by the answer to a pair file and what stands beside it
 -- Assumes nothing: these are definitions.
 use Rattle.std.specs.Prelude.{◌≡◌, true, List, [], ◌∷◌, ◌++◌, ℕ, ◌≤◌, length, take, Result, IfOk, IfErr, OnErr}
@@ -15,7 +16,7 @@ use Rattle.theory.specs.Promise.{Optimal}
 use Rattle.refusals.specs.declared.Refusal.{Refusal}
 use Rattle.refusals.specs.Numbers.{number_of}
 use Rattle.lines.specs.Outcomes.{refused, taken}
-use Rattle.pairfile.specs.File.{read_file}
+use Rattle.pairfile.specs.File.{read_file, group_list}
 use Rattle.lines.specs.Putting.{Puts}
 use Rattle.sheetfile.specs.Audit.{audit}
 use Rattle.lines.specs.Lines.{filled}
@@ -51,10 +52,10 @@ pub record SheetDue (file : List ℕ) (g : Pairs) (s : List ℕ) (text : List �
   -- beside the same pair file the text is accepted
   pub accepted : audit file text ≡ taken (certificate g s shares)
 
--- WHAT `sheet` PRINTS OF A FILE: a sheet of the list that it names and of its found group, or the refusal's text
+-- WHAT `sheet` PRINTS OF A FILE: a sheet of the list that it names and of its found group, or the refusal's text: the file's number, or 20
 pub record SheetPrinted (file text : List ℕ) : Type 0 where
-  pub taken : (g : Pairs) → read_file 4096 file ≡ taken g → SheetDue file g (found_of g) text
-  pub refused : (k : ℕ) → read_file 4096 file ≡ refused k → text ≡ refusal_text k
+  pub taken : (g : Pairs) → group_list file ≡ taken g → SheetDue file g (found_of g) text
+  pub refused : (k : ℕ) → group_list file ≡ refused k → text ≡ refusal_text k
 
 -- these bytes are a file's: all of it, or as many in front as a buffer holds that has room for the first `decide`: so a file is read
 pub record ReadOf (decide : ℕ) (bytes file : List ℕ) : Type 0 where
@@ -64,7 +65,7 @@ pub record ReadOf (decide : ℕ) (bytes file : List ℕ) : Type 0 where
 
 -- WHATEVER PAIR FILE WAS READ, the text of `group` is that of the whole file,
 pub record GroupRead (bytes text : List ℕ) : Type 0 where
-  pub due : (file : List ℕ) → ReadOf 65536 bytes file → text ≡ group_printed (read_file 4096 file)
+  pub due : (file : List ℕ) → ReadOf 65536 bytes file → text ≡ group_printed (group_list file)
 
 -- the text of `sheet` is one that is due of it,
 pub record SheetRead (bytes text : List ℕ) : Type 0 where
@@ -78,8 +79,17 @@ pub record AuditRead (bytes bytes' text : List ℕ) : Type 0 where
 unfoldable pub SheetAnswered : Type 0
 SheetAnswered =
     (bytes out out' : List ℕ) (r : ℕ) → Prints (SheetRead bytes) out out' r →
-    (file : List ℕ) → ReadOf 65536 bytes file → (g : Pairs) → read_file 4096 file ≡ taken g →
+    (file : List ℕ) → ReadOf 65536 bytes file → (g : Pairs) → group_list file ≡ taken g →
     audit_text (audit file (take r out')) ≡ filled accepted_form (inside g (found_of g) ∷ size (found_of g) ∷ [])
+
+-- OF A FILE THAT NAMES A LIST WITHOUT PAIRS `group` and `sheet` print 20 alone, and so does `audit`, whatever sheet it is handed
+pub record PairlessPrinted (file : List ℕ) : Type 0 where
+  pub group : group_printed (group_list file) ≡ refusal_text 20
+  pub sheet : (text : List ℕ) → SheetPrinted file text → text ≡ refusal_text 20
+  pub audit : (sheet : List ℕ) → audit_text (audit file sheet) ≡ refusal_text 20
+
+unfoldable pub PairlessTurned : Type 0
+PairlessTurned = (file : List ℕ) (g : Pairs) → read_file 4096 file ≡ taken g → g.pairs ≡ [] → PairlessPrinted file
 
 -- the lines of an answer and of member bytes
 unfoldable pub answer_lines : Answer → (members : List ℕ) → List ℕ

@@ -5,6 +5,7 @@ pub mod Sums
 pub mod Lists
 pub mod Words
 pub mod Refusals
+pub mod Pairless
 pub mod Groups
 pub mod Densest
 pub mod Duality

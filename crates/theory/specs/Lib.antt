@@ -1,4 +1,4 @@
--- The definitions; each file opens with what it gives. Lists to Check are in document 01's order. Basics serves them, Words is how a list lies in
+-- The definitions; each file opens with what it gives. Lists to Check are in document 01's order; Pairless has document 02's refusal of a list without pairs. Basics serves them, Words is how a list lies in
 -- memory, Promise and Cases are the statements, Plain has document 03's own definitions.
 pub mod Basics
 pub mod Lists
@@ -10,6 +10,7 @@ pub mod Surplus
 pub mod Ratio
 pub mod Refusals
 pub mod Check
+pub mod Pairless
 pub mod Words
 pub mod Promise
 pub mod Cases
