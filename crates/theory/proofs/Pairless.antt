@@ -1,11 +1,13 @@
 -- A list without pairs is turned down by 20, and no other is.
---   none_turned, some_served    the number given, where M is 0 and where it is not
---   served_some, turned_none    and back
---   some_then                   where the list has a pair the causes behind decide
+--   pairless, paired                  whether it holds no pair, by its M
+--   pairless_then, paired_then        20, or the causes behind decide
+--   none_turned, some_served          the number given, where M is 0 and where it is not
+--   served_some, turned_none          and back
+--   zero_or_twenty                    no other number is given
 -- Assumes nothing.
 use mathlib.Core.Path.{◌≡◌}
-use mathlib.Core.Bool.{false}
-use mathlib.Core.List.{List, ◌++◌}
+use mathlib.Core.Bool.{true, false}
+use mathlib.Core.List.{List, [], ◌++◌}
 use Prim.Native.Nat.{ℕ, ◌≤◌}
 use native.Mathlib.Omega.{arith}
 use lib.Dec.{eqb}
@@ -14,28 +16,40 @@ use Rattle.theory.specs.Refusals.{Cause, cause, refusal}
 use Rattle.theory.specs.Pairless.{no_pair, group_causes, group_number}
 use Rattle.theory.proofs.Tests.{by_test}
 
-pub none_turned : (m : ℕ) → m ≡ 0 → group_number m ≡ 20
-unfolding group_number group_causes no_pair cause refusal
-none_turned m e = rw e
+module _ (m : ℕ) where
+  pub pairless : m ≡ 0 → no_pair m ≡ true
+  unfolding no_pair
+  pairless e = rw e
 
--- a pair is there
-some_pair : (m : ℕ) → 1 ≤ m → eqb m 0 ≡ false
-some_pair m l = ne_eqb m 0 (λ e. omega (arith, e, l))
+  pub paired : 1 ≤ m → no_pair m ≡ false
+  unfolding no_pair
+  paired l = ne_eqb m 0 (λ e. omega (arith, e, l))
 
-some_there : (m : ℕ) → eqb m 0 ≡ false → 1 ≤ m
-some_there m t = omega (arith, eqb-false m 0 t)
+  pub pairless_then : (rest : List Cause) → no_pair m ≡ true → refusal (group_causes m ++ rest) ≡ 20
+  unfolding group_causes cause refusal
+  pairless_then rest e = rw e
 
-pub some_then : (m : ℕ) (rest : List Cause) → 1 ≤ m → refusal (group_causes m ++ rest) ≡ refusal rest
-unfolding group_causes no_pair cause refusal
-some_then m rest l = rw (some_pair m l)
+  pub paired_then : (rest : List Cause) → no_pair m ≡ false → refusal (group_causes m ++ rest) ≡ refusal rest
+  unfolding group_causes cause refusal
+  paired_then rest e = rw e
 
-pub some_served : (m : ℕ) → 1 ≤ m → group_number m ≡ 0
-unfolding group_number group_causes no_pair cause refusal
-some_served m l = rw (some_pair m l)
+  pub none_turned : m ≡ 0 → group_number m ≡ 20
+  unfolding group_number group_causes
+  none_turned e = pairless_then [] (pairless e)
 
--- 20 and 0 differ
-pub served_some : (m : ℕ) → group_number m ≡ 0 → 1 ≤ m
-served_some m e = by_test (eqb m 0) (λ t. absurd (omega (arith, e, none_turned m (eqb-true m 0 t)))) (λ t. some_there m t)
+  pub some_served : 1 ≤ m → group_number m ≡ 0
+  unfolding group_number group_causes refusal
+  some_served l = paired_then [] (paired l)
 
-pub turned_none : (m : ℕ) → group_number m ≡ 20 → m ≡ 0
-turned_none m e = by_test (eqb m 0) (λ t. eqb-true m 0 t) (λ t. absurd (omega (arith, e, some_served m (some_there m t))))
+  -- M is 0 or not
+  by_pairs : {A : Type 0} → (m ≡ 0 → A) → (1 ≤ m → A) → A
+  by_pairs none some = by_test (eqb m 0) (λ t. none (eqb-true m 0 t)) (λ t. some (omega (arith, eqb-false m 0 t)))
+
+  pub served_some : group_number m ≡ 0 → 1 ≤ m
+  served_some e = by_pairs (λ z. absurd (omega (arith, e, none_turned z))) (λ l. l)
+
+  pub turned_none : group_number m ≡ 20 → m ≡ 0
+  turned_none e = by_pairs (λ z. z) (λ l. absurd (omega (arith, e, some_served l)))
+
+  pub zero_or_twenty : {k : ℕ} → group_number m ≡ k → (k ≡ 0 → ⊥) → k ≡ 20
+  zero_or_twenty e n = by_pairs (λ z. omega (arith, e, none_turned z)) (λ l. absurd (n (omega (arith, e, some_served l))))
