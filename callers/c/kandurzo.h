@@ -1,4 +1,4 @@
-/* Kandurzo from C: fault groups of a pair list (document 01; document 02, items 1 to 4).
+/* Kandurzo from C: fault groups of a pair list (document 01; document 02, items 1 to 4 and 6).
  *
  * A list has N modules (1 to 512), numbered 0 to N-1, and M pairs (at most 4,096) of two different modules, each with its stop count W (1 to 1,000): in how
  * many stop reports the pair was named. The caller lends every buffer: a head with N and M, and records, smaller module first, in strictly rising order by
@@ -30,6 +30,7 @@
  *   17  in a DIMACS file, the count of `e` lines is not M
  *   18  W outside 1 to 1,000
  *   19  the raised count passes 1,000
+ *   20  the list holds no pair, and so it has no group: no stops, no group
  */
 #ifndef KANDURZO_H
 #define KANDURZO_H
@@ -159,14 +160,14 @@ uint32_t kandurzo_peel(kandurzo_head_t head, const kandurzo_pair_t *list, size_t
 
 /* Solve: the largest group of greatest ratio. Writes its member bytes (1 in, 0 out), the core numbers, and a share for each pair: of W times Q units the
  * smaller module receives the share and the larger one the rest, and no module's load is above P. A pair with an end outside the core of order K goes wholly
- * to the end that left first. Wants N entries of members and of cores, M of shares, 16,384 words of work. Refuses by 13, 12, 15. The work buffer is untouched
- * after 12 or 13 and holds 16,384 zero words after any other return. */
+ * to the end that left first. A list without pairs has no group. Wants N entries of members and of cores, M of shares, 16,384 words of work. Refuses by 13,
+ * 12, 20, 15. The work buffer is untouched after 12 or 13 and holds 16,384 zero words after any other return. */
 kandurzo_solved_t kandurzo_solve(kandurzo_head_t head, const kandurzo_pair_t *list, size_t length, uint8_t *members, size_t members_length,
                                  uint32_t *cores, size_t cores_length, uint32_t *shares, size_t shares_length, uint32_t *work, size_t work_length);
 
 /* Check: takes member bytes and shares from anyone, counts P and Q of that group itself, and accepts exactly if the shares are a split at size Q, W times Q
  * units for each pair, with no load above P: then no group is denser, and no split has a lower greatest load over its share size. Wants N member bytes, M
- * shares, 16,384 words of work. Refuses by 13, 12, 7, 8, 9. The work buffer is untouched after 12 or 13 and holds 16,384 zero words after any other return. */
+ * shares, 16,384 words of work. Refuses by 13, 12, 20, 7, 8, 9. The work buffer is untouched after 12 or 13 and holds 16,384 zero words after any other return. */
 kandurzo_verdict_t kandurzo_check(kandurzo_head_t head, const kandurzo_pair_t *list, size_t length, const uint8_t *members, size_t members_length,
                                   const uint32_t *shares, size_t shares_length, uint32_t *work, size_t work_length);
 

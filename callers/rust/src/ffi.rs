@@ -292,7 +292,7 @@ pub fn peel(head: Head, list: &[Pair], order: &mut [u16], cores: &mut [u32], wor
     }
 }
 
-/// Writes the found group, core numbers and the load sheet. Refuses by 13, 12, 15.
+/// Writes the found group, core numbers and the load sheet. A list without pairs has no group. Refuses by 13, 12, 20, 15.
 pub fn solve(
     head: Head,
     list: &[Pair],
@@ -318,7 +318,7 @@ pub fn solve(
     }
 }
 
-/// Whether the shares are a split at the group's size with no load above its inside count. Refuses by 13, 12, 7, 8, 9.
+/// Whether the shares are a split at the group's size with no load above its inside count. Refuses by 13, 12, 20, 7, 8, 9.
 pub fn check(head: Head, list: &[Pair], members: &[u8], shares: &[u32], work: &mut [u32]) -> Verdict {
     unsafe {
         library::kandurzo_check(

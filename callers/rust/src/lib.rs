@@ -1,5 +1,5 @@
 //! Kandurzo from Rust: the largest group of greatest ratio in a list of fault pairs, each with its stop count, with core numbers and a load sheet that
-//! shows that no group is denser (document 01; document 02, items 1 to 4).
+//! shows that no group is denser (document 01; document 02, items 1 to 4 and 6).
 //!
 //! ```
 //! let tail = b"modules=5\npairs=7\n0,1,1\n0,2,1\n0,3,1\n1,2,1\n1,3,1\n2,3,1\n3,4,1\n";
@@ -34,7 +34,7 @@ pub const TEXT: usize = 65536;
 /// Bytes of stack that are enough for any call of the library; [`ffi::stack`] has them by call.
 pub const STACK: usize = ffi::stack::SOLVE;
 
-/// Why a call declined: document 01's number, 1 to 15, or document 02's, 16 to 19.
+/// Why a call declined: document 01's number, 1 to 15, or document 02's, 16 to 20.
 #[derive(Clone, Copy, Debug, PartialEq, Eq, Hash)]
 pub struct Refusal(u32);
 
@@ -74,6 +74,7 @@ impl Refusal {
             17 => "the count of `e` lines isn't M",
             18 => "W outside 1 to 1,000",
             19 => "the raised count passes 1,000",
+            20 => "the list holds no pair",
             _ => "a number that the documents do not have",
         }
     }
@@ -248,7 +249,15 @@ impl List {
         Ok(Peeling { order, cores })
     }
 
-    /// The found group, core numbers and the load sheet. Never refuses.
+    /// The found group, core numbers and the load sheet. Refuses by 20: a list without pairs has no group.
+    ///
+    /// ```
+    /// let mut list = kandurzo::List::new(3)?;
+    /// assert_eq!(list.solve().unwrap_err().to_string(), "20: the list holds no pair");
+    /// list.add(0, 2, 1)?;
+    /// assert_eq!(list.solve()?.group().collect::<Vec<_>>(), [0, 2]);
+    /// # Ok::<(), kandurzo::Refusal>(())
+    /// ```
     pub fn solve(&mut self) -> Result<Solution, Refusal> {
         let n = self.modules();
         let (mut members, mut cores, mut shares) = (vec![0; n], vec![0; n], vec![0; self.pairs().len()]);
@@ -259,7 +268,7 @@ impl List {
     }
 
     /// P and Q of a group, if the shares are a split at size Q, W times Q units for each pair, with no load above P: then no group is denser. Refuses by
-    /// 12, 7, 8, 9.
+    /// 12, 20, 7, 8, 9.
     pub fn check(&mut self, members: &[u8], shares: &[u32]) -> Result<(u32, u32), Refusal> {
         let verdict = ffi::check(self.head, &self.records, members, shares, &mut self.work);
         Refusal::of(verdict.number)?;

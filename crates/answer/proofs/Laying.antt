@@ -1,11 +1,11 @@
 -- A list's pairs laid into words.
 --   ends_count, ends_within, words_count    how many ends there are, and that the words have room for them
 --   ends_room                               the counts have room behind the ends
---   lays_pairs, lays_past                   the words hold the list; past its pairs they are as they were
+--   lays_pairs, lays_past, lays_none        the words hold the list; past its pairs they are as they were, and so where there is none
 -- Assumes nothing.
-use Rattle.std.proofs.Common.{◌≡◌, ap, ◌∙◌, ℕ, ◌+◌, ◌*◌, ◌-◌, ◌≤◌, ◌<◌, List, ◌++◌, length, take, drop, arith}
+use Rattle.std.proofs.Common.{◌≡◌, refl, ap, ◌∙◌, ℕ, ◌+◌, ◌*◌, ◌-◌, ◌≤◌, ◌<◌, List, [], ◌++◌, length, take, drop, arith}
 use borrow.Rule.Slice.PartMut.{put_mid}
-use lib.ListN.{get_or, length-append, length-drop}
+use lib.ListN.{get_or, length-append, length-drop, take-append-drop}
 use lib.Seq.{length-take-le, get_or-take, get_or-drop, drop-drop}
 use Rattle.theory.specs.Lists.{Pair}
 use Rattle.theory.specs.Words.{list_in, HeldWords, counts_of, laid_pairs, laid_list, put_at}
@@ -96,3 +96,10 @@ module _ (n m : ℕ) (es ws old : List ℕ) (h : HeldWords n m es ws) (long : 12
 
     pub lays_past : SamePast m old words
     lays_past = rw same past
+
+    pub lays_none : m ≡ 0 → words ≡ old
+    unfolding put_at
+    lays_none z =
+        let no_ends : ends ≡ [] = rw z refl in
+        let no_weights : weights ≡ [] = rw z refl in
+        same ∙ rw (no_ends, no_weights) (take-append-drop 8192 old)

@@ -4,7 +4,7 @@
 --   Answers                     both, to any bytes
 --   RoomEnough                 the buffers that are lent for a sheet
 --   solved_of                   the answer as solve's record
---   HandedOver, Sheeted        a sheet beside the answer: of a file that names a list, and of any bytes
+--   HandedOver, Sheeted        a sheet beside the answer: of a file that names a list with a pair, and of any bytes
 -- Assumes nothing: these are definitions.
 use Rattle.std.specs.Prelude.{◌≡◌, List, ℕ, ◌≤◌, length, Result}
 use Rattle.theory.specs.Lists.{Pairs}

@@ -28,6 +28,7 @@ fn lay(list: List, words: &mut [u32])
     requires { 12288 ≤ length words.old }
     ensures pairs { laid_list list.entry.n list.entry.m words.new ≡ listed list.entry }
     ensures past { SamePast list.entry.m words.old words.new }
+    ensures none { list.entry.m ≡ 0 → words.new ≡ words.old }
 {
     let ends = 2 * list.m;
     words[..ends].copy_from_slice(&list.ends[..ends]);

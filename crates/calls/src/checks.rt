@@ -1,6 +1,7 @@
 // check: a cycle of 5 modules, the group all of them, and each pair lies wholly with one end: P = 5, Q = 5, every load is 5. Then two shares of a few
-// for a list of three modules with the pairs 0,1 and 1,2 and all three in the group: Q = 3, 0,1 has W times 3 units and 1,2 has 3.
-use crate::samples::{Damage, NONE};
+// for a list of three modules with the pairs 0,1 and 1,2 and all three in the group: Q = 3, 0,1 has W times 3 units and 1,2 has 3. Lists without pairs are
+// turned down, whatever the member bytes.
+use crate::samples::{Damage, Lent, NONE};
 use crate::{print, samples};
 use kandurzo::check;
 use model::{front, front_mut};
@@ -27,11 +28,10 @@ const SOUND: Altered = Altered {
 };
 
 // One line: what check says and leaves.
-fn tried(rt: &impl Print, name: &str, due: u32, damage: Damage, a: Altered) -> io::Result<()> {
+fn tried(rt: &impl Print, name: &str, due: u32, lent: Lent, a: Altered) -> io::Result<()> {
     let mut work = [7u32; 16400];
     let bytes = [a.byte, 1, 1, 1, 1, 2, 2, 2];
     let sheet = [a.share, 0, 5, 5, 5, 9, 9, 9];
-    let lent = samples::cycle(damage);
     let verdict = check(
         lent.head,
         &lent.list,
@@ -46,7 +46,7 @@ fn tried(rt: &impl Print, name: &str, due: u32, damage: Damage, a: Altered) -> i
 
 // A list that is altered.
 pub(crate) fn damaged(rt: &impl Print, name: &str, due: u32, damage: Damage) -> io::Result<()> {
-    tried(rt, name, due, damage, SOUND)
+    tried(rt, name, due, samples::cycle(damage), SOUND)
 }
 
 // The answer to two shares of the three modules, the first pair with the count w.
@@ -101,7 +101,32 @@ fn buffers(rt: &impl Print) -> io::Result<()> {
             work,
             ..SOUND
         };
-        tried(rt, name, due, Damage { n, ..NONE }, lent)?;
+        let cycle = samples::cycle(Damage { n, ..NONE });
+        tried(rt, name, due, cycle, lent)?;
+    }
+    Ok(())
+}
+
+// Lists of so many modules without pairs: the first member byte, and so much of members and work; no share is lent.
+fn pairless(rt: &impl Print) -> io::Result<()> {
+    let all = [
+        ("no pairs, one module", 20, 1, 1, 1, 16384),
+        ("no pairs, all five modules", 20, 5, 1, 5, 16384),
+        ("no pairs, longer buffers", 20, 5, 1, 8, 16390),
+        ("no pairs, and byte of 2", 20, 5, 2, 5, 16384),
+        ("no pairs, and short members", 12, 5, 1, 4, 16384),
+        ("no pairs, and short work", 12, 5, 1, 5, 16383),
+        ("no pairs and no modules", 13, 0, 1, 5, 16384),
+    ];
+    for (name, due, n, byte, members, work) in all {
+        let lent = Altered {
+            byte,
+            members,
+            shares: 0,
+            work,
+            ..SOUND
+        };
+        tried(rt, name, due, samples::triangles(n, 0), lent)?;
     }
     Ok(())
 }
@@ -120,13 +145,14 @@ fn spoiled(rt: &impl Print) -> io::Result<()> {
             share,
             ..SOUND
         };
-        tried(rt, name, due, NONE, sheet)?;
+        tried(rt, name, due, samples::cycle(NONE), sheet)?;
     }
     Ok(())
 }
 
 pub(crate) fn run(rt: &impl Print) -> io::Result<()> {
     buffers(rt)?;
+    pairless(rt)?;
     spoiled(rt)?;
     sheets(rt)
 }

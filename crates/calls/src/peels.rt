@@ -1,6 +1,7 @@
 // peel: the list *tail* of document 01, whose leaving order is 4,0,1,2,3 and whose core numbers are 3,3,3,3,1. Where 3,4 counts three times or more, the
-// leaving order is 0,1,2,3,4; where it counts more often than that, the core numbers of 3 and 4 are its count.
-use crate::samples::{Damage, NONE};
+// leaving order is 0,1,2,3,4; where it counts more often than that, the core numbers of 3 and 4 are its count. A list without pairs is served too: its
+// modules leave in order.
+use crate::samples::{Damage, Lent, NONE};
 use crate::{print, samples};
 use kandurzo::kandurzo_peel;
 use model::front_mut;
@@ -26,13 +27,12 @@ fn tried(
     rt: &impl Print,
     name: &str,
     due: u32,
-    damage: Damage,
+    lent: Lent,
     lengths: Lengths,
 ) -> io::Result<()> {
     let mut order = [9u16; 8];
     let mut cores = [9u32; 8];
     let mut work = [7u32; 16400];
-    let lent = samples::tail(damage);
     let number = kandurzo_peel(
         lent.head,
         &lent.list,
@@ -48,10 +48,10 @@ fn tried(
 
 // A list that is altered.
 pub(crate) fn damaged(rt: &impl Print, name: &str, due: u32, damage: Damage) -> io::Result<()> {
-    tried(rt, name, due, damage, NAMED)
+    tried(rt, name, due, samples::tail(damage), NAMED)
 }
 
-// The list *tail*, its head with N, and so much of order, core numbers and work.
+// The list *tail*, its head with N, and so much of order, core numbers and work; then a list without pairs.
 pub(crate) fn run(rt: &impl Print) -> io::Result<()> {
     let all = [
         ("as it is", 0, 5, 5, 5, 16384),
@@ -63,7 +63,8 @@ pub(crate) fn run(rt: &impl Print) -> io::Result<()> {
     ];
     for (name, due, n, order, cores, work) in all {
         let lengths = Lengths { order, cores, work };
-        tried(rt, name, due, Damage { n, ..NONE }, lengths)?;
+        let tail = samples::tail(Damage { n, ..NONE });
+        tried(rt, name, due, tail, lengths)?;
     }
-    Ok(())
+    tried(rt, "no pairs", 0, samples::triangles(5, 0), NAMED)
 }

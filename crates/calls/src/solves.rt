@@ -1,6 +1,7 @@
-// solve: the list *tail* of document 01, whose found group is 0 to 3 with P/Q = 6/4; two triangles, all six modules with 6/6; a list without pairs; lists
-// of 512 modules; lists with counts. Where solve finds a group, `differ` says how much of its answer is not as due: P, Q, K, the core's size, shares above W
-// times Q and loads above P by a second computation, the answer of check, and the core numbers of peel. The float must be P/Q rounded once.
+// solve: the list *tail* of document 01, whose found group is 0 to 3 with P/Q = 6/4; two triangles, all six modules with 6/6; lists without pairs, which are
+// turned down; lists of 512 modules; lists with counts. Where solve finds a group, `differ` says how much of its answer is not as due: P, Q, K, the core's
+// size, shares above W times Q and loads above P by a second computation, the answer of check, and the core numbers of peel. The float must be P/Q rounded
+// once.
 use crate::plain::{Second, differing};
 use crate::samples::{Counts, Damage, Kind, Lent, NONE};
 use crate::{plain, print, ratios, samples};
@@ -174,6 +175,31 @@ fn buffers(rt: &impl Print) -> io::Result<()> {
     Ok(())
 }
 
+// Lists of so many modules without pairs: so much of members, core numbers and work, and no share.
+fn pairless(rt: &impl Print) -> io::Result<()> {
+    let all = [
+        ("one module", 20, 1, 1, 1, 16384),
+        ("no pairs", 20, 4, 4, 4, 16384),
+        ("no pairs, longer buffers", 20, 4, 8, 8, 16390),
+        ("no pairs, 512 modules", 20, 512, 512, 512, 16384),
+        ("no pairs, and short members", 12, 4, 3, 4, 16384),
+        ("no pairs, and short core numbers", 12, 4, 4, 3, 16384),
+        ("no pairs, and short work", 12, 4, 4, 4, 16383),
+        ("no pairs and no modules", 13, 0, 4, 4, 16384),
+    ];
+    for (name, due, n, members, cores, work) in all {
+        let lent = Altered {
+            members,
+            cores,
+            shares: 0,
+            work,
+            ..NAMED
+        };
+        tried(rt, name, due, samples::triangles(n, 0), lent)?;
+    }
+    Ok(())
+}
+
 // Lists with other answers: so many modules, and so many pairs of two triangles.
 fn others(rt: &impl Print) -> io::Result<()> {
     let eight = Altered {
@@ -183,11 +209,10 @@ fn others(rt: &impl Print) -> io::Result<()> {
         ..NAMED
     };
     let all = [
-        ("one module", 1, 0),
-        ("no pairs", 4, 0),
         ("two triangles", 6, 6),
         ("one of them", 6, 3),
         ("two of its pairs", 3, 2),
+        ("one pair of four modules", 4, 1),
     ];
     for (name, n, m) in all {
         tried(rt, name, 0, samples::triangles(n, m), eight)?;
@@ -242,6 +267,7 @@ fn large(rt: &impl Print) -> io::Result<()> {
 
 pub(crate) fn run(rt: &impl Print) -> io::Result<()> {
     buffers(rt)?;
+    pairless(rt)?;
     others(rt)?;
     unlike_counts(rt)?;
     large(rt)

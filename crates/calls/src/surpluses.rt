@@ -1,5 +1,6 @@
-// surplus: groups of the list *tail* of document 01, whose found group is 0 to 3, of ratio 6/4; and with other counts of its pair 3,4.
-use crate::samples::{Damage, NONE};
+// surplus: groups of the list *tail* of document 01, whose found group is 0 to 3, of ratio 6/4; and with other counts of its pair 3,4; groups of a list without
+// pairs.
+use crate::samples::{Damage, Lent, NONE};
 use crate::{print, samples};
 use kandurzo::surplus;
 use model::front;
@@ -19,9 +20,8 @@ fn tried(
     due: Due,
     first: &[u8],
     second: &[u8],
-    damage: Damage,
+    lent: Lent,
 ) -> io::Result<()> {
-    let lent = samples::tail(damage);
     let Difference { number, value } = surplus(lent.head, &lent.list, first, second);
     print::begin(rt, "surplus", name, due.err().unwrap_or(0), number)?;
     println!(rt; " value {}", print::as_due(value == due.unwrap_or(0)))
@@ -31,10 +31,10 @@ fn tried(
 pub(crate) fn damaged(rt: &impl Print, name: &str, due: u32, damage: Damage) -> io::Result<()> {
     let found = front(&FOUND, 5);
     let due = if due == 0 { Ok(0) } else { Err(due) };
-    tried(rt, name, due, found, found, damage)
+    tried(rt, name, due, found, found, samples::tail(damage))
 }
 
-// Two sets of which one is the found group.
+// Two sets of which one is the found group; then two of a list without pairs.
 fn groups(rt: &impl Print) -> io::Result<()> {
     let group = [1, 1, 1, 1, 0];
     let two = [1, 1, 0, 0, 0];
@@ -47,9 +47,10 @@ fn groups(rt: &impl Print) -> io::Result<()> {
         ("byte of 2", Err(7), group, [2, 1, 1, 1, 0]),
     ];
     for (name, due, first, second) in all {
-        tried(rt, name, due, &first, &second, NONE)?;
+        tried(rt, name, due, &first, &second, samples::tail(NONE))?;
     }
-    Ok(())
+    let none = samples::triangles(5, 0);
+    tried(rt, "no pairs, 0 and 1 against 0 to 3, 0", Ok(0), &two, &group, none)
 }
 
 // Groups against 3 and 4, whose pair has another count, the last time with the value of a list of ones.
@@ -66,8 +67,8 @@ fn counts(rt: &impl Print) -> io::Result<()> {
         ("3,4 twice, 0 to 3 against them, 8", 8, group, 2),
     ];
     for (name, due, first, count) in all {
-        let damage = samples::counted(count);
-        tried(rt, name, Ok(due), &first, &[0, 0, 0, 1, 1], damage)?;
+        let lent = samples::tail(samples::counted(count));
+        tried(rt, name, Ok(due), &first, &[0, 0, 0, 1, 1], lent)?;
     }
     Ok(())
 }
@@ -82,7 +83,8 @@ fn lengths(rt: &impl Print) -> io::Result<()> {
     ];
     for (name, due, n, first, second) in all {
         let sets = (front(&FOUND, first), front(&FOUND, second));
-        tried(rt, name, due, sets.0, sets.1, Damage { n, ..NONE })?;
+        let tail = samples::tail(Damage { n, ..NONE });
+        tried(rt, name, due, sets.0, sets.1, tail)?;
     }
     Ok(())
 }

@@ -3,7 +3,8 @@
 --   n_is, m_is, lent_list, lent_agrees, lent_held    a list that is lent is the one held
 --   held_head, held_lent                   head and list that agree hold a list that is lent
 --   lent_passes, sheet_number              with buffers long enough neither 13 nor 12 comes
---   every_list_peeled, every_list_solved, every_list_judged, every_list_compared    so every list is served
+--   every_list_peeled, every_list_solved, every_list_judged, every_list_compared    so every list is served,
+--   no_stops_no_group                      but for those without pairs, which solve and check turn down
 --   refusals_keep, fifteen_never           refusals
 -- Assumes nothing.
 use mathlib.Core.Path.{◌≡◌, refl, sym, ap, ◌∙◌}
@@ -11,22 +12,28 @@ use mathlib.Core.Bool.{Bool, true, false, not, cond}
 use mathlib.Core.List.{List, [], ◌∷◌}
 use Prim.Native.Nat.{ℕ, ◌≤◌}
 use native.Mathlib.Omega.{arith}
+use lib.Dec.{eqb}
 use lib.ListN.{length, take, length-take}
+use borrow.Author.Tests.{eqb-true, eqb-false}
 use Rattle.theory.specs.Lists as Lists
 use Rattle.theory.specs.Lists.{Pairs}
 use Rattle.theory.specs.Refusals.{Cause, cause, refusal, if_taken}
 use Rattle.theory.specs.Check.{check_number}
+use Rattle.theory.specs.Pairless.{no_pair, group_causes, group_number, judged_number}
 use Rattle.theory.specs.Surplus.{surplus_number}
-use Rattle.theory.proofs.Tests.{tests}
+use Rattle.theory.proofs.Tests.{tests, by_test}
+use Rattle.theory.proofs.Pairless.{pairless, paired, none_turned, some_served, turned_none, judged_turned, judged_served}
 use Rattle.theory.proofs.Refusals.{if_taken_old}
 use Rattle.lines.specs.Outcomes.{Outcome, refused, taken, number_given}
 use Rattle.pairfile.specs.Answers.{pairs_of}
 use Rattle.verify.specs.declared.Verdict.{Verdict}
+use Rattle.verify.specs.Answers.{refused_by}
 use Rattle.records.specs.declared.Pair.{Pair}
 use Rattle.records.specs.declared.Head.{Head}
 use Rattle.records.specs.Records.{held_list, agrees}
 use Rattle.on_words.specs.declared.buffers.Buffer.{Buffer}
-use Rattle.on_words.specs.Buffers.{any_short}
+use Rattle.on_words.specs.declared.Solved.{Solved}
+use Rattle.on_words.specs.Buffers.{any_short, cleared}
 use Rattle.on_words.specs.Gate.{gate_number}
 use Rattle.on_words.specs.Edits.{head_of}
 use Rattle.kandurzo.specs.Listing.{as_records}
@@ -36,8 +43,9 @@ use Rattle.kandurzo.specs.Peeling.{peel_call_causes}
 use Rattle.on_words.specs.Judging.{check_buffers, surplus_buffers}
 use Rattle.kandurzo.specs.Judging.{check_call_causes, CheckCall, surplus_call_causes}
 use Rattle.on_words.specs.Solving.{solve_buffers}
-use Rattle.kandurzo.specs.Solving.{solve_call_causes}
-use Rattle.kandurzo.specs.Promise.{Lent, LentHeld, EveryListPeeled, EveryListSolved, EveryListJudged, EveryListCompared, RefusalsKeep, FifteenNever}
+use Rattle.kandurzo.specs.Solving.{solve_call_causes, SolveCall}
+use Rattle.kandurzo.specs.Promise.{Lent, LentHeld, EveryListPeeled, EveryListSolved, EveryListJudged, EveryListCompared}
+use Rattle.kandurzo.specs.Promise.{TurnedDown, NoStopsNoGroup, RefusalsKeep, FifteenNever}
 use Rattle.on_words.proofs.Filling.{work_zeros, left_open}
 use Rattle.on_words.proofs.Enough.{LongEnough, all_long}
 use Rattle.kandurzo.proofs.Gates.{gate_then}
@@ -110,28 +118,50 @@ every_list_peeled g h ps order cores work r order' cores' work' lent o c w call 
       left = call.left ∙ left_open work z;
     }
 
+-- solve's number is that of the list
+module _ {g : Pairs} {h : Head} {ps : List Pair} (lent : Lent g h ps) (members cores shares work : List ℕ)
+    (a : g.n ≤ length members) (c : g.n ≤ length cores) (d : length g.pairs ≤ length shares) (w : 16384 ≤ length work)
+    {r : Solved} {members' cores' shares' work' : List ℕ} (call : SolveCall h ps members cores shares work r members' cores' shares' work') where
+  solve_number : r.number ≡ group_number (length g.pairs)
+  unfolding solve_call_causes group_number group_causes
+  solve_number =
+      call.number.outright
+      ∙ lent_passes lent (solve_buffers h (length members) (length cores) (length shares) (length work)) _
+      (omega (arith, n_is lent), (omega (arith, n_is lent), (omega (arith, m_is lent), w))) ∙ rw (m_is lent)
+
 pub every_list_solved : EveryListSolved
-unfolding EveryListSolved solve_call_causes refusal
-every_list_solved g h ps members cores shares work r members' cores' shares' work' lent a c d w call =
-    let z : r.number ≡ 0 = call.number.outright
-    ∙ lent_passes lent (solve_buffers h (length members) (length cores) (length shares) (length work)) []
-    (omega (arith, n_is lent), (omega (arith, n_is lent), (omega (arith, m_is lent), w))) in
+unfolding EveryListSolved
+every_list_solved g h ps members cores shares work r members' cores' shares' work' lent some a c d w call =
+    let z : r.number ≡ 0 = solve_number lent members cores shares work a c d w call ∙ some_served (length g.pairs) some in
     record { number = z; handed = rw (lent_list lent) at (call.handed z); left = call.left ∙ left_open work z }
 
--- check's number is that of the group and the shares
+-- check's number is that of the list, of the group and of the shares
 module _ {g : Pairs} {h : Head} {ps : List Pair} (lent : Lent g h ps) (members shares work : List ℕ)
     (a : g.n ≤ length members) (d : length g.pairs ≤ length shares) (w : 16384 ≤ length work) {v : Verdict} {work' : List ℕ}
     (call : CheckCall h ps members shares work v work') where
-  pub sheet_number : v.number ≡ check_number g (take g.n members) (take (length g.pairs) shares)
-  unfolding check_call_causes check_number
-  sheet_number =
+  pub judged_as : v.number ≡ judged_number g (take g.n members) (take (length g.pairs) shares)
+  unfolding check_call_causes judged_number
+  judged_as =
       call.number ∙ lent_passes lent (check_buffers h (length members) (length shares) (length work)) _
       (omega (arith, n_is lent), (omega (arith, m_is lent), w)) ∙ rw (lent_list lent, n_is lent, m_is lent)
 
+  -- of a list with a pair it is that of the group and the shares
+  pub sheet_number : 1 ≤ length g.pairs → v.number ≡ check_number g (take g.n members) (take (length g.pairs) shares)
+  sheet_number some = judged_as ∙ judged_served g _ _ (paired (length g.pairs) some)
+
+  -- a list without pairs gets 20
+  pub sheet_turned : length g.pairs ≡ 0 → v.number ≡ 20
+  sheet_turned none = judged_as ∙ judged_turned g _ _ (pairless (length g.pairs) none)
+
+  -- so what is accepted is of a list with a pair
+  pub accepted_some : v.number ≡ 0 → 1 ≤ length g.pairs
+  accepted_some z =
+      by_test (eqb (length g.pairs) 0) (λ t. absurd (omega (arith, z, sheet_turned (eqb-true _ 0 t)))) (λ t. omega (arith, eqb-false (length g.pairs) 0 t))
+
 pub every_list_judged : EveryListJudged
 unfolding EveryListJudged
-every_list_judged g h ps members shares work v work' lent a d w call =
-    let number = sheet_number lent members shares work a d w call in
+every_list_judged g h ps members shares work v work' lent some a d w call =
+    let number = sheet_number lent members shares work a d w call some in
     let low = check_few g (take g.n members) (take (length g.pairs) shares) in (
       record {
         number = number;
@@ -154,6 +184,52 @@ every_list_compared g h ps t s d lent a b call =
       signs = λ z. rw (lent_list lent, n_is lent) at (call.signs z);
     }
 
+-- ---- no stops, no group
+
+-- a list of length 0 is empty
+length_none : {A : Type 0} (xs : List A) → length xs ≡ 0 → xs ≡ []
+length_none [] e = refl
+length_none (x ∷ xs) e = absurd (omega arith)
+
+module _ {g : Pairs} {h : Head} {ps : List Pair} (lent : Lent g h ps) (members cores shares work : List ℕ)
+    (a : g.n ≤ length members) (c : g.n ≤ length cores) (d : length g.pairs ≤ length shares) (w : 16384 ≤ length work)
+    {r : Solved} {members' cores' shares' work' : List ℕ} (call : SolveCall h ps members cores shares work r members' cores' shares' work') where
+  solve_turns : (g.pairs ≡ []) ↔ TurnedDown members cores shares work r members' cores' shares' work'
+  solve_turns = (
+    λ e.
+        let number : r.number ≡ 20 = solve_number lent members cores shares work a c d w call ∙ none_turned (length g.pairs) (ap length e) in
+        record {
+          number = number;
+          answer = call.refused (λ z. omega (arith, z, number));
+          left = call.left ∙ work_zeros r.number work (λ x. omega (arith, x, number)) (λ x. omega (arith, x, number));
+        },
+    λ t. length_none g.pairs (turned_none (length g.pairs) (sym (solve_number lent members cores shares work a c d w call) ∙ t.number)),
+  )
+
+module _ {g : Pairs} {h : Head} {ps : List Pair} (lent : Lent g h ps) (members shares work : List ℕ)
+    (a : g.n ≤ length members) (d : length g.pairs ≤ length shares) (w : 16384 ≤ length work) {v : Verdict} {work' : List ℕ}
+    (call : CheckCall h ps members shares work v work') where
+  check_turns : (g.pairs ≡ []) ↔ ((v ≡ refused_by 20) × (work' ≡ cleared work))
+  unfolding if_taken
+  check_turns = (
+    λ e.
+        let number : v.number ≡ 20 = sheet_turned lent members shares work a d w call (ap length e) in (
+          λ i. record { number = number i; p = (rw number at call.p) i; q = (rw number at call.q) i },
+          call.left ∙ work_zeros v.number work (λ x. omega (arith, x, number)) (λ x. omega (arith, x, number)),
+        ),
+    λ t. by_test (eqb (length g.pairs) 0) (λ z. length_none g.pairs (eqb-true _ 0 z)) (λ n.
+    let low = check_few g (take g.n members) (take (length g.pairs) shares) in
+    let number = sheet_number lent members shares work a d w call (omega (arith, eqb-false (length g.pairs) 0 n)) in
+    absurd (omega (arith, number, low, ap (λ (u : Verdict). u.number) t.0))),
+  )
+
+pub no_stops_no_group : NoStopsNoGroup
+no_stops_no_group = record {
+  solve = λ g h ps members cores shares work r members' cores' shares' work' lent a c d w call.
+      solve_turns lent members cores shares work a c d w call;
+  check = λ g h ps members shares work v work' lent a d w call. check_turns lent members shares work a d w call;
+}
+
 -- ---- refusals
 
 -- a refused file has no pairs
@@ -170,17 +246,19 @@ refusals_keep = record {
       (call.head ∙ if_taken_old _ _ h (λ z. n (call.number ∙ z)), call.list ∙ if_taken_old _ _ ps (λ z. n (call.number ∙ z)));
   read = λ read bytes ps work r ps' work' call n. call.records ∙ read_refused _ ps (λ z. n (call.number ∙ z));
   peel = λ h ps order cores work r order' cores' work' call n. (call.order_is ∙ if_taken_old r _ order n, call.cores_are ∙ if_taken_old r _ cores n);
-  solve = λ h ps members cores shares work r members' cores' shares' work' call n. let no = call.refused n in (no.1, no.2, no.3);
+  solve = λ h ps members cores shares work r members' cores' shares' work' call n. let no = call.refused n in (no.members_are, no.cores_are, no.shares_are);
   write_dimacs = λ h ps text w text' call n. call.bytes ∙ if_taken_old w.number _ text n;
 }
 
--- the number of solve is 13, 12 or 0
+-- the number of solve is 13, 12, 20 or 0
 pub fifteen_never : FifteenNever
 unfolding FifteenNever solve_call_causes refusal cause
 fifteen_never h ps members cores shares work r members' cores' shares' work' call e =
-    go (not (agrees h ps)) (any_short (solve_buffers h (length members) (length cores) (length shares) (length work))) (sym call.number.outright ∙ e)
+    go (not (agrees h ps)) (any_short (solve_buffers h (length members) (length cores) (length shares) (length work))) (no_pair h.m)
+    (sym call.number.outright ∙ e)
   where
-    go : (a b : Bool) → ◌≡◌ {A = ℕ} (cond a 13 (cond b 12 0)) 15 → ⊥
-    go true b e = omega (arith, e)
-    go false true e = omega (arith, e)
-    go false false e = omega (arith, e)
+    go : (a b c : Bool) → ◌≡◌ {A = ℕ} (cond a 13 (cond b 12 (cond c 20 0))) 15 → ⊥
+    go true b c e = omega (arith, e)
+    go false true c e = omega (arith, e)
+    go false false true e = omega (arith, e)
+    go false false false e = omega (arith, e)

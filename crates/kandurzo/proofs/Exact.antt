@@ -4,7 +4,7 @@
 --   solve_alone, solve_accepted    solve's answer follows from the input alone, and check accepts it
 -- Assumes nothing.
 use mathlib.Core.Path.{◌≡◌, refl, sym, ap, ◌∙◌}
-use mathlib.Core.Bool.{true}
+use mathlib.Core.Bool.{true, false}
 use mathlib.Core.Option.{some}
 use mathlib.Core.List.{List}
 use Prim.Native.Nat.{ℕ, ◌≤◌, ◌<◌}
@@ -20,8 +20,10 @@ use Rattle.theory.specs.Cores.{core_number, core_numbers}
 use Rattle.theory.specs.Splits.{is_split}
 use Rattle.theory.specs.Refusals.{cause, refusal, if_taken}
 use Rattle.theory.specs.Check.{check_causes, check_number}
+use Rattle.theory.specs.Pairless.{group_causes, group_number, judged_causes, judged_number}
 use Rattle.theory.specs.Promise.{AcceptedExactly, BestAccepted, CoreExact, LeavingSteps, LeavingEveryone}
 use Rattle.theory.proofs.Promises.{accepted_exactly, best_accepted, core_exact, leaving_steps, leaving_everyone}
+use Rattle.theory.proofs.Pairless.{paired, served_some, judged_served}
 use Rattle.theory.proofs.Tables.{table_at, length_table}
 use Rattle.theory.proofs.Tests.{tests, by_test}
 use Rattle.theory.proofs.Leaving.{left_behind_same}
@@ -36,12 +38,12 @@ use Rattle.on_words.specs.Gate.{gate_number}
 use Rattle.kandurzo.specs.Peeling.{peel_call_causes, PeelCall}
 use Rattle.on_words.specs.Judging.{check_buffers}
 use Rattle.kandurzo.specs.Judging.{check_call_causes, CheckCall}
-use Rattle.on_words.specs.Solving.{declined}
+use Rattle.on_words.specs.Solving.{solve_buffers, declined}
 use Rattle.kandurzo.specs.Solving.{solve_call_causes, SolveCall}
 use Rattle.kandurzo.specs.Promise.{PeelingOf, PeelExact, CheckExact, SharesAlike, SolveAlone, SolveAccepted}
-use Rattle.kandurzo.proofs.Demands.{front_long, n_is, m_is, lent_list, sheet_number}
+use Rattle.kandurzo.proofs.Demands.{front_long, n_is, m_is, lent_list, sheet_number, accepted_some}
 use Rattle.on_words.proofs.Enough.{all_long}
-use Rattle.kandurzo.proofs.Gates.{gate_open, gate_then}
+use Rattle.kandurzo.proofs.Gates.{gate_open, gate_then, gate_all}
 use Rattle.kandurzo.proofs.Taken.{held_is_list, length_held}
 
 -- ---- peel
@@ -98,9 +100,11 @@ pub check_exact : CheckExact
 unfolding CheckExact BestAccepted
 check_exact g h ps members shares work v work' lent a d w call = (
   λ z.
-      let o = rw (lent_list lent, n_is lent, m_is lent) at (call.optimal z) in
-      record { group = o.is_a_group; split = rw o.modules at o.is_a_split; best = rw o.modules at o.best },
-  λ b. sheet_number lent members shares work a d w call ∙ best_accepted g _ _ lent.list b.group b.split b.best,
+      let o = rw (lent_list lent, n_is lent, m_is lent) at (call.optimal z) in (
+        accepted_some lent members shares work a d w call z,
+        record { group = o.is_a_group; split = rw o.modules at o.is_a_split; best = rw o.modules at o.best },
+      ),
+  λ b. sheet_number lent members shares work a d w call b.0 ∙ best_accepted g _ _ lent.list b.1.group b.1.split b.1.best,
 )
 
 -- what solve hands out
@@ -109,9 +113,17 @@ module _ (h : Head) (ps : List Pair) (members cores shares work : List ℕ) {r :
   abbrev u : Pairs
   u = held_list h ps
 
+  open : (agrees h ps ≡ true) × (any_short (solve_buffers h (length members) (length cores) (length shares) (length work)) ≡ false)
+      × (refusal (group_causes h.m) ≡ 0)
+  unfolding solve_call_causes group_causes
+  open = gate_all (agrees h ps) _ (group_causes h.m) (sym call.number.outright ∙ z)
+
   solved_agrees : agrees h ps ≡ true
-  unfolding solve_call_causes gate_number
-  solved_agrees = (gate_open (agrees h ps) _ (sym call.number.outright ∙ z)).0
+  solved_agrees = open.0
+
+  some_pair : 1 ≤ h.m
+  unfolding group_number
+  some_pair = served_some h.m open.2
 
   m_held : length u.pairs ≡ h.m
   m_held = length_held h ps solved_agrees
@@ -138,7 +150,7 @@ module _ (h : Head) (ps : List Pair) (members cores shares work : List ℕ) {r :
         (o.is_a_group, rw q at o.is_a_split, omega (arith, rw q at o.top_load, o.inside_count)))
 
     again_taken : v.number ≡ 0
-    unfolding check_call_causes gate_number refusal cause check_number held_list
+    unfolding check_call_causes gate_number refusal cause judged_number held_list
     again_taken =
         let short = any_short (check_buffers h (length members') (length shares') (length again)) in
         let gate : gate_number (agrees h ps) short ≡ 0 = rw (
@@ -146,7 +158,8 @@ module _ (h : Head) (ps : List Pair) (members cores shares work : List ℕ) {r :
           all_long (check_buffers h (length members') (length shares') (length again))
               (members_enough, (rw m_held at shares_enough, w)),
         ) refl in
-        check.number ∙ gate_then (agrees h ps) short (check_causes u (take h.n members') (take h.m shares')) gate ∙ sheet_good
+        let rest = judged_causes u (take h.n members') (take h.m shares') in
+        check.number ∙ gate_then (agrees h ps) short rest gate ∙ judged_served u _ _ (rw m_held (paired h.m some_pair)) ∙ sheet_good
 
 pub solve_accepted : SolveAccepted
 unfolding SolveAccepted if_taken held_list
@@ -207,10 +220,10 @@ module _ (h : Head) (ps : List Pair) (members cores shares work : List ℕ) {r s
   refused_same n =
       let a = one.refused n in
       let b = two.refused (λ z. n (same_number ∙ z)) in
-      let d : shares' ≡ shares'' = a.3 ∙ sym b.3 in (
-        a.0 ∙ ap declined same_number ∙ sym b.0,
-        a.1 ∙ sym b.1,
-        a.2 ∙ sym b.2,
+      let d : shares' ≡ shares'' = a.shares_are ∙ sym b.shares_are in (
+        a.answer ∙ ap declined same_number ∙ sym b.answer,
+        a.members_are ∙ sym b.members_are,
+        a.cores_are ∙ sym b.cores_are,
         same_work,
         record {
           same_length = ap length d;

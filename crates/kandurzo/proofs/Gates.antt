@@ -1,7 +1,7 @@
 -- The refusals that come first, 13 and 12.
 --   disagrees, none_lent       13 alone: where it is given head and list disagree; 12 never comes where no buffer is lent
 --   gate_open, gate_left       13 and 12: where neither is given head and list agree and no buffer is short; either leaves the work buffer
---   gate_first, gate_then      either is the call's number; where neither is given the causes behind decide
+--   gate_first, gate_then, gate_all    either is the call's number; where neither is given the causes behind decide; where nothing is, none of these is met
 -- Assumes nothing.
 use mathlib.Core.Path.{◌≡◌, refl, sym}
 use mathlib.Core.Bool.{Bool, true, false, not, cond}
@@ -50,3 +50,12 @@ module _ (agreed short : Bool) (rest : List Cause) where
   pub gate_then : gate_number agreed short ≡ 0 → refusal (cause 13 (not agreed) ∷ cause 12 short ∷ rest) ≡ refusal rest
   unfolding gate_number refusal cause
   gate_then z = let o = gate_open agreed short z in rw (o.0, o.1)
+
+  pub gate_all : refusal (cause 13 (not agreed) ∷ cause 12 short ∷ rest) ≡ 0 → (agreed ≡ true) × (short ≡ false) × (refusal rest ≡ 0)
+  unfolding refusal cause
+  gate_all = go agreed short
+    where
+      go : (t s : Bool) → ◌≡◌ {A = ℕ} (cond (not t) 13 (cond s 12 (refusal rest))) 0 → (t ≡ true) × (s ≡ false) × (refusal rest ≡ 0)
+      go true true e = absurd (omega (arith, e))
+      go true false e = (refl, refl, e)
+      go false s e = absurd (omega (arith, e))

@@ -2,7 +2,7 @@
 --   check_few                 the number of a sheet is 7, 8, 9 or none
 --   check_refused, check_done, surplus_refused, surplus_done    the calls' promises, where 13 or 12 refuses and where neither does
 -- Assumes nothing.
-use mathlib.Core.Path.{◌≡◌, sym, ◌∙◌}
+use mathlib.Core.Path.{◌≡◌, refl, sym, ap, ◌∙◌}
 use mathlib.Core.Bool.{Bool, true, false, not, cond}
 use mathlib.Core.List.{List}
 use Prim.Native.Nat.{ℕ, ◌<◌}
@@ -12,8 +12,11 @@ use Rattle.std.proofs.Common.{Err, pos}
 use Rattle.theory.specs.Lists.{Pairs}
 use Rattle.theory.specs.Groups.{is_group, size}
 use Rattle.theory.specs.Splits.{shares_good}
-use Rattle.theory.specs.Refusals.{Cause, cause, refusal}
+use Rattle.theory.specs.Refusals.{Cause, cause, refusal, if_taken}
+use Rattle.theory.specs.Pairless.{no_pair, judged_causes, judged_number}
 use Rattle.theory.proofs.Refusals.{if_taken_old}
+use Rattle.theory.proofs.Pairless.{judged_turned, judged_served}
+use Rattle.theory.proofs.Tests.{by_test}
 use Rattle.refusals.specs.declared.Refusal.{Refusal}
 use Rattle.refusals.specs.Numbers.{number_of}
 use Rattle.lines.proofs.Found.{numbered}
@@ -26,13 +29,14 @@ use Rattle.records.specs.declared.Pair.{Pair}
 use Rattle.records.specs.declared.Head.{Head}
 use Rattle.records.specs.Records.{held_list, agrees}
 use Rattle.on_words.specs.declared.buffers.Buffer.{Buffer}
-use Rattle.on_words.specs.Buffers.{any_short}
+use Rattle.on_words.specs.Buffers.{any_short, work_left}
 use Rattle.on_words.specs.Gate.{gate_number}
 use Rattle.on_words.specs.Judging.{check_buffers, surplus_buffers, CheckOn, SurplusOn}
 use Rattle.kandurzo.specs.Laying.{Laid}
 use Rattle.kandurzo.specs.Judging.{check_call_causes, CheckCall, surplus_call_causes, SurplusCall}
 use Rattle.on_words.proofs.Filling.{work_zeros}
 use Rattle.kandurzo.proofs.Gates.{gate_left, gate_first, gate_then}
+use Rattle.kandurzo.proofs.Taken.{length_held}
 
 -- 7, 8, 9 or none
 pub check_few : (g : Pairs) (s xs : List ℕ) → check_number g s xs < 10
@@ -53,7 +57,7 @@ module _ (h : Head) (ps : List Pair) (members shares work : List ℕ)
   short = any_short lent
 
   rest : List Cause
-  rest = check_causes (held_list h ps) (take h.n members) (take h.m shares)
+  rest = judged_causes (held_list h ps) (take h.n members) (take h.m shares)
 
   pub check_refused : (e : Refusal) → number_of e ≡ gate_number (agrees h ps) short → CheckCall h ps members shares work (refused_by (number_of e)) work
   unfolding check_call_causes rest
@@ -68,17 +72,41 @@ module _ (h : Head) (ps : List Pair) (members shares work : List ℕ)
 
   pub check_done : 0 ≡ gate_number (agrees h ps) short → {words : List ℕ} → Laid h ps work words → {v : Verdict} {work' : List ℕ} →
       CheckOn h members shares words v work' → CheckCall h ps members shares work v work'
-  unfolding check_number check_call_causes rest
-  check_done f laid {v} on =
-      let says : CheckSays (held_list h ps) (take h.n members) (take h.m shares) v = rw laid.list at on.judged in
-      let low = check_few (held_list h ps) (take h.n members) (take h.m shares) in
-      record {
-        number = says.number ∙ sym (rw is at (gate_then (agrees h ps) short rest (sym f)));
-        p = rw says.number says.p;
-        q = rw says.number says.q;
-        optimal = says.optimal;
-        left = on.left ∙ laid.left ∙ sym (work_zeros v.number work (λ x. omega (arith, says.number, low)) (λ x. omega (arith, says.number, low)));
-      }
+  check_done f laid {v} {work'} on = by_test (no_pair h.m) pairless judged
+    where
+      m_held : length (held_list h ps).pairs ≡ h.m
+      m_held = length_held h ps laid.agreed
+
+      -- the causes behind 13 and 12 decide
+      decides : {k : ℕ} → v.number ≡ k → refusal rest ≡ k → (k ≡ 12 → ⊥) → (k ≡ 13 → ⊥) →
+          (v.number ≡ refusal (check_call_causes h ps members shares work)) × (work' ≡ work_left v.number work)
+      unfolding check_call_causes
+      decides {k} e d a b = (
+        e ∙ sym d ∙ sym (rw is at (gate_then (agrees h ps) short rest (sym f))),
+        on.left ∙ laid.left ∙ sym (work_zeros v.number work (λ x. a (sym e ∙ x)) (λ x. b (sym e ∙ x))),
+      )
+
+      pairless : no_pair h.m ≡ true → CheckCall h ps members shares work v work'
+      unfolding if_taken rest judged_number
+      pairless t =
+          let is_20 = on.pairless t in
+          let number : v.number ≡ 20 = ap (λ (u : Verdict). u.number) is_20 in
+          let d = decides number (judged_turned _ _ _ (rw m_held t)) (λ x. omega arith) (λ x. omega arith) in
+          record {
+            number = d.0;
+            p = rw is_20 refl;
+            q = rw is_20 refl;
+            optimal = λ z. absurd (omega (arith, z, number));
+            left = d.1;
+          }
+
+      judged : no_pair h.m ≡ false → CheckCall h ps members shares work v work'
+      unfolding judged_number rest
+      judged t =
+          let says : CheckSays (held_list h ps) (take h.n members) (take h.m shares) v = rw laid.list at (on.judged t) in
+          let low = check_few (held_list h ps) (take h.n members) (take h.m shares) in
+          let d = decides says.number (judged_served _ _ _ (rw m_held t)) (λ x. omega (arith, x, low)) (λ x. omega (arith, x, low)) in
+          record { number = d.0; p = rw says.number says.p; q = rw says.number says.q; optimal = says.optimal; left = d.1 }
 
 -- ---- surplus
 

@@ -1,5 +1,5 @@
 -- One theorem for each statement of specs/Promise.antt, specs/Keeping.antt, specs/Twice.antt, specs/Placing.antt and specs/Exchange.antt, in their order.
---   lent_held, every_list_peeled, every_list_solved, every_list_judged, every_list_compared    every list
+--   lent_held, every_list_peeled, every_list_solved, every_list_judged, every_list_compared, no_stops_no_group    every list
 --   refusals_keep, unsplit_never, fifteen_never    refusals
 --   peel_exact, check_exact, solve_alone, solve_accepted, records_in_order    answers
 --   held_once, either_way_round, add_exactly, remove_exactly, add_holds, remove_drops, thirteen_never_follows    one pair more, one pair less
@@ -9,7 +9,7 @@
 --   add_puts_there, add_raises_there, remove_takes_there, refused_as_remove, every_place_answered    where a pair stands
 --   every_list_written, written_read, read_rewritten, comments_unread, read_dimacs_exact, every_dimacs_read    read_dimacs and write_dimacs
 -- Assumes nothing.
-use Rattle.kandurzo.specs.Promise.{LentHeld, EveryListPeeled, EveryListSolved, EveryListJudged, EveryListCompared, RefusalsKeep, UnsplitNever}
+use Rattle.kandurzo.specs.Promise.{LentHeld, EveryListPeeled, EveryListSolved, EveryListJudged, EveryListCompared, NoStopsNoGroup, RefusalsKeep, UnsplitNever}
 use Rattle.kandurzo.specs.Promise.{FifteenNever, PeelExact, CheckExact, SolveAlone, SolveAccepted, RecordsInOrder}
 use Rattle.kandurzo.specs.Keeping.{HeldOnce, EitherWayRound, AddExactly, RemoveExactly, AddHolds, RemoveDrops, ThirteenNeverFollows, EveryFileRead, ReadExact}
 use Rattle.kandurzo.specs.Keeping.{ArrivalTraceless, AnyOrderTaken, OneAtATime, EveryListAdded, SamePairsSameRecords, AddUndone}
@@ -43,6 +43,9 @@ every_list_judged = demands.every_list_judged
 
 pub every_list_compared : EveryListCompared
 every_list_compared = demands.every_list_compared
+
+pub no_stops_no_group : NoStopsNoGroup
+no_stops_no_group = demands.no_stops_no_group
 
 -- ---- refusals
 

@@ -11,7 +11,9 @@ use native.Mathlib.Omega.{arith}
 use lib.ListN.{length}
 use Rattle.std.proofs.Common.{Err}
 use Rattle.theory.specs.Lists.{is_list}
+use Rattle.theory.specs.Pairless.{group_causes, group_number}
 use Rattle.theory.specs.Promise.{SplitDensest, RatiosInOrder}
+use Rattle.theory.proofs.Pairless.{zero_or_twenty}
 use Rattle.theory.proofs.Promises.{split_densest, ratios_in_order}
 use Rattle.refusals.specs.declared.Refusal.{Refusal}
 use Rattle.refusals.specs.Numbers.{number_of}
@@ -24,11 +26,11 @@ use Rattle.on_words.specs.declared.buffers.Buffer.{Buffer}
 use Rattle.on_words.specs.Buffers.{any_short}
 use Rattle.on_words.specs.Gate.{gate_number}
 use Rattle.on_words.specs.Solving.{solve_buffers, declined, solved_of, SolveOn}
-use Rattle.on_words.proofs.Filling.{left_open}
+use Rattle.on_words.proofs.Filling.{work_zeros}
 use Rattle.kandurzo.specs.Laying.{Laid}
 use Rattle.kandurzo.specs.Solving.{solve_call_causes, NoSplit, SolveCall}
 use Rattle.kandurzo.specs.Promise.{UnsplitNever, RecordsInOrder}
-use Rattle.kandurzo.proofs.Gates.{gate_open, gate_left}
+use Rattle.kandurzo.proofs.Gates.{gate_left, gate_first, gate_then, gate_all}
 use Rattle.kandurzo.proofs.Taken.{held_is_list}
 
 -- a densest group has a split at its size whose greatest load is its inside count
@@ -43,27 +45,30 @@ module _ (h : Head) (ps : List Pair) (members cores shares work : List ℕ)
 
   pub solve_refused : (e : Refusal) → number_of e ≡ gate_number (agrees h ps) short →
       SolveCall h ps members cores shares work (solved_of (Err e)) members cores shares work
-  unfolding solve_call_causes gate_number declined
+  unfolding solve_call_causes declined group_causes
   solve_refused e f =
       record {
-        number = let k = rw is at f in record { outright = k; fifteen = λ z. absurd (numbered e (k ∙ z)) };
+        number = let k = rw is at (gate_first (agrees h ps) short (group_causes h.m) f (numbered e)) in
+            record { outright = k; fifteen = λ z. absurd (numbered e (k ∙ z)) };
         handed = λ z. absurd (numbered e z);
-        refused = λ _. (refl, refl, refl, refl);
+        refused = λ _. record { answer = refl; members_are = refl; cores_are = refl; shares_are = refl };
         left = gate_left (agrees h ps) short work f (numbered e);
       }
 
   pub solve_done : 0 ≡ gate_number (agrees h ps) short → {words : List ℕ} → Laid h ps work words → {r : Solved} {members' cores' shares' work' : List ℕ} →
       SolveOn h members cores shares words r members' cores' shares' work' → SolveCall h ps members cores shares work r members' cores' shares' work'
-  unfolding UnsplitNever solve_call_causes gate_number
+  unfolding UnsplitNever solve_call_causes group_number group_causes
   solve_done f laid {r} on =
+      let twenty : {k : ℕ} → r.number ≡ k → (k ≡ 0 → ⊥) → k ≡ 20 = λ e n. zero_or_twenty h.m (sym on.number ∙ e) n in
+      let number = on.number ∙ sym (rw is at (gate_then (agrees h ps) short (group_causes h.m) (sym f))) in
       record {
         number = record {
-          outright = on.number ∙ rw is at f;
-          fifteen = λ _. (λ x. absurd (omega (arith, x, on.number)), λ u. absurd (unsplit_never (held_list h ps) (held_is_list h ps laid.agreed) u));
+          outright = number;
+          fifteen = λ z. (λ x. absurd (omega (arith, x, number, z)), λ u. absurd (unsplit_never (held_list h ps) (held_is_list h ps laid.agreed) u));
         };
-        handed = λ _. rw laid.list at on.handed;
-        refused = λ n. absurd (n on.number);
-        left = on.left ∙ laid.left ∙ sym (left_open work on.number);
+        handed = λ z. rw laid.list at (on.handed z);
+        refused = on.refused;
+        left = on.left ∙ laid.left ∙ sym (work_zeros r.number work (λ e. omega (arith, twenty e)) (λ e. omega (arith, twenty e)));
       }
 
 -- ---- what follows of the answers
@@ -72,8 +77,8 @@ module _ (h : Head) (ps : List Pair) (members cores shares work : List ℕ)
 module _ (h : Head) (ps : List Pair) (ms cs xs ws : List ℕ) {r : Solved} {ms' cs' xs' ws' : List ℕ}
     (call : SolveCall h ps ms cs xs ws r ms' cs' xs' ws') (z : r.number ≡ 0) where
   taken_list : is_list (held_list h ps) ≡ true
-  unfolding solve_call_causes gate_number
-  taken_list = held_is_list h ps (gate_open (agrees h ps) _ (sym call.number.outright ∙ z)).0
+  unfolding solve_call_causes group_causes
+  taken_list = held_is_list h ps (gate_all (agrees h ps) _ (group_causes h.m) (sym call.number.outright ∙ z)).0
 
 -- the floats that two such calls return are in the order of their ratios
 pub records_in_order : RecordsInOrder

@@ -2,11 +2,10 @@
 --   check_call_causes, CheckCall           check: 13, 12, 20, 7, 8, 9; the call
 --   surplus_call_causes, SurplusCall       surplus: 13, 12, 7; the call
 -- Assumes nothing: these are definitions.
-use Rattle.std.specs.Prelude.{◌≡◌, not, List, ◌∷◌, ◌++◌, ℕ, length, take, pos}
+use Rattle.std.specs.Prelude.{◌≡◌, not, List, ◌∷◌, ℕ, length, take, pos}
 use Rattle.theory.specs.Groups.{inside, size}
 use Rattle.theory.specs.Refusals.{Cause, cause, refusal, if_taken}
-use Rattle.theory.specs.Check.{check_causes}
-use Rattle.theory.specs.Pairless.{group_causes}
+use Rattle.theory.specs.Pairless.{judged_causes}
 use Rattle.theory.specs.Surplus.{surplus, Signed, surplus_causes}
 use Rattle.theory.specs.Promise.{Optimal}
 use Rattle.verify.specs.declared.Verdict.{Verdict}
@@ -19,12 +18,12 @@ use Rattle.on_words.specs.Judging.{check_buffers, surplus_buffers}
 
 -- ---- check
 
--- 13, 12, 20, then 7, 8, 9 of the sheet
+-- 13, 12, then 20, 7, 8, 9 of the list and the sheet
 unfoldable pub check_call_causes : Head → List Pair → (members shares work : List ℕ) → List Cause
 check_call_causes h ps a d w =
     cause 13 (not (agrees h ps))
     ∷ cause 12 (any_short (check_buffers h (length a) (length d) (length w)))
-    ∷ (group_causes h.m ++ check_causes (held_list h ps) (take h.n a) (take h.m d))
+    ∷ judged_causes (held_list h ps) (take h.n a) (take h.m d)
 
 -- what check answers, and the work buffer after it; members and shares are only read
 pub record CheckCall (h : Head) (ps : List Pair) (members shares work : List ℕ) (v : Verdict) (after : List ℕ) : Type 0 where

@@ -1,10 +1,10 @@
 -- What the planner is promised of the calls. A statement is a type; proofs/Promises.antt has a theorem for each, of the same name in small letters.
--- Lent, PeelServed, SolveServed, PeelingOf, BestOfAll, SharesAlike and CompareAlike are what statements say of one list, call or answer. A statement
--- speaks of a call by what its contract in src/lib.rt says of it (AddSays, PeelCall and so on). The planner's demands:
+-- Lent, PeelServed, SolveServed, TurnedDown, PeelingOf, BestOfAll, SharesAlike and CompareAlike are what statements say of one list, call or answer. A
+-- statement speaks of a call by what its contract in src/lib.rt says of it (AddSays, PeelCall and so on). The planner's demands:
 --   1. Every list, with buffers of the stated sizes, gets its group, core numbers and load sheet; a call that meets a refusal condition gets that
 --      number and changes no head, list or answer buffer. A list without pairs has no group (document 02, item 6): solve and check turn it down.
 --   2. The group is the largest of all groups of greatest ratio; core numbers, leaving order, surplus and file reading are those of document 01, where a
---      pair counts as often as it has stops (document 02, item 4).
+--      pair counts as often as it has stops (document 02, item 4). The group is promised for lists with a pair (item 6).
 --   3. For every list, group and split: ratio and greatest load over share size are equal exactly when both are best among all groups and all splits at
 --      every share size. What solve hands out, and whatever check accepts, reaches that equality; P and Q returned are the group's, and the greatest load
 --      at share size Q is exactly P. (The equality: theory, specs/Promise.antt; of solve and check: Optimal, in Handed and in CheckCall.)
@@ -91,13 +91,14 @@ EveryListJudged =
     CheckCall h ps members shares work v work' →
     CheckSays g (take g.n members) (take (length g.pairs) shares) v × (work' ≡ cleared work)
 
--- SURPLUS LOOKS AT THE TWO GROUPS OF EVERY LIST that is lent with buffers of the stated sizes: neither 13 nor 12 comes; 7 or 0, and the value, are said of that list and the two groups
+-- SURPLUS LOOKS AT THE TWO GROUPS OF EVERY LIST that is lent with buffers of the stated sizes: neither 13 nor 12 comes; 7 or 0, and the value, are said of that
+-- list and the two groups
 unfoldable pub EveryListCompared : Type 0
 EveryListCompared =
     (g : Pairs) (h : Head) (ps : List Pair) (t s : List ℕ) (d : Difference) → Lent g h ps → g.n ≤ length t → g.n ≤ length s →
     SurplusCall h ps t s d → SurplusSays g (take g.n t) (take g.n s) d
 
--- a call that turns a list down answers 20 and no other value, its answer buffers are as before, and the work buffer is cleared
+-- a call of solve that turns the list down answers 20 and no other value, the answer buffers are as before, and the work buffer is cleared
 pub record TurnedDown (members cores shares work : List ℕ) (r : Solved) (members' cores' shares' work' : List ℕ) : Type 0 where
   pub number : r.number ≡ 20
   pub answer : Declined members cores shares r members' cores' shares'

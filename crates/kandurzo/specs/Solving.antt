@@ -4,12 +4,12 @@
 --   SolveNumber             13, 12, 20, 15
 --   SolveCall               the call; what it hands out, or not: Handed and Declined, of crate on_words
 -- Assumes nothing: these are definitions.
-use Rattle.std.specs.Prelude.{◌≡◌, true, not, List, ◌∷◌, ◌↔◌, ℕ, ◌<◌, length}
+use Rattle.std.specs.Prelude.{◌≡◌, true, not, List, [], ◌∷◌, ◌↔◌, ℕ, ◌<◌, length}
 use Rattle.theory.specs.Lists.{Pairs}
 use Rattle.theory.specs.Groups.{size, inside, Densest}
 use Rattle.theory.specs.Splits.{is_split, greatest_load}
 use Rattle.theory.specs.Refusals.{Cause, cause, refusal}
-use Rattle.theory.specs.Pairless.{group_causes}
+use Rattle.theory.specs.Pairless.{no_pair}
 use Rattle.records.specs.declared.Pair.{Pair}
 use Rattle.records.specs.declared.Head.{Head}
 use Rattle.records.specs.Records.{held_list, agrees}
@@ -22,7 +22,8 @@ unfoldable pub solve_call_causes : Head → List Pair → (members cores shares 
 solve_call_causes h ps a c d w =
     cause 13 (not (agrees h ps))
     ∷ cause 12 (any_short (solve_buffers h (length a) (length c) (length d) (length w)))
-    ∷ group_causes h.m
+    ∷ cause 20 (no_pair h.m)
+    ∷ []
 
 -- no split at a group's size keeps all loads at or below its inside count
 unfoldable pub NoSplit : Pairs → (s : List ℕ) → Type 0
@@ -34,11 +35,11 @@ pub record Unsplit (g : Pairs) : Type 0 where
   pub densest : Densest g group
   pub no_split : NoSplit g group
 
--- 13, 12, 20, 15: the number is that of the causes before 15, whose condition never holds
-pub record SolveNumber (before : ℕ) (g : Pairs) (number : ℕ) : Type 0 where
-  pub outright : number ≡ before
+-- 13, 12, 20, 15: the number is that of the earlier causes, since the condition of 15 never holds
+pub record SolveNumber (earlier : ℕ) (g : Pairs) (number : ℕ) : Type 0 where
+  pub outright : number ≡ earlier
   -- 15 exactly where its condition holds
-  pub fifteen : before ≡ 0 → (number ≡ 15) ↔ Unsplit g
+  pub fifteen : earlier ≡ 0 → (number ≡ 15) ↔ Unsplit g
 
 -- what solve answers, and the lent buffers after it
 pub record SolveCall (h : Head) (ps : List Pair) (members cores shares work : List ℕ) (r : Solved) (members' cores' shares' work' : List ℕ) : Type 0 where

@@ -6,4 +6,5 @@ pub mod Filling
 pub mod Enough
 pub mod Peels
 pub mod Sheets
+pub mod Pairless
 pub mod Readings

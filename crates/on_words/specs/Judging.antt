@@ -1,5 +1,5 @@
--- Document 01, "Check" and "Surplus", on words: what is lent, and what the two say of the list that lies in them; check if it has a pair (document 02,
--- item 6).
+-- Document 01, "Check" and "Surplus", on words: what is lent, and what the two say of the list that lies in them; check only where the list has a pair
+-- (document 02, item 6).
 --   check_buffers, CheckOn        check
 --   surplus_buffers, SurplusOn    surplus
 -- Assumes nothing: these are definitions.

@@ -2,7 +2,7 @@
 --   solve_buffers            what is lent
 --   answered, declined, solved_of    the record of what is found, that beside a refusal, and that of an answer
 --   Handed                   what is handed out; free are only the shares of pairs inside the core of order K
---   Declined                 beside a refusal nothing is
+--   Declined                 beside a refusal: nothing is handed out
 --   SolveOn                 the record, and every buffer
 -- Assumes nothing: these are definitions.
 use Rattle.std.specs.Prelude.{◌≡◌, true, List, [], ◌∷◌, ℕ, length, take, drop, Result, Ok, Err}
@@ -55,7 +55,7 @@ pub record Handed (g : Pairs) (members cores shares : List ℕ) (r : Solved) (me
   -- P divided by Q, rounded once
   pub float : r.ratio ≡ float_ratio r.p r.q
 
--- beside a refusal nothing is handed out
+-- beside a refusal: its number and no other value, and nothing is handed out
 pub record Declined (members cores shares : List ℕ) (r : Solved) (members' cores' shares' : List ℕ) : Type 0 where
   pub answer : r ≡ declined r.number
   pub members_are : members' ≡ members

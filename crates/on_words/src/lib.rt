@@ -4,7 +4,8 @@
 // A call takes the records that are held (gate: 13, and 12 where a lent buffer is short) and copies them to words (crate records); its function on words
 // works on the list that lies there, and clears the work buffer. Add and remove look the pair up in the words and shift what stands behind it; a reader
 // leaves the file's pairs in them. Each costs what the crate below it does (pairs, peel, densest, verify, pairfile, dimacs), and the 16,384 words that are
-// cleared. On words add refuses by 5, 4, 18, 19, 11, remove by 5, 4, 14, solve by 20, check by 20, 7, 8, 9, surplus by 7, and both readers by the file's numbers.
+// cleared. On words add refuses by 5, 4, 18, 19, 11, remove by 5, 4, 14, solve by 20, check by 20, 7, 8, 9, surplus by 7, and both readers by the file's
+// numbers.
 // Head and words are two parameters, not a struct that keeps what the words hold: a call lays them out once and hands them to one function. So that they
 // hold the list is a clause of each, and so are 16,384 words of work, which C lends.
 // `as` stands where std has no `From`: from u32 to usize, and where a bound lets a number fit fewer bits.

@@ -1,4 +1,4 @@
-// Solve on words: the list in the work buffer's words, then zeros; and the record of what it finds. 15 never comes.
+// Solve on words: the list in the work buffer's words, then zeros; and the record of what it finds. 20 where there is no pair; 15 never comes.
 ghost use Rattle.std.specs.Prelude.{◌≡◌, ◌≤◌, length};
 ghost use Rattle.theory.specs.Words.{HoldsList};
 ghost use Rattle.on_words.specs.Solving.{solve_buffers, solved_of, SolveOn};

@@ -1,4 +1,4 @@
--- The list of a file, where its group is asked for.
+-- The list of a file of which a group is asked.
 --   group_refused           a file that is refused stays so
 --   group_judged            a list is judged by 20
 --   group_taken, taken_group    one with a pair is taken, and no other

@@ -21,12 +21,11 @@ use Rattle.lines.specs.Text.{text, between}
 use Rattle.lines.specs.Numbers.{is_digit, Number}
 use Rattle.lines.specs.Lines.{is_place, Line, first, second, third, fourth}
 use Rattle.lines.specs.Outcomes.{Outcome, refused, taken, ◌>>=◌, ◌>>◌, passed, judge}
-use Rattle.pairfile.specs.File.{read_file}
+use Rattle.pairfile.specs.File.{group_list}
 use Rattle.lines.proofs.Fills.{starts_plain, parted}
 use Rattle.pairfile.proofs.Accepts.{accepted}
+use Rattle.pairfile.proofs.Grouped.{taken_group, group_first}
 use Rattle.lines.proofs.Prefix.{span, rest_alike, Alike, taken_alike, alike_then, alike_same, trim_line, line_alike, judged_alike}
-use Rattle.pairfile.proofs.Promises.{reads_first}
-use Rattle.pairfile.specs.Promise.{ReadsFirst}
 use Rattle.sheetfile.specs.Sheet.{
   head_form,
   member_form,
@@ -129,15 +128,15 @@ read_trimmed g w bs h =
 
 pub sheet_first : SheetFirst
 unfolding SheetFirst audit audit_sheet ◌>>=◌
-sheet_first w file bs h = go (read_file 4096 file) refl
+sheet_first w file bs h = go (group_list file) refl
   where
-    go : (o : Outcome Pairs) → read_file 4096 file ≡ o → (do g ← o; audit_sheet g (take w bs)) ≡ (do g ← o; audit_sheet g bs)
+    go : (o : Outcome Pairs) → group_list file ≡ o → (do g ← o; audit_sheet g (take w bs)) ≡ (do g ← o; audit_sheet g bs)
     go (refused k) e = refl
     go (taken g) e =
-        let l : Listed g = listed g (accepted 4096 file g e).list in
+        let l : Listed g = listed g (accepted 4096 file g (taken_group file g e).0).list in
         rw (read_trimmed g w bs (omega (arith, l.few, l.short)))
 
 -- both files trimmed
 pub audit_first : AuditFirst
-unfolding AuditFirst SheetFirst ReadsFirst audit
-audit_first v w file bs h k = rw (reads_first 4096 v file h) (sheet_first w file bs k)
+unfolding AuditFirst SheetFirst audit
+audit_first v w file bs h k = rw (group_first file v h) (sheet_first w file bs k)

@@ -56,8 +56,8 @@ pub record Writable (g : Pairs) (s : Sheet) : Type 0 where
 unfoldable pub SheetBack : Type 0
 SheetBack = (g : Pairs) (s : Sheet) → is_list g ≡ true → Writable g s → read_sheet g (sheet_file g s) ≡ taken s
 
--- AND EVERY BEST SHEET IS ACCEPTED, whoever made it: beside a pair file that names the list, which has a pair, group and shares that are optimal with their P and Q, and
--- the list's core line
+-- AND EVERY BEST SHEET IS ACCEPTED, whoever made it: the pair file names the list, which has a pair; group and shares are optimal with their P and Q, and the
+-- core line is the list's
 unfoldable pub AcceptsBack : Type 0
 AcceptsBack =
     (file : List ℕ) (g : Pairs) (s : Sheet) → group_list file ≡ taken g →

@@ -2,4 +2,5 @@
 pub mod Theory
 pub mod Lent
 pub mod Sheets
+pub mod Twenty
 pub mod Says

@@ -3,6 +3,7 @@
 --   peel_says       peel
 --   solve_says      solve
 --   check_says      check
+--   twenty_says     where solve and check turn a list down
 --   surplus_says    surplus
 -- Assumes nothing.
 use mathlib.Core.Path.{◌≡◌, refl, sym, ap, ◌∙◌}
@@ -17,11 +18,13 @@ use borrow.Author.Tests.{eqb-true, ne_eqb, not-false}
 use Rattle.theory.specs.Groups.{is_group}
 use Rattle.theory.specs.Refusals.{Cause, cause, refusal, if_taken}
 use Rattle.theory.specs.Check.{check_causes, check_number}
+use Rattle.theory.specs.Pairless.{no_pair, group_causes, judged_causes}
 use Rattle.theory.specs.Surplus.{surplus_causes}
 use Rattle.theory.specs.Ratio.{float_ratio}
 use Rattle.theory.specs.Plain as plain
 use Rattle.theory.specs.Plain.{weighted}
 use Rattle.theory.proofs.Refusals.{refusal_none}
+use Rattle.theory.proofs.Pairless.{pairless}
 use Rattle.theory.proofs.Plain.{inside_plain, found_plain, surplus_plain, members_plain, check_plain}
 use Rattle.theory.proofs.PlainCores.{leaving_plain, core_numbers_plain}
 use Rattle.records.specs.declared.Pair.{Pair}
@@ -39,13 +42,15 @@ use Rattle.kandurzo.specs.Solving.{solve_call_causes, SolveCall}
 use Rattle.on_words.specs.Judging.{check_buffers, surplus_buffers}
 use Rattle.kandurzo.specs.Judging.{check_call_causes, CheckCall, surplus_call_causes, SurplusCall}
 use Rattle.kandurzo.proofs.Gates.{gate_open}
-use Rattle.kandurzo.proofs.Taken.{held_few}
+use Rattle.kandurzo.proofs.Taken.{held_few, length_held}
+use Rattle.kandurzo.proofs.Judgements.{check_few}
 use Rattle.on_words.proofs.Enough.{check_enough, surplus_enough}
 use Rattle.statements.specs.Entry.{in_front, kept_or, work_left, peel_refusal, PeelSays, ratio, solve_refusal, Turned, SolveAs, SolveSays}
 use Rattle.statements.specs.Entry.{CheckSays, surplus_refusal, Differs, SurplusSays}
-use Rattle.statements.specs.Promise.{Ones, ListStated, PeelStated, SolveStated, CheckStated, SurplusStated}
+use Rattle.statements.specs.Promise.{Ones, ListStated, PeelStated, SolveStated, CheckStated, TwentyStated, SurplusStated}
 use Rattle.statements.proofs.Lent.{lent, list_lent, held_lent, refusal_lent}
 use Rattle.statements.proofs.Sheets.{found_as}
+use Rattle.statements.proofs.Twenty.{number, past_twenty, twenty_open, open_twenty, neither}
 
 -- what is the same where nothing is refused is the same answer
 same_taken : {A : Type 0} (k : ℕ) (x y old : A) → (k ≡ 0 → x ≡ y) → if_taken k x old ≡ if_taken k y old
@@ -149,26 +154,54 @@ module _ (h : Head) (ps : List Pair) (members shares work : List ℕ) (v : Verdi
 
   check_agreed : v.number ≡ 0 → agrees h ps ≡ true
   unfolding check_call_causes
-  check_agreed z = agreed h ps _ causes (sym call.number ∙ z)
+  check_agreed z = agreed h ps _ (judged_causes (held_list h ps) (take h.n members) (take h.m shares)) (sym call.number ∙ z)
 
-  check_order_as : v.number ≡ plain.check_refusal h.n h.m (ends_of ps) members shares (length work)
-  unfolding check_call_causes check_number plain.check_refusal
-  check_order_as =
-      call.number ∙ ap (λ (b : Bool). refusal (cause 13 (not (agrees h ps)) ∷ cause 12 b ∷ causes)) same_short
-      ∙ sym (turned (eqb (refused h ps) 0) 13 _ ∙ orders h ps once short _ causes (λ e s.
+  -- that the list held has no pair
+  abbrev none : Bool
+  none = no_pair (length (held_list h ps).pairs)
+
+  -- check's number, with 20 between 12 and 7
+  check_number_is : v.number ≡ number (agrees h ps) short none (refusal causes)
+  unfolding check_call_causes judged_causes group_causes refusal cause
+  check_number_is = call.number ∙ ap (λ (b : Bool). number (agrees h ps) b none (refusal causes)) same_short
+
+  -- document 03's, without it
+  check_order_is : number (agrees h ps) short false (refusal causes) ≡ plain.check_refusal h.n h.m (ends_of ps) members shares (length work)
+  unfolding check_number plain.check_refusal refusal cause
+  check_order_is =
+      sym (turned (eqb (refused h ps) 0) 13 _ ∙ orders h ps once short _ causes (λ e s.
       let n = check_enough h _ _ _ refl (same_short ∙ s) in
       let z : refused h ps ≡ 0 = refused_none h ps once e in
       let l = check_plain h.n h.m (ends_of ps) members shares (length work) z n.0 n.1 n.2 in
       sym (rw (← (same_list h ps once e), z, s) at l)))
 
-  check_as : CheckSays h.n h.m (ends_of ps) members shares v work work'
-  unfolding CheckSays work_left in_front ours.work_left ours.cleared ours.work_words ours.in_front if_taken
-  check_as =
-      rw (← check_order_as) (
-        refl,
-        call.p ∙ same_taken v.number _ _ 0 (λ z. rw (same_list h ps once (check_agreed z)) (inside_plain (g h ps) (take h.n members))),
-        call.q,
-        call.left,
+  module _ (served : v.number ≡ 20 → ⊥) where
+    check_order_as : v.number ≡ plain.check_refusal h.n h.m (ends_of ps) members shares (length work)
+    check_order_as = check_number_is ∙ past_twenty (agrees h ps) short none _ (λ e. served (check_number_is ∙ e)) ∙ check_order_is
+
+    check_as : CheckSays h.n h.m (ends_of ps) members shares v work work'
+    unfolding CheckSays work_left in_front ours.work_left ours.cleared ours.work_words ours.in_front if_taken
+    check_as =
+        rw (← check_order_as) (
+          refl,
+          call.p ∙ same_taken v.number _ _ 0 (λ z. rw (same_list h ps once (check_agreed z)) (inside_plain (g h ps) (take h.n members))),
+          call.q,
+          call.left,
+        )
+
+  -- where 20 comes
+  check_twenty : let f = plain.check_refusal h.n h.m (ends_of ps) members shares (length work) in
+      (v.number ≡ 20) ↔ ((h.m ≡ 0) × (f ≡ 13 → ⊥) × (f ≡ 12 → ⊥))
+  unfolding check_number no_pair
+  check_twenty =
+      let low = check_few (held_list h ps) (take h.n members) (take h.m shares) in (
+        λ e.
+            let o = twenty_open (agrees h ps) short none _ (λ k. omega (arith, k, low)) (sym check_number_is ∙ e) in
+            let f : plain.check_refusal h.n h.m (ends_of ps) members shares (length work) ≡ refusal causes = sym check_order_is ∙ rw (o.0, o.1) in
+            (sym (length_held h ps o.0) ∙ eqb-true _ 0 o.2, λ k. omega (arith, k, f, low), λ k. omega (arith, k, f, low)),
+        λ e.
+            let o = neither (agrees h ps) short _ (λ k. e.1 (sym check_order_is ∙ k)) (λ k. e.2 (sym check_order_is ∙ k)) in
+            check_number_is ∙ open_twenty (agrees h ps) short none _ o.0 o.1 (pairless _ (length_held h ps o.0 ∙ e.0)),
       )
 
 pub check_says : CheckStated
@@ -230,17 +263,30 @@ declined_as k a x c y d z r e b = rw e (refl, refl, refl, refl, refl, refl, b.0,
 
 module _ (h : Head) (ps : List Pair) (members cores shares work : List ℕ) (r : Solved) (members' cores' shares' work' : List ℕ)
     (once : Ones h ps) (call : SolveCall h ps members cores shares work r members' cores' shares' work') where
-  solve_order : r.number ≡ solve_refusal h.n h.m (ends_of ps) (length members) (length cores) (length shares) (length work)
-  unfolding solve_call_causes gate_number ours.any_short solve_refusal
-  solve_order =
-      call.number.outright ∙ gate_order h ps once (ours.any_short (solve_buffers h (length members) (length cores) (length shares) (length work)))
-      ∙ simp or-false
+  -- 12 as document 03 writes it
+  abbrev solve_short : Bool
+  solve_short = ltb (length members) h.n || (ltb (length cores) h.n || (ltb (length shares) h.m || ltb (length work) 16384))
+
+  -- solve's number, with 20 after 12
+  solve_number_is : r.number ≡ number (agrees h ps) solve_short (no_pair h.m) 0
+  unfolding solve_call_causes group_causes ours.any_short refusal cause
+  solve_number_is = call.number.outright ∙ simp or-false
+
+  -- document 03's, without it
+  solve_order_is : number (agrees h ps) solve_short false 0 ≡
+      solve_refusal h.n h.m (ends_of ps) (length members) (length cores) (length shares) (length work)
+  unfolding gate_number solve_refusal refusal cause
+  solve_order_is = gate_order h ps once solve_short
+
+  solve_open : (k : ℕ) → r.number ≡ k → k ≡ 0 → agrees h ps ≡ true
+  unfolding solve_call_causes
+  solve_open k e z = agreed h ps _ (group_causes h.m) (sym call.number.outright ∙ e ∙ z)
 
   -- the found group and a split at its size are handed out, so 15 never comes; or the call is refused
   solve_as : (k : ℕ) → r.number ≡ k → SolveAs k (g h ps) r members members' cores cores' shares shares'
-  unfolding SolveAs solve_call_causes gate_number
+  unfolding SolveAs
   solve_as zero e =
-      let a : agrees h ps ≡ true = (gate_open (agrees h ps) _ (sym call.number.outright ∙ e)).0 in
+      let a : agrees h ps ≡ true = solve_open zero e refl in
       let out : Handed (weighted (g h ps)) members cores shares r members' cores' shares' = rw (same_list h ps once a) at (call.handed e) in (
         _,
         found_plain (g h ps) _ out.found,
@@ -248,12 +294,32 @@ module _ (h : Head) (ps : List Pair) (members cores shares work : List ℕ) (r :
       )
   solve_as (suc k) e =
       let no = call.refused (λ z. omega (arith, z, e)) in
-      declined_as (suc k) members members' cores cores' shares shares' r (no.0 ∙ ap declined e) (no.1, no.2, no.3)
+      declined_as (suc k) members members' cores cores' shares shares' r (no.answer ∙ ap declined e) (no.members_are, no.cores_are, no.shares_are)
 
-  solve_states : SolveSays h.n h.m (ends_of ps) r members members' cores cores' shares shares' work work'
+  solve_states : (r.number ≡ 20 → ⊥) → SolveSays h.n h.m (ends_of ps) r members members' cores cores' shares shares' work work'
   unfolding SolveSays work_left in_front ours.work_left ours.cleared ours.work_words ours.in_front
-  solve_states = rw (← solve_order) (solve_as r.number refl, call.left)
+  solve_states served =
+      let order : r.number ≡ solve_refusal h.n h.m (ends_of ps) (length members) (length cores) (length shares) (length work) =
+      solve_number_is ∙ past_twenty (agrees h ps) solve_short (no_pair h.m) 0 (λ e. served (solve_number_is ∙ e)) ∙ solve_order_is in
+      rw (← order) (solve_as r.number refl, call.left)
+
+  -- where 20 comes
+  solve_twenty : (r.number ≡ 20) ↔
+      ((h.m ≡ 0) × (solve_refusal h.n h.m (ends_of ps) (length members) (length cores) (length shares) (length work) ≡ 0))
+  unfolding no_pair
+  solve_twenty = (
+    λ e.
+        let o = twenty_open (agrees h ps) solve_short (no_pair h.m) 0 (λ k. omega (arith, k)) (sym solve_number_is ∙ e) in
+        (eqb-true h.m 0 o.2, sym solve_order_is ∙ rw (o.0, o.1)),
+    λ e.
+        let z = solve_order_is ∙ e.1 in
+        let o = neither (agrees h ps) solve_short 0 (λ k. omega (arith, z, k)) (λ k. omega (arith, z, k)) in
+        solve_number_is ∙ open_twenty (agrees h ps) solve_short (no_pair h.m) 0 o.0 o.1 (pairless h.m e.0),
+  )
 
 pub solve_says : SolveStated
 unfolding SolveStated
 solve_says = solve_states
+
+pub twenty_says : TwentyStated
+twenty_says = record { solve = solve_twenty; check = check_twenty }

@@ -1,13 +1,13 @@
--- Our contracts are no weaker than document 03's: of a list of ones, whatever a call of kandurzo answers and leaves is as document 03 states it, of N and M
--- of the head and the records as numbers, two for each (`ends_of`). So from peel, solve, check and surplus a list of ones gets the earlier answers
--- (document 02, item 4). Document 03 has no 20 and serves a list without pairs, which solve and check now turn down (document 02, item 6): its statements
--- hold of every call of the two that does not answer 20. A statement is a type; proofs/Says.antt has its theorem.
+-- Our contracts are no weaker than document 03's, 20 aside: of a list of ones, whatever a call of kandurzo answers and leaves is as document 03 states it, of N
+-- and M of the head and the records as numbers, two for each (`ends_of`). So from peel, solve, check and surplus a list of ones gets the earlier answers
+-- (document 02, item 4). Document 03 has no 20 and serves a list without pairs, which solve and check turn down (document 02, item 6): of these two its
+-- statements hold of every call that does not answer 20. A statement is a type; proofs/Says.antt has its theorem.
 --   Ones              the first M records count once each, as all pairs of document 03 do
 --   ListStated       list_says: 13 comes of head and records exactly where it comes of the numbers
 --   PeelStated       peel_says
 --   SolveStated      solve_says
 --   CheckStated      check_says
---   TwentyStated     twenty_says: where 20 comes instead
+--   TwentyStated     twenty_says: where 20 comes
 --   SurplusStated    surplus_says
 -- Assumes nothing: these are definitions.
 use Rattle.std.specs.Prelude.{◌≡◌, true, cond, List, ◌↔◌, ℕ, eqb, length, take}

@@ -5,6 +5,7 @@ use mathlib.Core.Path.{◌≡◌, refl}
 use mathlib.Core.Bool.{Bool, true, false, cond}
 use mathlib.Core.List.{List, [], ◌∷◌, ◌++◌}
 use Prim.Native.Nat.{ℕ}
+use native.Mathlib.Omega.{arith}
 use lib.ListN.{get_or, drop}
 use Rattle.theory.specs.Basics.{table, mark}
 use Rattle.theory.specs.Lists.{pair, stands_before, is_list}
@@ -35,7 +36,9 @@ use Rattle.pairfile.specs.File.{
   end_causes,
   read_pairs,
   read_file,
+  group_list,
 }
+use Rattle.pairfile.proofs.Grouped.{group_taken}
 use Rattle.lines.specs.Lines.{is_place, first, second, third, with_numbers, after_number, after_byte, line_of, filled}
 use Rattle.lines.specs.Outcomes.{taken, ◌>>=◌, ◌>>◌, passed, judge, line_or, line_due}
 use Rattle.sheetfile.specs.Sheet.{head_form, member_form}
@@ -51,10 +54,15 @@ unfolding tail_file tail of_modules pair stands_before cause refusal same_ends i
     pairs_causes pairs_line pair_line_causes pair_line end_causes read_pairs read_file
 tail_named = refl
 
+-- which has a pair
+tail_grouped : group_list tail_file ≡ taken tail
+unfolding tail of_modules
+tail_grouped = group_taken tail_file tail tail_named (omega arith)
+
 -- the seventh starred case
 tail_holds : (is_list tail ≡ true) × Found tail tail_found × (inside tail tail_found ≡ 6) × (size tail_found ≡ 4)
 unfolding StarredCases Holds Each starred row Meets
-tail_holds = let r = starred_cases.1.1.1.1.1.1.0 in (r.is_held, r.met.0.0, r.met.0.1, r.met.0.2)
+tail_holds = let r = starred_cases.1.1.1.1.1.1.0 in (r.is_held, r.met.0.1.0, r.met.0.1.1, r.met.0.1.2)
 
 -- its found group is the paper's, since a list has only one
 tail_group : found_of tail ≡ tail_found
@@ -100,4 +108,4 @@ tail_lines = rw (tail_holds.2, tail_holds.3, order_of_two, core_of_two, filled_r
 
 pub tail_printed : TailPrinted
 unfolding TailPrinted group_printed
-tail_printed = rw (tail_named, tail_group) tail_lines
+tail_printed = rw (tail_grouped, tail_group) tail_lines

@@ -28,8 +28,9 @@ use Rattle.refusals.specs.declared.Refusal.{Refusal}
 use Rattle.refusals.specs.Numbers.{number_of}
 use Rattle.lines.specs.Outcomes.{Outcome, refused, taken, number_given, outcome_of}
 use Rattle.lines.proofs.Taken.{refused_not_taken, taken_same}
-use Rattle.pairfile.specs.File.{read_file}
+use Rattle.pairfile.specs.File.{group_list}
 use Rattle.pairfile.proofs.Accepts.{accepted}
+use Rattle.pairfile.proofs.Grouped.{taken_group}
 use Rattle.on_words.specs.Buffers.{in_front}
 use Rattle.lines.specs.Putting.{Puts, Writes}
 use Rattle.lines.specs.declared.writer.Writer.{Writer}
@@ -105,12 +106,12 @@ found_best g l =
     let t = split_there g (found_of g) l f in
     (t.0, optimal g (found_of g) t.0 l f.group t.1 (omega (arith, t.2)))
 
-certificate_writable : (file : List ℕ) (g : Pairs) (s xs : List ℕ) → read_file 4096 file ≡ taken g → Optimal g s xs (inside g s) (size s) →
+certificate_writable : (file : List ℕ) (g : Pairs) (s xs : List ℕ) → group_list file ≡ taken g → Optimal g s xs (inside g s) (size s) →
     Writable g (certificate g s xs)
 unfolding certificate
 certificate_writable file g s xs e o = best_writable file g (certificate g s xs) e o refl refl
 
-accepted_certificate : (file : List ℕ) (g : Pairs) (s xs : List ℕ) → read_file 4096 file ≡ taken g → Optimal g s xs (inside g s) (size s) →
+accepted_certificate : (file : List ℕ) (g : Pairs) (s xs : List ℕ) → group_list file ≡ taken g → Optimal g s xs (inside g s) (size s) →
     audit file (sheet_file g (certificate g s xs)) ≡ taken (certificate g s xs)
 unfolding certificate AcceptsBack
 accepted_certificate file g s xs e o = accepts_back file g (certificate g s xs) e o refl refl
@@ -119,9 +120,9 @@ accepted_certificate file g s xs e o = accepts_back file g (certificate g s xs) 
 
 -- a file that is refused
 module _ {file members : List ℕ} {e : Refusal} {members' : List ℕ} (a : Answers file members (Err e) members') where
-  refused_by : read_file 4096 file ≡ refused (number_of e)
+  refused_by : group_list file ≡ refused (number_of e)
   unfolding answer_to outcome_of number_given
-  refused_by = go (read_file 4096 file) a.answer_is
+  refused_by = go (group_list file) a.answer_is
     where
       go : (o : Outcome Pairs) → answer_to o ≡ refused (number_of e) → o ≡ refused (number_of e)
       go (refused k) h = ap refused (ap number_given h)
@@ -134,24 +135,24 @@ module _ {file members : List ℕ} {e : Refusal} {members' : List ℕ} (a : Answ
     refused = λ k r. ap refusal_text (ap number_given (sym refused_by ∙ r));
   }
 
-  pub refusal_printed : refusal_text (number_of e) ≡ group_printed (read_file 4096 file)
+  pub refusal_printed : refusal_text (number_of e) ≡ group_printed (group_list file)
   unfolding group_printed
   refusal_printed = rw refused_by refl
 
 -- a file that names a list
 module _ {file members : List ℕ} {x : Answer} {members' : List ℕ} (a : Answers file members (Ok x) members') where
-  named : (g : Pairs) × (read_file 4096 file ≡ taken g) × (x ≡ group_answer g (found_of g))
+  named : (g : Pairs) × (group_list file ≡ taken g) × (x ≡ group_answer g (found_of g))
   unfolding answer_to outcome_of
-  named = go (read_file 4096 file) refl a.answer_is
+  named = go (group_list file) refl a.answer_is
     where
-      go : (o : Outcome Pairs) → read_file 4096 file ≡ o → answer_to o ≡ taken x →
-          (g : Pairs) × (read_file 4096 file ≡ taken g) × (x ≡ group_answer g (found_of g))
+      go : (o : Outcome Pairs) → group_list file ≡ o → answer_to o ≡ taken x →
+          (g : Pairs) × (group_list file ≡ taken g) × (x ≡ group_answer g (found_of g))
       go (refused k) e h = absurd (refused_not_taken h)
       go (taken g) e h = (g, e, sym (taken_same h))
 
-  module _ (g : Pairs) (e : read_file 4096 file ≡ taken g) (is : x ≡ group_answer g (found_of g)) where
+  module _ (g : Pairs) (e : group_list file ≡ taken g) (is : x ≡ group_answer g (found_of g)) where
     list : is_list g ≡ true
-    list = (accepted 4096 file g e).list
+    list = (accepted 4096 file g (taken_group file g e).0).list
 
     n_as : x.head.n ≡ g.n
     unfolding group_answer
@@ -182,7 +183,7 @@ module _ {file members : List ℕ} {x : Answer} {members' : List ℕ} (a : Answe
   pub answer_length : length (answer_lines x (take x.head.n members')) ≤ 6196
   answer_length = text_length named.0 named.1 named.2
 
-  pub group_lines : answer_lines x (take x.head.n members') ≡ group_printed (read_file 4096 file)
+  pub group_lines : answer_lines x (take x.head.n members') ≡ group_printed (group_list file)
   unfolding group_printed
   group_lines = lines_as named.0 named.1 named.2 ∙ ap group_printed (sym named.1)
 
@@ -191,12 +192,12 @@ module _ {file members : List ℕ} {x : Answer} {members' : List ℕ} (a : Answe
 module _ {file members cores shares words : List ℕ} {x : Answer} {members' cores' shares' words' : List ℕ}
     (s : Sheeted file members cores shares words (Ok x) members' cores' shares' words')
     (words_long : 12288 ≤ length words') where
-  module _ (g : Pairs) (e : read_file 4096 file ≡ taken g) (is : x ≡ group_answer g (found_of g)) where
+  module _ (g : Pairs) (e : group_list file ≡ taken g) (is : x ≡ group_answer g (found_of g)) where
     abbrev shares_of : List ℕ
     shares_of = take (length g.pairs) shares'
 
     held : Listed g
-    held = listed g (accepted 4096 file g e).list
+    held = listed g (accepted 4096 file g (taken_group file g e).0).list
 
     over : HandedOver g members cores shares words x members' cores' shares' words'
     over = rw is (s.taken g e)

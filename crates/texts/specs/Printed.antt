@@ -5,7 +5,7 @@
 --   ReadOf                    these bytes are a file's, to its end or as many as decide
 --   GroupRead, SheetRead, AuditRead    what is right of whatever files were read
 --   SheetAnswered             what `audit` prints of it; the theorem is `sheet_answered`
---   PairlessPrinted, PairlessTurned    what the three print of a file without pairs; the theorem is `pairless_turned`
+--   PairlessPrinted, PairlessTurned    what `group`, `sheet` and `audit` print of a file without pairs; the theorem is `pairless_turned`
 --   answer_lines, sheet_lines  the lines by the answer to a pair file and what stands beside it
 -- Assumes nothing: these are definitions.
 use Rattle.std.specs.Prelude.{◌≡◌, true, List, [], ◌∷◌, ◌++◌, ℕ, ◌≤◌, length, take, Result, IfOk, IfErr, OnErr}
@@ -82,12 +82,13 @@ SheetAnswered =
     (file : List ℕ) → ReadOf 65536 bytes file → (g : Pairs) → group_list file ≡ taken g →
     audit_text (audit file (take r out')) ≡ filled accepted_form (inside g (found_of g) ∷ size (found_of g) ∷ [])
 
--- OF A FILE THAT NAMES A LIST WITHOUT PAIRS `group` and `sheet` print 20 alone, and so does `audit`, whatever sheet it is handed
+-- `group` and `sheet` print the status line of 20 alone, and so does `audit`, whatever sheet it is handed
 pub record PairlessPrinted (file : List ℕ) : Type 0 where
   pub group : group_printed (group_list file) ≡ refusal_text 20
   pub sheet : (text : List ℕ) → SheetPrinted file text → text ≡ refusal_text 20
   pub audit : (sheet : List ℕ) → audit_text (audit file sheet) ≡ refusal_text 20
 
+-- SO THEY DO OF EVERY FILE THAT NAMES A LIST WITHOUT PAIRS
 unfoldable pub PairlessTurned : Type 0
 PairlessTurned = (file : List ℕ) (g : Pairs) → read_file 4096 file ≡ taken g → g.pairs ≡ [] → PairlessPrinted file
 

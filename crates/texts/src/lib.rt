@@ -117,7 +117,7 @@ fn write_sheet(
     );
 }
 
-// The text of the group of the list that a pair file names; answers how long it is, or refuses by the file's numbers.
+// The text of the group of the list that a pair file names; answers how long it is, or refuses by the file's numbers, 20.
 fn write_answer(file: &[u8], out: &mut [u8]) -> Result<usize, Refusal>
     requires { 8192 ≤ length out.old }
     ensures { TextWritten (GroupRead file.now) out.old out.new result }
@@ -129,7 +129,7 @@ fn write_answer(file: &[u8], out: &mut [u8]) -> Result<usize, Refusal>
     Ok(writer.at)
 }
 
-// The text of its sheet; answers how long it is, or refuses by the file's numbers.
+// The text of its sheet; answers how long it is, or refuses by the file's numbers, 20.
 fn write_certificate(file: &[u8], out: &mut [u8]) -> Result<usize, Refusal>
     requires { 140000 ≤ length out.old }
     ensures { TextWritten (SheetRead file.now) out.old out.new result }

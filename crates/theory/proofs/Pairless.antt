@@ -4,6 +4,7 @@
 --   none_turned, some_served          the number given, where M is 0 and where it is not
 --   served_some, turned_none          and back
 --   zero_or_twenty                    no other number is given
+--   judged_turned, judged_served      check's number: 20, or that of group and shares
 -- Assumes nothing.
 use mathlib.Core.Path.{◌≡◌}
 use mathlib.Core.Bool.{true, false}
@@ -11,9 +12,12 @@ use mathlib.Core.List.{List, [], ◌++◌}
 use Prim.Native.Nat.{ℕ, ◌≤◌}
 use native.Mathlib.Omega.{arith}
 use lib.Dec.{eqb}
+use lib.ListN.{length}
 use borrow.Author.Tests.{eqb-true, eqb-false, ne_eqb}
 use Rattle.theory.specs.Refusals.{Cause, cause, refusal}
-use Rattle.theory.specs.Pairless.{no_pair, group_causes, group_number}
+use Rattle.theory.specs.Lists.{Pairs}
+use Rattle.theory.specs.Check.{check_causes, check_number}
+use Rattle.theory.specs.Pairless.{no_pair, group_causes, group_number, judged_causes, judged_number}
 use Rattle.theory.proofs.Tests.{by_test}
 
 module _ (m : ℕ) where
@@ -53,3 +57,12 @@ module _ (m : ℕ) where
 
   pub zero_or_twenty : {k : ℕ} → group_number m ≡ k → (k ≡ 0 → ⊥) → k ≡ 20
   zero_or_twenty e n = by_pairs (λ z. omega (arith, e, none_turned z)) (λ l. absurd (n (omega (arith, e, some_served l))))
+
+module _ (g : Pairs) (s xs : List ℕ) where
+  pub judged_turned : no_pair (length g.pairs) ≡ true → judged_number g s xs ≡ 20
+  unfolding judged_number judged_causes
+  judged_turned e = pairless_then (length g.pairs) (check_causes g s xs) e
+
+  pub judged_served : no_pair (length g.pairs) ≡ false → judged_number g s xs ≡ check_number g s xs
+  unfolding judged_number judged_causes check_number
+  judged_served e = paired_then (length g.pairs) (check_causes g s xs) e

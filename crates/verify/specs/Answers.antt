@@ -1,4 +1,4 @@
--- Document 01, "Check" and "Surplus": what the two calls answer of a held list, once 13 and 12 do not hold.
+-- Document 01, "Check" and "Surplus": what the two calls answer of a held list, once 13, 12 and check's 20 do not hold.
 --   refused_by, verdict_of    check's answer in C's form
 --   difference_of             surplus's answer in C's form
 --   CheckSays                 check's answer, with demand 3 of whatever it accepts

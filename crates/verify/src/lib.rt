@@ -2,8 +2,8 @@
 // Check counts P and Q of the group itself (crate `groups`), tests each share against its pair's units at share size Q, adds up the load of each
 // module, and accepts where no load is above P: then group and split are both best (demand 3, `Optimal`). Surplus is the
 // difference of two products, as i64. Both cost a few passes over modules and pairs, and write nothing.
-// A share is the units of its pair's smaller end. The list has been found good and every buffer long enough (13 and 12 are the caller's); the refusals here
-// are 7, 8 and 9, in document 01's order.
+// A share is the units of its pair's smaller end. The list has been found good and every buffer long enough (13, 12 and check's 20 are the caller's); the
+// refusals here are 7, 8 and 9, in document 01's order.
 #![tactic(auto)]
 
 mod split;

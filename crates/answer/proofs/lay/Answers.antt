@@ -1,6 +1,6 @@
 -- `answer::lay` meets its contract: the ends are copied, and the counts behind them.
 use Rattle.std.proofs.Common.{refl, sym, arith}
-use Rattle.answer.proofs.Laying.{ends_count, ends_within, words_count, ends_room, lays_pairs, lays_past}
+use Rattle.answer.proofs.Laying.{ends_count, ends_within, words_count, ends_room, lays_pairs, lays_past, lays_none}
 use Rattle.answer.proofs.lay.Goals as goal
 
 pub slice_bounds-copy_from_slice-end : goal.slice_bounds-copy_from_slice-end
@@ -36,3 +36,8 @@ pub returns-clause-past : goal.returns-clause-past
 returns-clause-past c =
     let l = c.args.list in
     lays_past l.n l.m l.ends.now l.weights.now c.args.words.now l.held c.requires c.copy_from_slice.ensures.after c.copy_from_slice-2.ensures.after
+
+pub returns-clause-none : goal.returns-clause-none
+returns-clause-none c =
+    let l = c.args.list in
+    lays_none l.n l.m l.ends.now l.weights.now c.args.words.now l.held c.requires c.copy_from_slice.ensures.after c.copy_from_slice-2.ensures.after

@@ -1,21 +1,25 @@
--- `on_words::solving::solve_on_words` meets its contract: solve on the front of the words, and zeros in the end. Assumes nothing.
-use mathlib.Core.Path.{◌≡◌, refl, ◌∙◌}
+-- `on_words::solving::solve_on_words` meets its contract: 20, or solve on the front of the words, and zeros in the end. Assumes nothing.
+use mathlib.Core.Path.{◌≡◌, ◌∙◌}
 use native.Mathlib.Omega.{arith}
 use lib.ListN.{length, take, drop}
 use lib.Seq.{length-take-le, drop_at}
 use Rattle.on_words.proofs.Filling.{cleared_past}
-use Rattle.on_words.proofs.Sheets.{front_list, handed}
+use Rattle.on_words.proofs.Sheets.{front_list}
+use Rattle.on_words.proofs.Pairless.{solve_turned, solve_served}
 use Rattle.on_words.proofs.solving.solve_on_words.Goals as goal
+use Rattle.on_words.proofs.solving.solve_on_words.Goals.{in-Err, in-Ok}
 
 pub returns : goal.returns
-returns c =
-    let w = c.args.work.now in
+returns c = elim c.match-check_some_pair.branch [
+  in-Err w ↦
+    rw (w.found-is, w.members-is, w.cores-is, w.shares-is)
+    (solve_turned _ _ _ _ (rw w.work-is at c.clear.ensures) (w.in-Err.ensures tt))
+  | in-Ok w ↦
+    let work = c.args.work.now in
     let holds = c.requires.holds_list in
-    let front_long : length (take 12288 w) ≡ 12288 = length-take-le 12288 w holds.long in
-    record {
-      number = refl;
-      handed = handed _ holds.listed _ _ _ _ _ _ _ (rw (front_list _ _ w holds) at c.solve-found.ensures);
-      left =
-          c.clear.ensures
-          ∙ cleared_past 12288 _ _ (omega arith) (drop_at c.solve-found.new.words (drop 12288 w) 12288 (c.solve-found.auto.words ∙ front_long));
-    }
+    let front_long : length (take 12288 work) ≡ 12288 = length-take-le 12288 work holds.long in
+    let past = drop_at w.solve.new.words (drop 12288 work) 12288 (w.solve.auto.words ∙ front_long) in
+    rw (w.found-is, w.members-is, w.cores-is, w.shares-is)
+    (solve_served _ _ _ _ ((rw w.work-is at c.clear.ensures) ∙ cleared_past 12288 _ _ (omega arith) past) (w.in-Ok.ensures tt) holds
+    (rw (front_list _ _ work holds) at w.solve.ensures))
+]
