@@ -28,9 +28,9 @@ use Rattle.answer.specs.Answers.{group_answer, answer_to, members_after, solved_
 
 module _ (bytes members cores shares words : List ℕ) where
   -- the list of the file is refused, and all buffers are as they were
-  declined_as : {e : Refusal} → group_list bytes ≡ refused (number_of e) → Sheeted bytes members cores shares words (Err e) members cores shares words
+  declined_as : (e : Refusal) → group_list bytes ≡ refused (number_of e) → Sheeted bytes members cores shares words (Err e) members cores shares words
   unfolding outcome_of answer_to members_after
-  declined_as r = record {
+  declined_as e r = record {
     answers = record { answer_is = rw r refl; members_are = rw r refl };
     taken = λ g t. absurd (refused_not_taken (sym r ∙ t));
     refused = λ k s. (refl, refl, refl);
@@ -39,7 +39,7 @@ module _ (bytes members cores shares words : List ℕ) where
   pub refused_as : {old work : List ℕ} {e : Refusal} → FileRead 4096 bytes old work (Err e) →
       Sheeted bytes members cores shares words (Err e) members cores shares words
   unfolding outcome_of
-  refused_as f = declined_as (group_refused bytes f.found)
+  refused_as f = declined_as _ (group_refused bytes f.found)
 
   module _ {head : Head} {old work : List ℕ} (f : FileRead 4096 bytes old work (Ok head)) where
     abbrev g : Pairs
@@ -53,7 +53,7 @@ module _ (bytes members cores shares words : List ℕ) where
     unfolding laid_list
     m_as = sym (length_laid head.m work)
 
-    module _ {e : Refusal} {members' cores' shares' work' words' : List ℕ}
+    module _ (e : Refusal) {members' cores' shares' work' words' : List ℕ}
         (s : SolveOn head members cores shares work (record_of (Err e)) members' cores' shares' work') (none : head.m ≡ 0 → words' ≡ words) where
       pub turned_as : Sheeted bytes members cores shares words (Err e) members' cores' shares' words'
       unfolding declined
@@ -63,7 +63,7 @@ module _ (bytes members cores shares words : List ℕ) where
           let z : head.m ≡ 0 = turned_none head.m (sym n ∙ twenty) in
           let kept = s.refused (numbered e) in
           rw (kept.members_are, kept.cores_are, kept.shares_are, none z)
-          (declined_as (rw (← twenty) at (group_pairless bytes g named (omega (arith, m_as, z)))))
+          (declined_as e (rw (← twenty) at (group_pairless bytes g named (omega (arith, m_as, z)))))
 
     module _ (h : HoldsList head.n head.m work) {found : Solved} {members' cores' shares' work' : List ℕ}
         (s : SolveOn head members cores shares work found members' cores' shares' work') (taken_by : found.number ≡ 0) where

@@ -113,17 +113,17 @@ module _ (h : Head) (ps : List Pair) (members cores shares work : List ℕ) {r :
   abbrev u : Pairs
   u = held_list h ps
 
-  open : (agrees h ps ≡ true) × (any_short (solve_buffers h (length members) (length cores) (length shares) (length work)) ≡ false)
+  gate_passed : (agrees h ps ≡ true) × (any_short (solve_buffers h (length members) (length cores) (length shares) (length work)) ≡ false)
       × (refusal (group_causes h.m) ≡ 0)
   unfolding solve_call_causes group_causes
-  open = gate_all (agrees h ps) _ (group_causes h.m) (sym call.number.outright ∙ z)
+  gate_passed = gate_all (agrees h ps) _ (group_causes h.m) (sym call.number.outright ∙ z)
 
   solved_agrees : agrees h ps ≡ true
-  solved_agrees = open.0
+  solved_agrees = gate_passed.0
 
   some_pair : 1 ≤ h.m
   unfolding group_number
-  some_pair = served_some h.m open.2
+  some_pair = served_some h.m gate_passed.2
 
   m_held : length u.pairs ≡ h.m
   m_held = length_held h ps solved_agrees

@@ -70,43 +70,49 @@ module _ (h : Head) (ps : List Pair) (members shares work : List ℕ)
         left = gate_left (agrees h ps) short work f (numbered e);
       }
 
-  pub check_done : 0 ≡ gate_number (agrees h ps) short → {words : List ℕ} → Laid h ps work words → {v : Verdict} {work' : List ℕ} →
-      CheckOn h members shares words v work' → CheckCall h ps members shares work v work'
-  check_done f laid {v} {work'} on = by_test (no_pair h.m) pairless judged
-    where
-      m_held : length (held_list h ps).pairs ≡ h.m
-      m_held = length_held h ps laid.agreed
+  module _ (f : 0 ≡ gate_number (agrees h ps) short) {words : List ℕ} (laid : Laid h ps work words) {v : Verdict} {work' : List ℕ}
+      (on : CheckOn h members shares words v work') where
+    m_held : length (held_list h ps).pairs ≡ h.m
+    m_held = length_held h ps laid.agreed
 
-      -- the causes behind 13 and 12 decide
-      decides : {k : ℕ} → v.number ≡ k → refusal rest ≡ k → (k ≡ 12 → ⊥) → (k ≡ 13 → ⊥) →
-          (v.number ≡ refusal (check_call_causes h ps members shares work)) × (work' ≡ work_left v.number work)
-      unfolding check_call_causes
-      decides {k} e d a b = (
-        e ∙ sym d ∙ sym (rw is at (gate_then (agrees h ps) short rest (sym f))),
-        on.left ∙ laid.left ∙ sym (work_zeros v.number work (λ x. a (sym e ∙ x)) (λ x. b (sym e ∙ x))),
-      )
+    -- the causes behind 13 and 12 decide
+    number_is : {k : ℕ} → v.number ≡ k → refusal rest ≡ k → v.number ≡ refusal (check_call_causes h ps members shares work)
+    unfolding check_call_causes rest
+    number_is e d = e ∙ sym d ∙ sym (rw is at (gate_then (agrees h ps) short rest (sym f)))
 
-      pairless : no_pair h.m ≡ true → CheckCall h ps members shares work v work'
-      unfolding if_taken rest judged_number
-      pairless t =
-          let is_20 = on.pairless t in
-          let number : v.number ≡ 20 = ap (λ (u : Verdict). u.number) is_20 in
-          let d = decides number (judged_turned _ _ _ (rw m_held t)) (λ x. omega arith) (λ x. omega arith) in
-          record {
-            number = d.0;
-            p = rw is_20 refl;
-            q = rw is_20 refl;
-            optimal = λ z. absurd (omega (arith, z, number));
-            left = d.1;
-          }
+    left_is : {k : ℕ} → v.number ≡ k → (k ≡ 12 → ⊥) → (k ≡ 13 → ⊥) → work' ≡ work_left v.number work
+    left_is e a b = on.left ∙ laid.left ∙ sym (work_zeros v.number work (λ x. a (sym e ∙ x)) (λ x. b (sym e ∙ x)))
 
-      judged : no_pair h.m ≡ false → CheckCall h ps members shares work v work'
-      unfolding judged_number rest
-      judged t =
-          let says : CheckSays (held_list h ps) (take h.n members) (take h.m shares) v = rw laid.list at (on.judged t) in
-          let low = check_few (held_list h ps) (take h.n members) (take h.m shares) in
-          let d = decides says.number (judged_served _ _ _ (rw m_held t)) (λ x. omega (arith, x, low)) (λ x. omega (arith, x, low)) in
-          record { number = d.0; p = rw says.number says.p; q = rw says.number says.q; optimal = says.optimal; left = d.1 }
+    -- of a list without pairs
+    done_turned : no_pair h.m ≡ true → CheckCall h ps members shares work v work'
+    unfolding if_taken rest judged_number
+    done_turned t =
+        let is_20 = on.pairless t in
+        let number : v.number ≡ 20 = ap (λ (u : Verdict). u.number) is_20 in
+        record {
+          number = number_is number (judged_turned _ _ _ (rw m_held t));
+          p = rw is_20 refl;
+          q = rw is_20 refl;
+          optimal = λ z. absurd (omega (arith, z, number));
+          left = left_is number (λ x. omega (arith, x)) (λ x. omega (arith, x));
+        }
+
+    -- and of one with a pair
+    done_judged : no_pair h.m ≡ false → CheckCall h ps members shares work v work'
+    unfolding check_number rest judged_number
+    done_judged t =
+        let says : CheckSays (held_list h ps) (take h.n members) (take h.m shares) v = rw laid.list at (on.judged t) in
+        let low = check_few (held_list h ps) (take h.n members) (take h.m shares) in
+        record {
+          number = number_is says.number (judged_served _ _ _ (rw m_held t));
+          p = rw says.number says.p;
+          q = rw says.number says.q;
+          optimal = says.optimal;
+          left = left_is says.number (λ x. omega (arith, x, low)) (λ x. omega (arith, x, low));
+        }
+
+    pub check_done : CheckCall h ps members shares work v work'
+    check_done = by_test (no_pair h.m) done_turned done_judged
 
 -- ---- surplus
 

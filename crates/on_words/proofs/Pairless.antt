@@ -26,16 +26,16 @@ use Rattle.on_words.specs.Solving.{declined, solved_of, SolveOn}
 use Rattle.on_words.proofs.Sheets.{handed}
 
 module _ (h : Head) where
-  turned : {e : Refusal} → number_of e ≡ group_number h.m → (number_of e ≡ 20) × (no_pair h.m ≡ true)
-  turned {e} n = let t = zero_or_twenty h.m (sym n) (numbered e) in (t, pairless h.m (turned_none h.m (sym n ∙ t)))
+  turned : (e : Refusal) → number_of e ≡ group_number h.m → (number_of e ≡ 20) × (no_pair h.m ≡ true)
+  turned e n = let t = zero_or_twenty h.m (sym n) (numbered e) in (t, pairless h.m (turned_none h.m (sym n ∙ t)))
 
   served : 0 ≡ group_number h.m → no_pair h.m ≡ false
   served n = paired h.m (served_some h.m (sym n))
 
   module _ (members shares : List ℕ) {work work' : List ℕ} (left : work' ≡ cleared work) where
-    pub check_turned : {e : Refusal} → number_of e ≡ group_number h.m → CheckOn h members shares work (verdict_of (Err e)) work'
-    check_turned {e} n =
-        let t = turned n in
+    pub check_turned : (e : Refusal) → number_of e ≡ group_number h.m → CheckOn h members shares work (verdict_of (Err e)) work'
+    check_turned e n =
+        let t = turned e n in
         record { pairless = λ _. ap refused_by t.0; judged = λ f. no (sym f ∙ t.1); left = left }
 
     pub check_served : 0 ≡ group_number h.m → {v : Verdict} → CheckSays (laid_list h.n h.m work) (take h.n members) (take h.m shares) v →
@@ -43,10 +43,10 @@ module _ (h : Head) where
     check_served n says = record { pairless = λ t. no (sym (served n) ∙ t); judged = λ _. says; left = left }
 
   module _ (members cores shares : List ℕ) {work work' : List ℕ} (left : work' ≡ cleared work) where
-    pub solve_turned : {e : Refusal} → number_of e ≡ group_number h.m →
+    pub solve_turned : (e : Refusal) → number_of e ≡ group_number h.m →
         SolveOn h members cores shares work (solved_of (Err e)) members cores shares work'
     unfolding declined
-    solve_turned {e} n =
+    solve_turned e n =
         record {
           number = n;
           handed = λ z. absurd (numbered e z);

@@ -9,7 +9,7 @@
 use mathlib.Core.Path.{◌≡◌, refl, sym, ap, ◌∙◌}
 use mathlib.Core.Bool.{Bool, true, false, ◌&&◌, ◌||◌, not, cond, or-false}
 use mathlib.Core.List.{List, [], ◌∷◌}
-use mathlib.Core.Logic.{inl}
+use mathlib.Core.Logic.{inl, ◌↔◌}
 use Prim.Native.Nat.{ℕ, zero, suc}
 use native.Mathlib.Omega.{arith}
 use lib.Dec.{eqb, ltb}
@@ -279,7 +279,7 @@ module _ (h : Head) (ps : List Pair) (members cores shares work : List ℕ) (r :
   solve_order_is = gate_order h ps once solve_short
 
   solve_open : (k : ℕ) → r.number ≡ k → k ≡ 0 → agrees h ps ≡ true
-  unfolding solve_call_causes
+  unfolding solve_call_causes group_causes
   solve_open k e z = agreed h ps _ (group_causes h.m) (sym call.number.outright ∙ e ∙ z)
 
   -- the found group and a split at its size are handed out, so 15 never comes; or the call is refused
