@@ -18,8 +18,11 @@ int main(void) {
     }
     kandurzo_solved_t found = kandurzo_solve(file.head, list, KANDURZO_PAIRS, members, KANDURZO_MODULES, cores, KANDURZO_MODULES, shares,
                                              KANDURZO_PAIRS, work, KANDURZO_WORK);
-    printf("status=%" PRIu32 "\nratio=%" PRIu32 "/%" PRIu32 "\ncore=%" PRIu32 ",%" PRIu32 "\n", found.number, found.p, found.q, found.k,
-           found.coresize);
+    if (found.number != 0) {
+        printf("status=%" PRIu32 "\n", found.number);
+        return 0;
+    }
+    printf("status=0\nratio=%" PRIu32 "/%" PRIu32 "\ncore=%" PRIu32 ",%" PRIu32 "\n", found.p, found.q, found.k, found.coresize);
     for (uint32_t v = 0; v < file.head.n; v++)
         if (members[v]) printf("member=%" PRIu32 "\n", v);
     return 0;

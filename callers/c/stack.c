@@ -2,8 +2,8 @@
  *
  * A thread's stack is lent and painted beforehand, and the pages below it cannot be touched: the lowest byte that lost its paint shows how deep the call
  * went, counted from the thread's own function, thus some bytes too many. What a thread needs to start comes on top, as the system states it. The lists
- * are one pair of two modules, and two of 512 modules and 4,096 pairs, with stop counts and with counts of 1. Every number that a call can answer is met, 15
- * aside. */
+ * are one pair of two modules, and two of 512 modules and 4,096 pairs, with stop counts and with counts of 1; and those of as many modules without pairs.
+ * Every number that a call can answer is met, 15 aside. */
 #define _DEFAULT_SOURCE
 #include <pthread.h>
 #include <signal.h>
@@ -346,10 +346,8 @@ static void dimacs_files(void) {
     run(READ_DIMACS, 17);
 }
 
-/* Peel, solve, check and surplus, on an agreeing list and head and on others, with right and wrong groups and shares. */
-static void searches(void) {
-    memset(others, 1, sizeof others);
-    for (enum call call = PEEL; call <= SURPLUS; call++) run(call, 0);
+/* Peel, solve, check and surplus, with short buffers, and on a list and a head that disagree. */
+static void searches_refused(void) {
     entries = head.n - 1;
     for (enum call call = PEEL; call <= SURPLUS; call++) run(call, 12);
     entries = KANDURZO_MODULES;
@@ -357,6 +355,13 @@ static void searches(void) {
     head.n = 0;
     for (enum call call = PEEL; call <= SURPLUS; call++) run(call, 13);
     head.n = n;
+}
+
+/* Peel, solve, check and surplus, on an agreeing list and head and on others, with right and wrong groups and shares. */
+static void searches(void) {
+    memset(others, 1, sizeof others);
+    for (enum call call = PEEL; call <= SURPLUS; call++) run(call, 0);
+    searches_refused();
     shares[0] = list[0].w * q + 1;
     run(CHECK, 8);
     memset(members, 0, sizeof members);
@@ -365,6 +370,34 @@ static void searches(void) {
     memset(shares, 0, sizeof shares);
     members[0] = 1;
     run(CHECK, 9);
+}
+
+/* As many modules without pairs: solve and check turn such a list down, whatever the group is, and all else serves it, also once a pair has come and gone. */
+static void no_pairs(void) {
+    head = kandurzo_start(head.n).head;
+    memset(others, 1, sizeof others);
+    for (int turn = 0; turn < 2; turn++) {
+        a = 0, b = head.n - 1, w = KANDURZO_STOPS;
+        stands(0, 0);
+        run(REMOVE, 14);
+        run(REMOVE_FROM, 14);
+        run(PEEL, 0);
+        run(SOLVE, 20);
+        for (int byte = 2; byte >= 0; byte--) {
+            memset(members, byte, sizeof members);
+            run(CHECK, 20);
+            run(SURPLUS, byte == 1 ? 0 : 7);
+        }
+        searches_refused();
+        write_file(0);
+        run(READ, 0);
+        run(WRITE_DIMACS, 0);
+        memcpy(file, text, count);
+        run(READ_DIMACS, 0);
+        run(turn == 0 ? ADD : ADD_TO, 0);
+        searches();
+        run(turn == 0 ? REMOVE : REMOVE_FROM, 0);
+    }
 }
 
 int main(void) {
@@ -386,6 +419,7 @@ int main(void) {
         searches();
         dimacs_files();
         searches();
+        no_pairs();
     }
     for (enum call call = START; call < CALLS; call++) {
         printf("%-12s %6zu bytes of stack used, %6zu stated\n", calls[call].name, calls[call].used, calls[call].stated);

@@ -5,7 +5,7 @@ mod plain;
 
 use kandurzo::ffi::{self, Changed, Difference, Placed, Solved, Verdict, Written};
 use kandurzo::{Head, Pair};
-use plain::buffers::{bytes, halves, in_front, words, work, work_after, Met, WORK};
+use plain::buffers::{bytes, halves, in_front, pairs, words, work, work_after, Met, WORK};
 use plain::{ends, lists, Plain, Random};
 use std::collections::BTreeMap;
 use std::mem::{align_of, offset_of, size_of};
@@ -131,7 +131,7 @@ fn peel() {
     met.are(&[0, 12, 13]);
 }
 
-/// What document 01 says of solve's answer for a list, shares of pairs inside the core of order K being free.
+/// What document 01 says of solve's answer for a list with a pair, shares of pairs inside the core of order K being free.
 fn is_answer(list: &Plain, solved: Solved, members: &[u8], cores: &[u32], shares: &[u32]) {
     let (p, q) = (solved.p as usize, solved.q as usize);
     assert_eq!(members, list.largest_by_split(shares, p, q), "the largest group of that ratio");
@@ -153,6 +153,11 @@ fn is_answer(list: &Plain, solved: Solved, members: &[u8], cores: &[u32], shares
     }
 }
 
+/// Solve's answer where it refuses.
+fn refused(number: u32) -> Solved {
+    Solved { number, p: 0, q: 0, k: 0, coresize: 0, ratio: 0.0 }
+}
+
 #[test]
 fn solve() {
     let (mut random, mut met) = (Random(5), Met::default());
@@ -165,14 +170,20 @@ fn solve() {
             (bytes(&mut random, x), words(&mut random, y), words(&mut random, z));
         let mut work = work(&mut random);
         let short = x < n || y < n || z < m || work.len() < WORK;
-        let number = if !plain::agree(head, &list) { 13 } else { 12 * short as u32 };
+        let number = if !plain::agree(head, &list) {
+            13
+        } else if short {
+            12
+        } else {
+            20 * (m == 0) as u32
+        };
         let before = (members.clone(), cores.clone(), shares.clone());
         let cleared = work_after(number, &work);
         let solved = ffi::solve(head, &list, &mut members, &mut cores, &mut shares, &mut work);
         assert!(work == cleared, "the work buffer after {number}");
         met.see(solved.number);
         if number != 0 {
-            assert_eq!(solved, Solved { number, p: 0, q: 0, k: 0, coresize: 0, ratio: 0.0 });
+            assert_eq!(solved, refused(number));
             assert_eq!((members, cores, shares), before);
             continue;
         }
@@ -187,7 +198,7 @@ fn solve() {
         assert_eq!(ffi::solve(head, &list, &mut again, &mut twice, &mut thrice, &mut [0; WORK]), solved);
         assert_eq!((&again[..], &twice[..], &thrice[..]), (&members[..n], &cores[..n], &shares[..m]));
     }
-    met.are(&[0, 12, 13]);
+    met.are_each(100, &[0, 12, 13, 20]);
 }
 
 /// Member bytes: a random set, now and then with something wrong; bytes past N are anything.
@@ -234,7 +245,7 @@ fn altered(random: &mut Random, list: &Plain, q: usize, members: &mut [u8], shar
 
 #[test]
 fn check() {
-    let (mut random, mut met) = (Random(6), Met::default());
+    let (mut random, mut met, mut no_group) = (Random(6), Met::default(), 0);
     for _ in 0..12_000 {
         let drawn = lists::any(&mut random);
         let (head, list) = lists::lent(&mut random, &drawn);
@@ -243,8 +254,8 @@ fn check() {
         let mut members = set(&mut random, n, x);
         let size = members.iter().take(n).filter(|&&x| x == 1).count();
         let mut shares = any_shares(&mut random, &drawn, size, z);
-        // mostly solve's own answer, as it is or with one entry altered; else any set and any shares
-        if !random.once_in(3) {
+        // mostly solve's own answer, as it is or with one entry altered; else, and where the list has no pair, any set and any shares
+        if m > 0 && !random.once_in(3) {
             let (mut found, mut sheet) = (vec![0; n], vec![0; m]);
             let q =
                 ffi::solve(drawn.head(), &drawn.records(), &mut found, &mut vec![0; n], &mut sheet, &mut [0; WORK]).q;
@@ -254,12 +265,14 @@ fn check() {
         }
         let mut work = work(&mut random);
         let (number, p, q) = plain::check(head, &list, &members, &shares, work.len());
+        no_group += u32::from(number == 20 && !plain::is_group(n, &members));
         let cleared = work_after(number, &work);
         assert_eq!(ffi::check(head, &list, &members, &shares, &mut work), Verdict { number, p, q });
         assert!(work == cleared, "the work buffer after {number}");
         met.see(number);
     }
-    met.are_each(100, &[0, 7, 8, 9, 12, 13]);
+    met.are_each(100, &[0, 7, 8, 9, 12, 13, 20]);
+    assert!(no_group >= 20, "20 before 7, {no_group} times");
 }
 
 #[test]
@@ -275,4 +288,40 @@ fn surplus() {
         met.see(number);
     }
     met.are(&[0, 7, 12, 13]);
+}
+
+/// Solve and check with so many member bytes and core numbers, shares and words of work, all of anything: this number and nothing beside it from both.
+fn turned_down(random: &mut Random, head: Head, list: &[Pair], [x, z, words_of_work]: [usize; 3], number: u32) {
+    let (mut members, mut cores, mut shares) = (bytes(random, x), words(random, x), words(random, z));
+    let (before, work) = ((members.clone(), cores.clone(), shares.clone()), words(random, words_of_work));
+    let (mut after, cleared) = (work.clone(), work_after(number, &work));
+    assert_eq!(ffi::solve(head, list, &mut members, &mut cores, &mut shares, &mut after), refused(number));
+    assert_eq!((&members, &cores, &shares), (&before.0, &before.1, &before.2));
+    assert!(after == cleared, "the work buffer after {number} of solve");
+    for group in [vec![1; x], vec![0; x], vec![2; x], members] {
+        after = work.clone();
+        assert_eq!(ffi::check(head, list, &group, &shares, &mut after), Verdict { number, p: 0, q: 0 });
+        assert!(after == cleared, "the work buffer after {number} of check");
+    }
+}
+
+/// 13, 12 and 20, whatever the records past M = 0, the group and the shares are.
+#[test]
+fn lists_without_pairs() {
+    let mut random = Random(8);
+    for n in [1, 2, 3, 12, 512] {
+        let own = lists::uniform(&mut random, n, 20).records();
+        for list in [vec![], own, pairs(&mut random, 9), vec![Pair::default(); 4096]] {
+            let head = Head { n: n as u32, m: 0 };
+            for lengths in [[n, 0, WORK], [n, 9, WORK], [n + 1, 1, WORK + 1]] {
+                turned_down(&mut random, head, &list, lengths, 20);
+            }
+            for lengths in [[n - 1, 0, WORK], [n, 0, WORK - 1], [0, 0, 0]] {
+                turned_down(&mut random, head, &list, lengths, 12);
+            }
+            for n in [0, 513] {
+                turned_down(&mut random, Head { n, m: 0 }, &list, [n as usize, 0, WORK], 13);
+            }
+        }
+    }
 }

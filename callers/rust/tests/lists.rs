@@ -1,7 +1,7 @@
-//! `List`: the lists that document 01 tries by hand, and long runs of edits against a table of pairs and their stop counts.
+//! `List`: the lists that document 01 tries by hand, lists without pairs, and long runs of edits against a table of pairs and their stop counts.
 mod plain;
 
-use kandurzo::{List, Refusal};
+use kandurzo::{List, Pair, Peeling, Place, Refusal};
 use plain::{dimacs, files, lists, Plain, Random};
 use std::collections::BTreeMap;
 
@@ -27,7 +27,9 @@ const TAIL: [(u32, u32); 7] = [(0, 1), (0, 2), (0, 3), (1, 2), (1, 3), (2, 3), (
 
 #[test]
 fn tried_by_hand() {
-    assert_eq!(found(&mut list(1, &[])), (0, 1, vec![0]));
+    // 0/1 and member 0 in document 01; 20 since document 02, item 6
+    let mut lone = list(1, &[]);
+    assert_eq!((number(lone.solve()), number(lone.check(&[1], &[]))), (20, 20));
     assert_eq!(found(&mut list(2, &[(0, 1)])), (1, 2, vec![0, 1]));
     let mut path = list(3, &[(0, 1), (1, 2)]);
     assert_eq!((found(&mut path), path.peel().unwrap().cores), ((2, 3, vec![0, 1, 2]), vec![1, 1, 1]));
@@ -72,6 +74,43 @@ fn refusals_have_numbers_and_texts() {
         "10: the pair is named on an earlier line"
     );
     assert_eq!(tail.check(&[1; 5], &[6; 7]).unwrap_err().text(), "a share above W times Q among the first M");
+    let mut none = list(5, &[]);
+    assert_eq!(none.solve().unwrap_err().to_string(), "20: the list holds no pair");
+    assert_eq!(none.check(&[1; 5], &[]).unwrap_err().text(), "the list holds no pair");
+    assert_eq!((number(none.check(&[2; 5], &[])), number(none.check(&[0; 5], &[u32::MAX; 7]))), (20, 20));
+    assert_eq!((number(none.check(&[1; 4], &[])), number(none.check(&[], &[0; 7]))), (12, 12));
+}
+
+/// A list without pairs, which has no group: solve and check turn it down, all else serves it.
+fn turned_down(list: &mut List) {
+    let n = list.modules();
+    let (all, one) = (vec![1; n], [&[1][..], &vec![0; n - 1]].concat());
+    assert_eq!((number(list.solve()), number(list.check(&all, &[])), number(list.check(&one, &[0]))), (20, 20, 20));
+    assert_eq!(list.peel(), Ok(Peeling { order: (0..n as u16).collect(), cores: vec![0; n] }));
+    assert_eq!((list.surplus(&all, &one), number(list.surplus(&one, &vec![0; n]))), (Ok(0), 7));
+    assert_eq!(list.write_dimacs(), Ok(format!("p edge {n} 0\n").into_bytes()));
+    assert!(list.pairs().is_empty());
+}
+
+#[test]
+fn no_stops_no_group() {
+    for n in [1, 2, 3, 12, 512] {
+        turned_down(&mut list(n, &[]));
+        turned_down(&mut List::read(&files::of(n as usize, &[])).unwrap());
+        turned_down(&mut List::read_dimacs(format!("c no stops\np edge {n} 0\n").as_bytes()).unwrap());
+    }
+    // new machine types get their first stops, and lose them
+    for n in [2, 3, 12, 512] {
+        let (mut machine, last) = (list(n, &[]), n - 1);
+        assert_eq!((machine.place(last, 0), number(machine.remove(0, last))), (Ok(Place { held: false, at: 0 }), 14));
+        for stops in [1, 1000] {
+            machine.add(last, 0, stops).unwrap();
+            assert_eq!(machine.pairs(), [Pair { a: 0, b: last as u16, w: stops as u16 }]);
+            assert_eq!(found(&mut machine), (stops, 2, vec![0, last as usize]));
+            machine.remove(0, last).unwrap();
+            turned_down(&mut machine);
+        }
+    }
 }
 
 #[test]
@@ -80,8 +119,9 @@ fn dimacs_files() {
     assert_eq!(list(5, &TAIL).write_dimacs().unwrap(), text);
     let mut tail = List::read_dimacs(text).unwrap();
     assert_eq!((tail.modules(), found(&mut tail)), (5, (6, 4, vec![0, 1, 2, 3])));
-    let lone = List::read_dimacs(b"c a new machine\np edge 1 0\n").unwrap();
+    let mut lone = List::read_dimacs(b"c a new machine\np edge 1 0\n").unwrap();
     assert_eq!((lone.modules(), lone.pairs().len(), lone.write_dimacs().unwrap()), (1, 0, b"p edge 1 0\n".to_vec()));
+    assert_eq!(number(lone.solve()), 20);
     let refused = |text: &[u8]| List::read_dimacs(text).unwrap_err();
     assert_eq!(
         refused(b"").to_string(),
@@ -104,7 +144,7 @@ fn printed_for_debugging() {
 type Held = BTreeMap<(usize, usize), usize>;
 
 /// The list holds the pairs and counts of the table, a list read from either of the table's files is the same, as far as a DIMACS file can say, and it is
-/// written as its DIMACS file.
+/// written as its DIMACS file. It is peeled and solved as the table is; solve turns it down where no pair is held.
 fn holds(list: &mut List, random: &mut Random, held: &Held) {
     let plain = Plain { n: list.modules(), pairs: held.iter().map(|(&(a, b), &w)| (a, b, w)).collect() };
     assert_eq!(list.pairs(), plain.records());
@@ -112,8 +152,12 @@ fn holds(list: &mut List, random: &mut Random, held: &Held) {
     let from_dimacs = List::read_dimacs(&dimacs::lines(&plain, random).concat()).unwrap();
     assert_eq!(from_dimacs.pairs(), plain.ones().records());
     assert_eq!(list.write_dimacs(), Ok(dimacs::write(&plain)));
-    let (found, peeled) = (list.solve().unwrap(), list.peel().unwrap());
+    let peeled = list.peel().unwrap();
     assert_eq!((&peeled.order, &peeled.cores), (&plain.leaving(), &plain.cores()));
+    if held.is_empty() {
+        return turned_down(list);
+    }
+    let found = list.solve().unwrap();
     assert_eq!(found.cores, peeled.cores);
     assert_eq!(found.members, plain.largest_by_split(&found.shares, found.p as usize, found.q as usize));
 }
@@ -147,6 +191,7 @@ fn edits_against_a_table() {
     for (seed, n) in [(1, 2), (2, 7), (3, 60), (4, 512)] {
         let mut random = Random(seed);
         let (mut list, mut held) = (List::new(n as u32).unwrap(), BTreeMap::new());
+        holds(&mut list, &mut random, &held);
         for step in 0..12_000 {
             let (a, b) = (random.below(n), random.below(n));
             let mut pair = (a.min(b), a.max(b));
@@ -167,6 +212,10 @@ fn edits_against_a_table() {
                 holds(&mut list, &mut random, &held);
             }
         }
+        for (a, b) in std::mem::take(&mut held).into_keys() {
+            list.remove(a as u32, b as u32).unwrap();
+        }
+        holds(&mut list, &mut random, &held);
     }
 }
 

@@ -22,7 +22,10 @@ fn each_method_in_a_small_thread() {
         let file = files::scattered(&drawn, &mut random);
         let (a, b, w) = drawn.pairs[m / 2];
         let (a, b, w) = (a as u32, b as u32, w as u32);
-        assert!(within(stack::START, || List::new(n as u32)).is_ok());
+        let mut none = within(stack::START, || List::new(n as u32)).unwrap();
+        assert_eq!(within(stack::SOLVE, || none.solve()).map_err(Refusal::number), Err(20));
+        assert_eq!(within(stack::CHECK, || none.check(&vec![1; n], &[])).map_err(Refusal::number), Err(20));
+        assert_eq!(within(stack::PEEL, || none.peel()).unwrap().cores, vec![0; n]);
         let mut list = within(stack::READ, || List::read(&file)).unwrap();
         assert_eq!(within(stack::PLACE, || list.place(b, a)), Ok(Place { held: true, at: m / 2 }));
         assert_eq!(within(stack::REMOVE, || list.remove(a, b)), Ok(()));

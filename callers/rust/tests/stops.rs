@@ -73,7 +73,7 @@ fn shares_by_hand() {
 fn shares_at_their_edges() {
     let (mut random, mut above_q) = (Random(61), 0);
     for _ in 0..600 {
-        let drawn = lists::small(&mut random);
+        let drawn = lists::with_a_pair(&mut random, lists::small);
         let mut list = list(drawn.n, &drawn.pairs);
         let found = list.solve().unwrap();
         for (j, &(a, b, w)) in drawn.pairs.iter().enumerate() {
@@ -91,16 +91,26 @@ fn shares_at_their_edges() {
     assert!(above_q > 1_000, "{above_q} shares above Q");
 }
 
-/// Lists of ones get the answers that they got before pairs had counts.
+/// Lists of ones get the answers that they got before pairs had counts; only that those without pairs get 20 from solve and check (item 6).
 #[test]
 fn ones_as_before() {
-    let mut random = Random(62);
+    let (mut random, mut without_pairs) = (Random(62), 0);
     for _ in 0..3_000 {
         let drawn = lists::small(&mut random).ones();
         let (before, mut list) = (Ones::of(&drawn), list(drawn.n, &drawn.pairs));
         let (members, cores) = before.by_subsets();
-        let found = list.solve().unwrap();
+        let group: Vec<u8> = (0..drawn.n).map(|_| random.below(2) as u8).collect();
         assert_eq!(list.peel(), Ok(Peeling { order: before.leaving(), cores: cores.clone() }));
+        if group.contains(&1) {
+            assert_eq!(list.surplus(&group, &members), Ok(before.surplus(&group, &members)));
+        }
+        if drawn.pairs.is_empty() {
+            let checks = [&members, &group].map(|group| number(list.check(group, &[])));
+            assert_eq!((number(list.solve()), checks), (20, [20, 20]));
+            without_pairs += 1;
+            continue;
+        }
+        let found = list.solve().unwrap();
         let (p, q) = (before.inside(&members) as u32, members.iter().filter(|&&x| x == 1).count() as u32);
         assert_eq!((&found.members, &found.cores, found.p, found.q), (&members, &cores, p, q));
         assert_eq!(
@@ -110,7 +120,6 @@ fn ones_as_before() {
         assert_eq!(before.check(&found.members, &found.shares), (0, p, q));
         let shares: Vec<u32> =
             found.shares.iter().map(|&share| if random.once_in(9) { random.below(14) as u32 } else { share }).collect();
-        let group: Vec<u8> = (0..drawn.n).map(|_| random.below(2) as u8).collect();
         for (members, shares) in [(&members, &shares), (&group, &shares)] {
             let (number, p, q) = before.check(members, shares);
             assert_eq!(
@@ -118,10 +127,8 @@ fn ones_as_before() {
                 if number == 0 { Ok((p, q)) } else { Err(number) }
             );
         }
-        if group.contains(&1) {
-            assert_eq!(list.surplus(&group, &members), Ok(before.surplus(&group, &members)));
-        }
     }
+    assert!(without_pairs >= 100, "{without_pairs} lists without pairs");
 }
 
 /// Counts that are all alike: the same group, leaving order and core size as with ones; inside count and core numbers so many times as high. A sheet of the
@@ -130,7 +137,7 @@ fn ones_as_before() {
 fn counts_all_alike() {
     let mut random = Random(63);
     for _ in 0..300 {
-        let drawn = lists::any(&mut random).ones();
+        let drawn = lists::with_a_pair(&mut random, lists::any).ones();
         let times = [2, 3, 10, 512, 999, 1000][random.below(6)];
         let alike = Plain { n: drawn.n, pairs: drawn.pairs.iter().map(|&(a, b, _)| (a, b, times)).collect() };
         let (mut one, mut many) = (list(drawn.n, &drawn.pairs), list(alike.n, &alike.pairs));

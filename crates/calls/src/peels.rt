@@ -23,13 +23,7 @@ const NAMED: Lengths = Lengths {
 };
 
 // One line: what peel says and writes.
-fn tried(
-    rt: &impl Print,
-    name: &str,
-    due: u32,
-    lent: Lent,
-    lengths: Lengths,
-) -> io::Result<()> {
+fn tried(rt: &impl Print, name: &str, due: u32, lent: Lent, lengths: Lengths) -> io::Result<()> {
     let mut order = [9u16; 8];
     let mut cores = [9u32; 8];
     let mut work = [7u32; 16400];

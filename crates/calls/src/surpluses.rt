@@ -50,7 +50,14 @@ fn groups(rt: &impl Print) -> io::Result<()> {
         tried(rt, name, due, &first, &second, samples::tail(NONE))?;
     }
     let none = samples::triangles(5, 0);
-    tried(rt, "no pairs, 0 and 1 against 0 to 3, 0", Ok(0), &two, &group, none)
+    tried(
+        rt,
+        "no pairs, 0 and 1 against 0 to 3, 0",
+        Ok(0),
+        &two,
+        &group,
+        none,
+    )
 }
 
 // Groups against 3 and 4, whose pair has another count, the last time with the value of a list of ones.

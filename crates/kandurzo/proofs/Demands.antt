@@ -219,9 +219,9 @@ module _ {g : Pairs} {h : Head} {ps : List Pair} (lent : Lent g h ps) (members s
           call.left ∙ work_zeros v.number work (λ x. omega (arith, x, number)) (λ x. omega (arith, x, number)),
         ),
     λ t. by_test (eqb (length g.pairs) 0) (λ z. length_none g.pairs (eqb-true _ 0 z)) (λ n.
-    let low = check_few g (take g.n members) (take (length g.pairs) shares) in
-    let number = sheet_number lent members shares work a d w call (omega (arith, eqb-false (length g.pairs) 0 n)) in
-    absurd (omega (arith, number, low, ap (λ (u : Verdict). u.number) t.0))),
+        let low = check_few g (take g.n members) (take (length g.pairs) shares) in
+        let number = sheet_number lent members shares work a d w call (omega (arith, eqb-false (length g.pairs) 0 n)) in
+        absurd (omega (arith, number, low, ap (λ (u : Verdict). u.number) t.0))),
   )
 
 pub no_stops_no_group : NoStopsNoGroup

@@ -19,7 +19,7 @@ use Rattle.theory.specs.Leaving.{leaving, remainder}
 use Rattle.theory.specs.Cores.{core_number, core_numbers}
 use Rattle.theory.specs.Splits.{is_split}
 use Rattle.theory.specs.Refusals.{cause, refusal, if_taken}
-use Rattle.theory.specs.Check.{check_causes, check_number}
+use Rattle.theory.specs.Check.{check_number}
 use Rattle.theory.specs.Pairless.{group_causes, group_number, judged_causes, judged_number}
 use Rattle.theory.specs.Promise.{AcceptedExactly, BestAccepted, CoreExact, LeavingSteps, LeavingEveryone}
 use Rattle.theory.proofs.Promises.{accepted_exactly, best_accepted, core_exact, leaving_steps, leaving_everyone}

@@ -12,7 +12,7 @@ use lib.ListN.{length, take}
 use Rattle.theory.specs.Lists.{Pairs}
 use Rattle.theory.specs.Pairless.{group_causes, group_number}
 use Rattle.theory.proofs.Pairless.{none_turned, some_served, served_some}
-use Rattle.lines.specs.Outcomes.{Outcome, refused, taken, passed, judge, ◌>>=◌, ◌>>◌}
+use Rattle.lines.specs.Outcomes.{refused, taken, passed, judge, ◌>>=◌, ◌>>◌}
 use Rattle.lines.proofs.Taken.{bind_taken, judged_taken}
 use Rattle.pairfile.specs.File.{read_file, group_list}
 use Rattle.pairfile.proofs.Prefix.{read_trimmed}

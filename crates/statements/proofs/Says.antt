@@ -37,7 +37,7 @@ use Rattle.on_words.specs.Buffers as ours
 use Rattle.on_words.specs.Gate.{gate_number}
 use Rattle.on_words.specs.Peeling.{peel_buffers}
 use Rattle.kandurzo.specs.Peeling.{peel_call_causes, PeelCall}
-use Rattle.on_words.specs.Solving.{solve_buffers, declined, Handed}
+use Rattle.on_words.specs.Solving.{declined, Handed}
 use Rattle.kandurzo.specs.Solving.{solve_call_causes, SolveCall}
 use Rattle.on_words.specs.Judging.{check_buffers, surplus_buffers}
 use Rattle.kandurzo.specs.Judging.{check_call_causes, CheckCall, surplus_call_causes, SurplusCall}

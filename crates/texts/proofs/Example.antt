@@ -62,7 +62,7 @@ tail_grouped = group_taken tail_file tail tail_named (omega arith)
 -- the seventh starred case
 tail_holds : (is_list tail ≡ true) × Found tail tail_found × (inside tail tail_found ≡ 6) × (size tail_found ≡ 4)
 unfolding StarredCases Holds Each starred row Meets
-tail_holds = let r = starred_cases.1.1.1.1.1.1.0 in (r.is_held, r.met.0.1.0, r.met.0.1.1, r.met.0.1.2)
+tail_holds = let r = starred_cases.1.1.1.1.1.1.0 in (r.is_held, r.met.0.1, r.met.0.2, r.met.0.3)
 
 -- its found group is the paper's, since a list has only one
 tail_group : found_of tail ≡ tail_found

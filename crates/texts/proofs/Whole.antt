@@ -17,7 +17,7 @@ use Rattle.pairfile.proofs.Grouped.{group_pairless, group_first}
 use Rattle.sheetfile.specs.Audit.{audit}
 use Rattle.sheetfile.specs.Promise.{AuditFirst}
 use Rattle.sheetfile.proofs.Prefix.{audit_first}
-use Rattle.texts.specs.Texts.{refusal_text, group_printed, certificate, audit_text}
+use Rattle.texts.specs.Texts.{group_printed, certificate, audit_text}
 use Rattle.texts.specs.Printed.{SheetDue, SheetPrinted, ReadOf, GroupRead, SheetRead, AuditRead, SheetAnswered, PairlessTurned}
 
 module _ {bytes file : List ℕ} (e : ReadOf 65536 bytes file) where

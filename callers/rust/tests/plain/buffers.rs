@@ -4,9 +4,12 @@ use kandurzo::Pair;
 
 pub const WORK: usize = 16384;
 
+/// The numbers there are: 0 and those of the documents, up to 20.
+const NUMBERS: usize = 21;
+
 /// Numbers met, with how often.
 #[derive(Default)]
-pub struct Met([usize; 20]);
+pub struct Met([usize; NUMBERS]);
 
 impl Met {
     pub fn see(&mut self, number: u32) {
@@ -19,7 +22,7 @@ impl Met {
 
     /// These and no others, each at least so often.
     pub fn are_each(&self, least: usize, wanted: &[usize]) {
-        let met: Vec<usize> = (0..20).filter(|&k| self.0[k] > 0).collect();
+        let met: Vec<usize> = (0..NUMBERS).filter(|&k| self.0[k] > 0).collect();
         assert_eq!(met, wanted, "numbers met: {self}");
         assert!(wanted.iter().all(|&k| self.0[k] >= least), "each at least {least} times: {self}");
     }
@@ -27,7 +30,7 @@ impl Met {
 
 impl std::fmt::Display for Met {
     fn fmt(&self, out: &mut std::fmt::Formatter) -> std::fmt::Result {
-        (0..20).filter(|&k| self.0[k] > 0).try_for_each(|k| write!(out, "{k}: {} times; ", self.0[k]))
+        (0..NUMBERS).filter(|&k| self.0[k] > 0).try_for_each(|k| write!(out, "{k}: {} times; ", self.0[k]))
     }
 }
 

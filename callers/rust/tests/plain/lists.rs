@@ -102,6 +102,11 @@ pub fn any_or_full(random: &mut Random) -> Plain {
     }
 }
 
+/// The first list drawn that has a pair.
+pub fn with_a_pair(random: &mut Random, draw: impl Fn(&mut Random) -> Plain) -> Plain {
+    std::iter::repeat_with(|| draw(random)).find(|drawn| !drawn.pairs.is_empty()).unwrap()
+}
+
 /// A head and a lent list with a few records of anything past the held ones, and in one of four draws something wrong with them.
 pub fn lent(random: &mut Random, plain: &Plain) -> (Head, Vec<Pair>) {
     let (mut head, mut list) = (plain.head(), plain.records());

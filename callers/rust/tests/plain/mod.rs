@@ -1,5 +1,5 @@
-//! A plain second computation of the definitions of document 01 and of document 02, items 2 to 4, as slow and as literal as it may be; in files of their
-//! own, generators of lists (`lists`), pair files (`files`) and DIMACS edge files (`dimacs`).
+//! A plain second computation of the definitions of document 01 and of document 02, items 2 to 4 and 6, as slow and as literal as it may be; in files of
+//! their own, generators of lists (`lists`), pair files (`files`) and DIMACS edge files (`dimacs`).
 #![allow(dead_code)]
 pub mod buffers;
 pub mod dimacs;
@@ -211,6 +211,9 @@ pub fn check(head: Head, list: &[Pair], members: &[u8], shares: &[u32], work: us
     let plain = Plain::of(head, list);
     if members.len() < plain.n || shares.len() < plain.pairs.len() || work < 16384 {
         return (12, 0, 0);
+    }
+    if plain.pairs.is_empty() {
+        return (20, 0, 0);
     }
     if !is_group(plain.n, members) {
         return (7, 0, 0);

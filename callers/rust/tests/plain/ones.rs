@@ -1,4 +1,5 @@
-//! The definitions of document 01 as they were before pairs had stop counts: pairs are counted, each has Q units. Lists of ones must get these answers.
+//! The definitions of document 01 as they were before pairs had stop counts: pairs are counted, each has Q units. Lists of ones must get these answers,
+//! those without pairs from peel and surplus only.
 use super::Plain;
 
 pub struct Ones {
@@ -56,7 +57,7 @@ impl Ones {
         ((0..self.n).map(|v| (best >> v & 1) as u8).collect(), cores)
     }
 
-    /// Check's number, P and Q, of buffers that are long enough: 7, 8, 9.
+    /// Check's number, P and Q, of a list with a pair and buffers that are long enough: 7, 8, 9.
     pub fn check(&self, members: &[u8], shares: &[u32]) -> (u32, u32, u32) {
         if members.iter().any(|&x| x > 1) || !members.contains(&1) {
             return (7, 0, 0);

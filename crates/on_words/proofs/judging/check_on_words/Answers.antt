@@ -5,9 +5,9 @@ use Rattle.on_words.proofs.judging.check_on_words.Goals.{in-Err, in-Ok}
 
 pub returns : goal.returns
 returns c = elim c.match-check_some_pair.branch [
-  in-Err w ↦ rw w.judged-is (check_turned _ _ _ c.clear.ensures _ w.in-Err.ensures)
+  | in-Err w ↦ rw w.judged-is (check_turned _ _ _ c.clear.ensures _ w.in-Err.ensures)
   | in-Ok w ↦
-    let list = w.list.ensures in
-    rw w.judged-is
-    (check_served _ _ _ c.clear.ensures w.in-Ok.ensures (rw (list.value, list.modules, list.pairs) at w.check_words-judged.ensures))
+      let list = w.list.ensures in
+      rw w.judged-is
+      (check_served _ _ _ c.clear.ensures w.in-Ok.ensures (rw (list.value, list.modules, list.pairs) at w.check_words-judged.ensures))
 ]

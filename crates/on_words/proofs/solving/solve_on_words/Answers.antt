@@ -11,15 +11,15 @@ use Rattle.on_words.proofs.solving.solve_on_words.Goals.{in-Err, in-Ok}
 
 pub returns : goal.returns
 returns c = elim c.match-check_some_pair.branch [
-  in-Err w ↦
-    rw (w.found-is, w.members-is, w.cores-is, w.shares-is)
-    (solve_turned _ _ _ _ (rw w.work-is at c.clear.ensures) _ w.in-Err.ensures)
+  | in-Err w ↦
+      rw (w.found-is, w.members-is, w.cores-is, w.shares-is)
+      (solve_turned _ _ _ _ (rw w.work-is at c.clear.ensures) _ w.in-Err.ensures)
   | in-Ok w ↦
-    let work = c.args.work.now in
-    let holds = c.requires.holds_list in
-    let front_long : length (take 12288 work) ≡ 12288 = length-take-le 12288 work holds.long in
-    let past = drop_at w.solve.new.words (drop 12288 work) 12288 (w.solve.auto.words ∙ front_long) in
-    rw (w.found-is, w.members-is, w.cores-is, w.shares-is)
-    (solve_served _ _ _ _ ((rw w.work-is at c.clear.ensures) ∙ cleared_past 12288 _ _ (omega arith) past) w.in-Ok.ensures holds
-    (rw (front_list _ _ work holds) at w.solve.ensures))
+      let work = c.args.work.now in
+      let holds = c.requires.holds_list in
+      let front_long : length (take 12288 work) ≡ 12288 = length-take-le 12288 work holds.long in
+      let past = drop_at w.solve.new.words (drop 12288 work) 12288 (w.solve.auto.words ∙ front_long) in
+      rw (w.found-is, w.members-is, w.cores-is, w.shares-is)
+      (solve_served _ _ _ _ ((rw w.work-is at c.clear.ensures) ∙ cleared_past 12288 _ _ (omega arith) past) w.in-Ok.ensures holds
+      (rw (front_list _ _ work holds) at w.solve.ensures))
 ]
