@@ -19,14 +19,15 @@
 //   written  FILE DIMACS            the list of the pair file is written, and the DIMACS file that is due is read back
 //   full     N M W EVERY LINES AGAIN MORE   so is the list of a pair file made as for `large`; what is due is made here from the rule of its pairs
 //
-// Files of the folders `first`, `second`, `pair` and `end` break a rule on the first line, on the second, on a pair line, after the last; of those in
-// `order` several conditions hold; those in `taken` are accepted, the starred lists of document 01 among them, and lists with stop counts; a
-// list without pairs is read, but gets 20 in the place of a group. In `audits` are sheets that `sheet` printed, NAME.sheet of the pair file NAME, and sheets
-// made or altered by hand, `none.sheet` of a list without pairs among them; numbers pass 65,535 in `ring` (shares) and `clique` (core numbers). In `full` are the longest pair file that there is, 53,271 bytes, and its sheet of 90,716, with line ends behind them up to 65,536 and 140,000
-// bytes: whether the last byte of a line is read, or one behind the last line, turns the answer; and as long a file, `block`, of the 4,096 pairs of the
-// modules 384 to 447 with 448 to 511, in list order. In `dimacs`, files of the folders `before`, `problem`, `edge` and `end` break a rule before the `p`
-// line, on it, on an `e` line, behind the last; `comments` has comments of every kind in each place, and lines that are none; `order` and `taken` are as
-// above. In `lists` are files due of lists that are written.
+// Files of the folders `first`, `second`, `pair` and `end` break a rule on the first line, on the second, on a pair line, after the last; of those in `order`
+// several conditions hold; those in `taken` are accepted, the starred lists of document 01 among them, and lists with stop counts; a list without pairs is
+// read, but gets 20 in the place of a group. In `audits` are sheets that `sheet` printed, NAME.sheet of the pair file NAME, and sheets made or altered by
+// hand, `none.sheet` of a list without pairs among them; numbers pass 65,535 in `ring` (shares) and `clique` (core numbers). In `full` are the longest pair
+// file that there is, 53,271 bytes, and its sheet of 90,716, with line ends behind them up to 65,536 and 140,000 bytes: whether the last byte of a line is
+// read, or one behind the last line, turns the answer; and as long a file, `block`, of the 4,096 pairs of the modules 384 to 447 with 448 to 511, in list
+// order. In `dimacs`, files of the folders `before`, `problem`, `edge` and `end` break a rule before the `p` line, on it, on an `e` line, behind the last;
+// `comments` has comments of every kind in each place, and lines that are none; `order` and `taken` are as above. In `lists` are files due of lists that are
+// written.
 //
 // An answer is the refusal number, or 0 and the values:
 //   files, large   P/Q; K and the size of the core of order K; the member bytes as runs, where 1x4 0x1 is 1, 1, 1, 1, 0. All 512 member bytes are 2

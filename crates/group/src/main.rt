@@ -1,6 +1,6 @@
-// Reads a pair file on standard input, to its end or 65,536 bytes, and prints the refusal number or 0; the found group's ratio; K and the size of
-// the core of that order; and the members, rising. A refused file has the first line only, and so has one without pairs
-// (20). A file is decided by its first 65,536 bytes (pairfile, reads_first). What is printed is proved (texts, group_text), and that the buffer has room for as many.
+// Reads a pair file on standard input, to its end or 65,536 bytes, and prints the refusal number or 0; the found group's ratio; K and the size of the core of
+// that order; and the members, rising. A refused file has the first line only, and so has one without pairs (20). A file is decided by its first 65,536 bytes
+// (pairfile, reads_first). What is printed is proved (texts, group_text), and that the buffer has room for as many.
 #![tactic(auto)]
 
 use std::io;

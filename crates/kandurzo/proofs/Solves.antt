@@ -68,7 +68,9 @@ module _ (h : Head) (ps : List Pair) (members cores shares work : List ℕ)
         };
         handed = λ z. rw laid.list at (on.handed z);
         refused = on.refused;
-        left = on.left ∙ laid.left ∙ sym (work_zeros r.number work (λ e. omega (arith, twenty 12 e (λ z. omega (arith, z)))) (λ e. omega (arith, twenty 13 e (λ z. omega (arith, z)))));
+        left =
+            on.left ∙ laid.left
+            ∙ sym (work_zeros r.number work (λ e. omega (arith, twenty 12 e (λ z. omega (arith, z)))) (λ e. omega (arith, twenty 13 e (λ z. omega (arith, z)))));
       }
 
 -- ---- what follows of the answers

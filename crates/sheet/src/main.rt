@@ -1,7 +1,7 @@
-// Reads a pair file on standard input, as `group` does, and prints the found group's certificate: what `group` prints, then a line `number=C` for
-// each module's core number, and a line `share=A,B,U` for each pair in list order: of the pair's units, Q for each stop, the smaller module A receives U.
-// A refused file has the first line only, and so has one without pairs (20). The program `audit` answers whether a sheet is the best there is; what is printed here it accepts
-// (texts, sheet_text).
+// Reads a pair file on standard input, as `group` does, and prints the found group's certificate: what `group` prints, then a line `number=C` for each
+// module's core number, and a line `share=A,B,U` for each pair in list order: of the pair's units, Q for each stop, the smaller module A receives U. A
+// refused file has the first line only, and so has one without pairs (20). The program `audit` answers whether a sheet is the best there is; what is printed
+// here it accepts (texts, sheet_text).
 #![tactic(auto)]
 
 use std::io;
