@@ -60,7 +60,7 @@ module _ (h : Head) (ps : List Pair) (members cores shares work : List ℕ)
   unfolding UnsplitNever solve_call_causes group_number group_causes
   solve_done f laid {r} on =
       let twenty : (k : ℕ) → r.number ≡ k → (k ≡ 0 → ⊥) → k ≡ 20 = λ k e n. zero_or_twenty h.m (sym on.number ∙ e) n in
-      let zeros = work_zeros r.number work (λ e. omega (arith, twenty 12 e (λ z. omega (arith, z)))) (λ e. omega (arith, twenty 13 e (λ z. omega (arith, z)))) in
+      let zeros = work_zeros r.number work (λ e. omega (arith, twenty 12 e (λ z. omega arith))) (λ e. omega (arith, twenty 13 e (λ z. omega arith))) in
       let number = on.number ∙ sym (rw is at (gate_then (agrees h ps) short (group_causes h.m) (sym f))) in
       record {
         number = record {
