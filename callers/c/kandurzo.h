@@ -165,10 +165,10 @@ uint32_t kandurzo_peel(kandurzo_head_t head, const kandurzo_pair_t *list, size_t
 kandurzo_solved_t kandurzo_solve(kandurzo_head_t head, const kandurzo_pair_t *list, size_t length, uint8_t *members, size_t members_length,
                                  uint32_t *cores, size_t cores_length, uint32_t *shares, size_t shares_length, uint32_t *work, size_t work_length);
 
-/* Check: takes member bytes and shares from anyone, counts P and Q of that group itself, and accepts exactly if the shares are a split at size Q, W times Q
- * units for each pair, with no load above P: then no group is denser, and no split has a lower greatest load over its share size. Wants N member bytes, M
- * shares, 16,384 words of work. Refuses by 13, 12, 20, 7, 8, 9. The work buffer is untouched after 12 or 13 and holds 16,384 zero words after any other
- * return. */
+/* Check: takes member bytes and shares from anyone, counts P and Q of that group itself, and accepts, of a list with a pair, exactly if the shares are a split
+ * at size Q, W times Q units for each pair, with no load above P: then no group is denser, and no split has a lower greatest load over its share size. Wants N
+ * member bytes, M shares, 16,384 words of work. Refuses by 13, 12, 20, 7, 8, 9. The work buffer is untouched after 12 or 13 and holds 16,384 zero words after
+ * any other return. */
 kandurzo_verdict_t kandurzo_check(kandurzo_head_t head, const kandurzo_pair_t *list, size_t length, const uint8_t *members, size_t members_length,
                                   const uint32_t *shares, size_t shares_length, uint32_t *work, size_t work_length);
 
