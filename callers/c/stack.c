@@ -1,21 +1,17 @@
 /* Runs every call in threads that have the stack which kandurzo.h states for it, and prints how much of it was used at most. There must be 8 KiB left.
  *
- * A thread's stack is lent and painted beforehand, and the pages below it cannot be touched: the lowest byte that lost its paint shows how deep the call
- * went, counted from the thread's own function, thus some bytes too many. What a thread needs to start comes on top, as the system states it. The lists
- * are one pair of two modules, and two of 512 modules and 4,096 pairs, with stop counts and with counts of 1; and those of as many modules without pairs.
- * Every number that a call can answer is met, 15 aside. */
-#define _DEFAULT_SOURCE
-#include <pthread.h>
-#include <signal.h>
+ * Here are the calls, the lists and files on which they are made, and the numbers wanted; painted.h has the threads and the measure. The lists are one pair of
+ * two modules, and two of 512 modules and 4,096 pairs, with stop counts and with counts of 1; and those of as many modules without pairs. Every number that a
+ * call can answer is met, 15 aside. */
+#include "painted.h"
+
 #include <stdio.h>
 #include <stdlib.h>
 #include <string.h>
-#include <sys/mman.h>
-#include <unistd.h>
 
 #include "kandurzo.h"
 
-enum { PAINT = 0xA5, ROOM = 8192, GUARD = 65536, FILE_BYTES = 65536 };
+enum { ROOM = 8192, FILE_BYTES = 65536 };
 
 /* What the calls are passed. */
 static kandurzo_head_t head;
@@ -76,11 +72,7 @@ static uint32_t surplus(void) { return kandurzo_surplus(head, list, room, member
 /* Each call, the bytes stated for it, and the most that it used. */
 enum call { START, ADD, ADD_TO, REMOVE, REMOVE_FROM, PLACE, READ, READ_DIMACS, WRITE_DIMACS, PEEL, SOLVE, CHECK, SURPLUS, CALLS };
 
-static struct {
-    const char *name;
-    uint32_t (*make)(void);
-    size_t stated, used;
-} calls[CALLS] = {
+static struct painted calls[CALLS] = {
     {"start", start, KANDURZO_STACK_START, 0},
     {"add", add, KANDURZO_STACK_ADD, 0},
     {"add_to", add_to, KANDURZO_STACK_ADD, 0},
@@ -96,65 +88,13 @@ static struct {
     {"surplus", surplus, KANDURZO_STACK_SURPLUS, 0},
 };
 
-/* The call under way, the lowest byte of its stack, and what came of it. */
-static enum call now;
-static uint8_t *lowest;
-static uint32_t number;
-static size_t used;
-
-static void fail(const char *what) {
-    fprintf(stderr, "stack: %s: %s\n", calls[now].name, what);
-    exit(1);
-}
-
-/* Runs on a stack of its own, since the thread's has no room left. */
-static void overflowed(int signal) {
-    static const char told[] = ": a fault, as when the stack stated in kandurzo.h is not enough\n";
-    (void)signal;
-    if (write(2, calls[now].name, strlen(calls[now].name)) < 0 || write(2, told, sizeof told - 1) < 0) _exit(2);
-    _exit(1);
-}
-
-/* Gives a thread that stack. */
-static void lend_spare(void) {
-    static uint8_t spare[65536];
-    stack_t own = {.ss_sp = spare, .ss_size = sizeof spare, .ss_flags = 0};
-    if (sigaltstack(&own, NULL) != 0) fail("no spare stack");
-}
-
-/* The thread: makes the call, then looks for the lowest byte without paint. */
-static void *measured(void *argument) {
-    volatile uint8_t here = 0;
-    lend_spare();
-    number = calls[now].make();
-    uint8_t *deepest = lowest;
-    while (*deepest == PAINT) deepest++;
-    used = (size_t)((uintptr_t)&here - (uintptr_t)deepest);
-    return argument;
-}
-
-/* Makes a call in a thread with the stack stated for it; the number wanted must come. */
+/* Makes a call on the stack stated for it; the number wanted must come. */
 static void run(enum call call, uint32_t wanted) {
-    now = call;
-    size_t page = (size_t)sysconf(_SC_PAGESIZE), size = calls[call].stated + (size_t)sysconf(_SC_THREAD_STACK_MIN);
-    size = (size + page - 1) / page * page;
-    uint8_t *memory = mmap(NULL, GUARD + size, PROT_READ | PROT_WRITE, MAP_PRIVATE | MAP_ANONYMOUS, -1, 0);
-    if (memory == MAP_FAILED || mprotect(memory, GUARD, PROT_NONE) != 0) fail("no memory");
-    lowest = memory + GUARD;
-    memset(lowest, PAINT, size);
-
-    pthread_attr_t attributes;
-    pthread_t thread;
-    if (pthread_attr_init(&attributes) != 0 || pthread_attr_setstack(&attributes, lowest, size) != 0) fail("no stack");
-    if (pthread_create(&thread, &attributes, measured, NULL) != 0 || pthread_join(thread, NULL) != 0) fail("no thread");
-    pthread_attr_destroy(&attributes);
-    munmap(memory, GUARD + size);
-
-    if (number != wanted) {
-        fprintf(stderr, "stack: %s answered %u, not %u\n", calls[call].name, (unsigned)number, (unsigned)wanted);
+    uint32_t answer = run_painted(&calls[call]);
+    if (answer != wanted) {
+        fprintf(stderr, "stack: %s answered %u, not %u\n", calls[call].name, (unsigned)answer, (unsigned)wanted);
         exit(1);
     }
-    if (used > calls[call].used) calls[call].used = used;
 }
 
 /* A number below `bound`, by a small generator (xorshift). */
@@ -402,10 +342,8 @@ static void no_pairs(void) {
 
 int main(void) {
     static void (*const lists[])(void) = {one_pair, dense, ring};
-    struct sigaction action = {.sa_handler = overflowed, .sa_flags = SA_ONSTACK};
     int status = 0;
-    lend_spare();
-    if (sigaction(SIGSEGV, &action, NULL) != 0) fail("no handler");
+    watch();
     for (size_t i = 0; i < sizeof lists / sizeof *lists; i++) {
         head.n = 0;
         run(START, 2);

@@ -153,9 +153,10 @@ fn is_answer(list: &Plain, solved: Solved, members: &[u8], cores: &[u32], shares
     }
 }
 
-/// Solve's answer where it refuses.
-fn refused(number: u32) -> Solved {
-    Solved { number, p: 0, q: 0, k: 0, coresize: 0, ratio: 0.0 }
+/// What solve answers where it refuses by this number: all else is 0, and the ratio is not -0.0, which would be equal to 0.0.
+fn is_refusal(solved: Solved, number: u32) {
+    assert_eq!(solved, Solved { number, p: 0, q: 0, k: 0, coresize: 0, ratio: 0.0 });
+    assert_eq!(solved.ratio.to_bits(), 0);
 }
 
 #[test]
@@ -169,21 +170,14 @@ fn solve() {
         let (mut members, mut cores, mut shares) =
             (bytes(&mut random, x), words(&mut random, y), words(&mut random, z));
         let mut work = work(&mut random);
-        let short = x < n || y < n || z < m || work.len() < WORK;
-        let number = if !plain::agree(head, &list) {
-            13
-        } else if short {
-            12
-        } else {
-            20 * (m == 0) as u32
-        };
+        let number = plain::solve(head, &list, [x, y, z, work.len()]);
         let before = (members.clone(), cores.clone(), shares.clone());
         let cleared = work_after(number, &work);
         let solved = ffi::solve(head, &list, &mut members, &mut cores, &mut shares, &mut work);
         assert!(work == cleared, "the work buffer after {number}");
         met.see(solved.number);
         if number != 0 {
-            assert_eq!(solved, refused(number));
+            is_refusal(solved, number);
             assert_eq!((members, cores, shares), before);
             continue;
         }
@@ -245,7 +239,7 @@ fn altered(random: &mut Random, list: &Plain, q: usize, members: &mut [u8], shar
 
 #[test]
 fn check() {
-    let (mut random, mut met, mut no_group) = (Random(6), Met::default(), 0);
+    let (mut random, mut met, mut seven_hidden) = (Random(6), Met::default(), 0);
     for _ in 0..12_000 {
         let drawn = lists::any(&mut random);
         let (head, list) = lists::lent(&mut random, &drawn);
@@ -265,14 +259,14 @@ fn check() {
         }
         let mut work = work(&mut random);
         let (number, p, q) = plain::check(head, &list, &members, &shares, work.len());
-        no_group += u32::from(number == 20 && !plain::is_group(n, &members));
+        seven_hidden += u32::from(number == 20 && !plain::is_group(n, &members));
         let cleared = work_after(number, &work);
         assert_eq!(ffi::check(head, &list, &members, &shares, &mut work), Verdict { number, p, q });
         assert!(work == cleared, "the work buffer after {number}");
         met.see(number);
     }
     met.are_each(100, &[0, 7, 8, 9, 12, 13, 20]);
-    assert!(no_group >= 20, "20 before 7, {no_group} times");
+    assert!(seven_hidden >= 20, "20 before 7, {seven_hidden} times");
 }
 
 #[test]
@@ -295,7 +289,7 @@ fn turned_down(random: &mut Random, head: Head, list: &[Pair], [x, z, words_of_w
     let (mut members, mut cores, mut shares) = (bytes(random, x), words(random, x), words(random, z));
     let (before, work) = ((members.clone(), cores.clone(), shares.clone()), words(random, words_of_work));
     let (mut after, cleared) = (work.clone(), work_after(number, &work));
-    assert_eq!(ffi::solve(head, list, &mut members, &mut cores, &mut shares, &mut after), refused(number));
+    is_refusal(ffi::solve(head, list, &mut members, &mut cores, &mut shares, &mut after), number);
     assert_eq!((&members, &cores, &shares), (&before.0, &before.1, &before.2));
     assert!(after == cleared, "the work buffer after {number} of solve");
     for group in [vec![1; x], vec![0; x], vec![2; x], members] {

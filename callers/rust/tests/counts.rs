@@ -212,10 +212,10 @@ fn counts_that_disagree() {
     let (mut random, mut without_pairs) = (Random(54), 0);
     for _ in 0..300 {
         let drawn = lists::small(&mut random);
-        let m = drawn.pairs.len();
+        let (n, m) = (drawn.n, drawn.pairs.len());
         // what solve and check give where head and list agree
-        let group = 20 * u32::from(m == 0);
-        let all = (0..drawn.n as u32).flat_map(|a| (0..a).map(move |b| (a, b)));
+        let group = plain::solve(drawn.head(), &drawn.records(), [n, n, m, WORK]);
+        let all = (0..n as u32).flat_map(|a| (0..a).map(move |b| (a, b)));
         let Some((a, b)) = all.into_iter().find(|&(a, b)| ends::count(&drawn, a, b) == 0) else { continue };
         for w in [0, 1001, 1002, 2024, 0x7fff, 0x8000, 0x83e8, 0xffff] {
             for j in 0..m {

@@ -7,9 +7,8 @@ use Rattle.std.proofs.Common.{◌≡◌, refl, sym, ap, ◌∙◌, subst, ℕ, L
 use Rattle.theory.specs.Lists.{Pairs}
 use Rattle.theory.specs.Groups.{inside, size, found_of}
 use Rattle.theory.specs.Splits.{core_order}
-use Rattle.theory.specs.Pairless.{group_number}
 use Rattle.theory.specs.Words.{laid_list, HoldsList}
-use Rattle.theory.proofs.Pairless.{zero_or_twenty, turned_none, served_some}
+use Rattle.theory.proofs.Pairless.{served_some}
 use Rattle.theory.proofs.Words.{length_laid}
 use Rattle.refusals.specs.declared.Refusal.{Refusal}
 use Rattle.refusals.specs.Numbers.{number_of}
@@ -23,6 +22,7 @@ use Rattle.records.specs.declared.Head.{Head}
 use Rattle.on_words.specs.declared.Solved.{Solved}
 use Rattle.on_words.specs.Solving.{declined, solved_of as record_of, SolveOn, Handed}
 use Rattle.on_words.proofs.Sheets.{found_front}
+use Rattle.on_words.proofs.Pairless.{turned}
 use Rattle.answer.specs.declared.Answer.{Answer}
 use Rattle.answer.specs.Answers.{group_answer, answer_to, members_after, solved_of, HandedOver, Sheeted}
 
@@ -58,12 +58,10 @@ module _ (bytes members cores shares words : List ℕ) where
       pub turned_as : Sheeted bytes members cores shares words (Err e) members' cores' shares' words'
       unfolding declined
       turned_as =
-          let n : number_of e ≡ group_number head.m = s.number in
-          let twenty : number_of e ≡ 20 = zero_or_twenty head.m (sym n) (numbered e) in
-          let z : head.m ≡ 0 = turned_none head.m (sym n ∙ twenty) in
+          let t = turned head e s.number in
           let kept = s.refused (numbered e) in
-          rw (kept.members_are, kept.cores_are, kept.shares_are, none z)
-          (declined_as e (rw (← twenty) at (group_pairless bytes g named (omega (arith, m_as, z)))))
+          rw (kept.members_are, kept.cores_are, kept.shares_are, none t.1)
+          (declined_as e (rw (← t.0) at (group_pairless bytes g named (omega (arith, m_as, t.1)))))
 
     module _ (h : HoldsList head.n head.m work) {found : Solved} {members' cores' shares' work' : List ℕ}
         (s : SolveOn head members cores shares work found members' cores' shares' work') (taken_by : found.number ≡ 0) where

@@ -1,7 +1,7 @@
 -- A list's pairs laid into words.
 --   ends_count, ends_within, words_count    how many ends there are, and that the words have room for them
 --   ends_room                               the counts have room behind the ends
---   lays_pairs, lays_past, lays_none        the words hold the list; past its pairs they are as they were, and so where there is none
+--   lays_pairs, lays_past, lays_none        the words hold the list; past its pairs they are as they were, all of them where it has no pair
 -- Assumes nothing.
 use Rattle.std.proofs.Common.{◌≡◌, refl, ap, ◌∙◌, ℕ, ◌+◌, ◌*◌, ◌-◌, ◌≤◌, ◌<◌, List, [], ◌++◌, length, take, drop, arith}
 use borrow.Rule.Slice.PartMut.{put_mid}

@@ -9,6 +9,9 @@
 //   bytes    FILE SHEET             so is the sheet with each byte one more, and one less, in turn
 //   limits   FILE SHEET B C         so is what is read of the two into buffers of B and C bytes
 //   neighbours FILE A B             the pair of the arguments A and B, which may be empty, is looked up in the pair file's list
+//   groups   FILE                   `group` prints the group of the pair file's list
+//   sheets   FILE                   and `sheet` its sheet
+//   verdicts FILE SHEET             `audit` prints what it answers of the sheet beside the pair file
 //
 // and for DIMACS files, in the folder `dimacs`:
 //
@@ -35,7 +38,7 @@
 //   audited        P/Q
 //   bytes          how many of the altered sheets are refused, how many are best sheets themselves (accepted with the same P/Q), and how many neither
 //   limits         P/Q; before the number stands how many bytes were read of each file
-//   neighbours     in the place of the number: what is printed, with `;` for each LF
+//   neighbours, groups, sheets, verdicts    in the place of the number: what is printed, with `;` for each LF
 //   dimacs/files, rooms      N,M and the pairs of the list, modules numbered from 0, with its count behind a pair where that is not 1
 //   dimacs/made    N,M and how many of the pairs are named by a line, smaller module first, behind the one before; before the number the file's length
 //   dimacs/written, full     in the place of the number: the length written, how many bytes are not those due (7 past the length, as before),
@@ -44,20 +47,20 @@
 // A line is printed for each list of cases, and one for each case that did not come out as due.
 #![tactic(auto)]
 
-mod asked;
 mod audited;
 mod circle;
 mod edges;
 mod made;
+mod printed;
 mod solved;
 mod words;
 mod written;
 
-use asked::try_asked;
 use audited::{try_audit, try_bytes, try_limits};
 use edges::{try_edges, try_room};
 use made::try_made;
 use model::raise;
+use printed::{try_asked, try_group, try_sheet, try_verdict};
 use solved::{try_file, try_large};
 use std::{fs, io};
 use words::Words;
@@ -110,6 +113,9 @@ fn main(rt: HostRuntime) -> io::Result<()> {
     try_list(&rt, "bytes", try_bytes)?;
     try_list(&rt, "limits", try_limits)?;
     try_list(&rt, "neighbours", try_asked)?;
+    try_list(&rt, "groups", try_group)?;
+    try_list(&rt, "sheets", try_sheet)?;
+    try_list(&rt, "verdicts", try_verdict)?;
     try_list(&rt, "dimacs/files", try_edges)?;
     try_list(&rt, "dimacs/rooms", try_room)?;
     try_list(&rt, "dimacs/made", try_made)?;

@@ -2,7 +2,7 @@
 --   front_long                             entries that can be taken are there
 --   n_is, m_is, lent_list, lent_agrees, lent_held    a list that is lent is the one held
 --   held_head, held_lent                   head and list that agree hold a list that is lent
---   lent_passes, sheet_number              with buffers long enough neither 13 nor 12 comes
+--   lent_passes, sheet_number, accepted_some    with buffers long enough neither 13 nor 12 comes; what check accepts is of a list with a pair
 --   every_list_peeled, every_list_solved, every_list_judged, every_list_compared    so every list is served,
 --   no_stops_no_group                      but for those without pairs, which solve and check turn down
 --   refusals_keep, fifteen_never           refusals
@@ -16,6 +16,7 @@ use native.Mathlib.Omega.{arith}
 use lib.Dec.{eqb}
 use lib.ListN.{length, take, length-take}
 use borrow.Author.Tests.{eqb-true, eqb-false}
+use Rattle.std.proofs.lemmas.List.{nil_from_length}
 use Rattle.theory.specs.Lists as Lists
 use Rattle.theory.specs.Lists.{Pairs}
 use Rattle.theory.specs.Refusals.{Cause, cause, refusal, if_taken}
@@ -47,7 +48,7 @@ use Rattle.on_words.specs.Solving.{solve_buffers}
 use Rattle.kandurzo.specs.Solving.{solve_call_causes, SolveCall}
 use Rattle.kandurzo.specs.Promise.{Lent, LentHeld, EveryListPeeled, EveryListSolved, EveryListJudged, EveryListCompared}
 use Rattle.kandurzo.specs.Promise.{TurnedDown, NoStopsNoGroup, RefusalsKeep, FifteenNever}
-use Rattle.on_words.proofs.Filling.{work_zeros, left_open}
+use Rattle.on_words.proofs.Filling.{work_zeros, left_open, left_turned}
 use Rattle.on_words.proofs.Enough.{LongEnough, all_long}
 use Rattle.kandurzo.proofs.Gates.{gate_then}
 use Rattle.kandurzo.proofs.Judgements.{check_few}
@@ -140,7 +141,7 @@ every_list_solved g h ps members cores shares work r members' cores' shares' wor
 module _ {g : Pairs} {h : Head} {ps : List Pair} (lent : Lent g h ps) (members shares work : List ℕ)
     (a : g.n ≤ length members) (d : length g.pairs ≤ length shares) (w : 16384 ≤ length work) {v : Verdict} {work' : List ℕ}
     (call : CheckCall h ps members shares work v work') where
-  pub judged_as : v.number ≡ judged_number g (take g.n members) (take (length g.pairs) shares)
+  judged_as : v.number ≡ judged_number g (take g.n members) (take (length g.pairs) shares)
   unfolding check_call_causes judged_number
   judged_as =
       call.number ∙ lent_passes lent (check_buffers h (length members) (length shares) (length work)) _
@@ -150,14 +151,19 @@ module _ {g : Pairs} {h : Head} {ps : List Pair} (lent : Lent g h ps) (members s
   pub sheet_number : 1 ≤ length g.pairs → v.number ≡ check_number g (take g.n members) (take (length g.pairs) shares)
   sheet_number some = judged_as ∙ judged_served g _ _ (paired (length g.pairs) some)
 
-  -- a list without pairs gets 20
-  pub sheet_turned : length g.pairs ≡ 0 → v.number ≡ 20
-  sheet_turned none = judged_as ∙ judged_turned g _ _ (pairless (length g.pairs) none)
+  -- a list without pairs gets 20, and no other does
+  sheet_turned : (v.number ≡ 20) ↔ (length g.pairs ≡ 0)
+  sheet_turned = (
+    λ t. by_test (eqb (length g.pairs) 0) (λ z. eqb-true _ 0 z) (λ s.
+        let low = check_few g (take g.n members) (take (length g.pairs) shares) in
+        absurd (omega (arith, t, low, sheet_number (omega (arith, eqb-false (length g.pairs) 0 s))))),
+    λ none. judged_as ∙ judged_turned g _ _ (pairless (length g.pairs) none),
+  )
 
   -- so what is accepted is of a list with a pair
   pub accepted_some : v.number ≡ 0 → 1 ≤ length g.pairs
   accepted_some z =
-      by_test (eqb (length g.pairs) 0) (λ t. absurd (omega (arith, z, sheet_turned (eqb-true _ 0 t)))) (λ t. omega (arith, eqb-false (length g.pairs) 0 t))
+      by_test (eqb (length g.pairs) 0) (λ t. absurd (omega (arith, z, sheet_turned.1 (eqb-true _ 0 t)))) (λ s. omega (arith, eqb-false (length g.pairs) 0 s))
 
 pub every_list_judged : EveryListJudged
 unfolding EveryListJudged
@@ -187,11 +193,6 @@ every_list_compared g h ps t s d lent a b call =
 
 -- ---- no stops, no group
 
--- a list of length 0 is empty
-length_none : {A : Type 0} (xs : List A) → length xs ≡ 0 → xs ≡ []
-length_none [] e = refl
-length_none (x ∷ xs) e = absurd (omega arith)
-
 module _ {g : Pairs} {h : Head} {ps : List Pair} (lent : Lent g h ps) (members cores shares work : List ℕ)
     (a : g.n ≤ length members) (c : g.n ≤ length cores) (d : length g.pairs ≤ length shares) (w : 16384 ≤ length work)
     {r : Solved} {members' cores' shares' work' : List ℕ} (call : SolveCall h ps members cores shares work r members' cores' shares' work') where
@@ -202,9 +203,9 @@ module _ {g : Pairs} {h : Head} {ps : List Pair} (lent : Lent g h ps) (members c
         record {
           number = number;
           answer = call.refused (λ z. omega (arith, z, number));
-          left = call.left ∙ work_zeros r.number work (λ x. omega (arith, x, number)) (λ x. omega (arith, x, number));
+          left = call.left ∙ left_turned work number;
         },
-    λ t. length_none g.pairs (turned_none (length g.pairs) (sym (solve_number lent members cores shares work a c d w call) ∙ t.number)),
+    λ t. nil_from_length g.pairs (turned_none (length g.pairs) (sym (solve_number lent members cores shares work a c d w call) ∙ t.number)),
   )
 
 module _ {g : Pairs} {h : Head} {ps : List Pair} (lent : Lent g h ps) (members shares work : List ℕ)
@@ -214,14 +215,11 @@ module _ {g : Pairs} {h : Head} {ps : List Pair} (lent : Lent g h ps) (members s
   unfolding if_taken
   check_turns = (
     λ e.
-        let number : v.number ≡ 20 = sheet_turned lent members shares work a d w call (ap length e) in (
+        let number : v.number ≡ 20 = (sheet_turned lent members shares work a d w call).1 (ap length e) in (
           λ i. record { number = number i; p = (rw number at call.p) i; q = (rw number at call.q) i },
-          call.left ∙ work_zeros v.number work (λ x. omega (arith, x, number)) (λ x. omega (arith, x, number)),
+          call.left ∙ left_turned work number,
         ),
-    λ t. by_test (eqb (length g.pairs) 0) (λ z. length_none g.pairs (eqb-true _ 0 z)) (λ n.
-        let low = check_few g (take g.n members) (take (length g.pairs) shares) in
-        let number = sheet_number lent members shares work a d w call (omega (arith, eqb-false (length g.pairs) 0 n)) in
-        absurd (omega (arith, number, low, ap (λ (u : Verdict). u.number) t.0))),
+    λ t. nil_from_length g.pairs ((sheet_turned lent members shares work a d w call).0 (ap (λ (u : Verdict). u.number) t.0)),
   )
 
 pub no_stops_no_group : NoStopsNoGroup

@@ -1,10 +1,10 @@
 -- What peel and solve write, and what check accepts: theorems of specs/Promise.antt.
 --   peel_exact                     the leavers and the core numbers
---   check_exact                    check accepts whatever is best, and nothing else
+--   check_exact                    check accepts whatever is best of a list with a pair, and nothing else
 --   solve_alone, solve_accepted    solve's answer follows from the input alone, and check accepts it
 -- Assumes nothing.
 use mathlib.Core.Path.{◌≡◌, refl, sym, ap, ◌∙◌}
-use mathlib.Core.Bool.{true, false}
+use mathlib.Core.Bool.{true}
 use mathlib.Core.Option.{some}
 use mathlib.Core.List.{List}
 use Prim.Native.Nat.{ℕ, ◌≤◌, ◌<◌}
@@ -20,10 +20,10 @@ use Rattle.theory.specs.Cores.{core_number, core_numbers}
 use Rattle.theory.specs.Splits.{is_split}
 use Rattle.theory.specs.Refusals.{cause, refusal, if_taken}
 use Rattle.theory.specs.Check.{check_number}
-use Rattle.theory.specs.Pairless.{group_causes, group_number, judged_causes, judged_number}
+use Rattle.theory.specs.Pairless.{judged_causes, judged_number}
 use Rattle.theory.specs.Promise.{AcceptedExactly, BestAccepted, CoreExact, LeavingSteps, LeavingEveryone}
 use Rattle.theory.proofs.Promises.{accepted_exactly, best_accepted, core_exact, leaving_steps, leaving_everyone}
-use Rattle.theory.proofs.Pairless.{paired, served_some, judged_served}
+use Rattle.theory.proofs.Pairless.{paired, judged_served}
 use Rattle.theory.proofs.Tables.{table_at, length_table}
 use Rattle.theory.proofs.Tests.{tests, by_test}
 use Rattle.theory.proofs.Leaving.{left_behind_same}
@@ -38,12 +38,13 @@ use Rattle.on_words.specs.Gate.{gate_number}
 use Rattle.kandurzo.specs.Peeling.{peel_call_causes, PeelCall}
 use Rattle.on_words.specs.Judging.{check_buffers}
 use Rattle.kandurzo.specs.Judging.{check_call_causes, CheckCall}
-use Rattle.on_words.specs.Solving.{solve_buffers, declined}
-use Rattle.kandurzo.specs.Solving.{solve_call_causes, SolveCall}
+use Rattle.on_words.specs.Solving.{declined}
+use Rattle.kandurzo.specs.Solving.{SolveCall}
 use Rattle.kandurzo.specs.Promise.{PeelingOf, PeelExact, CheckExact, SharesAlike, SolveAlone, SolveAccepted}
 use Rattle.kandurzo.proofs.Demands.{front_long, n_is, m_is, lent_list, sheet_number, accepted_some}
 use Rattle.on_words.proofs.Enough.{all_long}
-use Rattle.kandurzo.proofs.Gates.{gate_open, gate_then, gate_all}
+use Rattle.kandurzo.proofs.Gates.{gate_open, gate_then}
+use Rattle.kandurzo.proofs.Solves.{solve_passed}
 use Rattle.kandurzo.proofs.Taken.{held_is_list, length_held}
 
 -- ---- peel
@@ -113,17 +114,8 @@ module _ (h : Head) (ps : List Pair) (members cores shares work : List ℕ) {r :
   abbrev u : Pairs
   u = held_list h ps
 
-  gate_passed : (agrees h ps ≡ true) × (any_short (solve_buffers h (length members) (length cores) (length shares) (length work)) ≡ false)
-      × (refusal (group_causes h.m) ≡ 0)
-  unfolding solve_call_causes group_causes
-  gate_passed = gate_all (agrees h ps) _ (group_causes h.m) (sym call.number.outright ∙ z)
-
   solved_agrees : agrees h ps ≡ true
-  solved_agrees = gate_passed.0
-
-  some_pair : 1 ≤ h.m
-  unfolding group_number
-  some_pair = served_some h.m gate_passed.2
+  solved_agrees = (solve_passed h ps members cores shares work call z).0
 
   m_held : length u.pairs ≡ h.m
   m_held = length_held h ps solved_agrees
@@ -159,7 +151,7 @@ module _ (h : Head) (ps : List Pair) (members cores shares work : List ℕ) {r :
               (members_enough, (rw m_held at shares_enough, w)),
         ) refl in
         let rest = judged_causes u (take h.n members') (take h.m shares') in
-        check.number ∙ gate_then (agrees h ps) short rest gate ∙ judged_served u _ _ (rw m_held (paired h.m some_pair)) ∙ sheet_good
+        check.number ∙ gate_then (agrees h ps) short rest gate ∙ judged_served u _ _ (rw m_held (paired h.m (solve_passed h ps members cores shares work call z).1)) ∙ sheet_good
 
 pub solve_accepted : SolveAccepted
 unfolding SolveAccepted if_taken held_list

@@ -1,7 +1,8 @@
 -- The refusals that come first, 13 and 12.
 --   disagrees, none_lent       13 alone: where it is given head and list disagree; 12 never comes where no buffer is lent
 --   gate_open, gate_left       13 and 12: where neither is given head and list agree and no buffer is short; either leaves the work buffer
---   gate_first, gate_then, gate_all    either is the call's number; where neither is given the causes behind decide; where nothing is, none of these is met
+--   gate_first, gate_then, gate_all    either is the call's number; where neither is given the causes behind decide; where no number is
+--                              given, none of the causes is met
 -- Assumes nothing.
 use mathlib.Core.Path.{◌≡◌, refl, sym}
 use mathlib.Core.Bool.{Bool, true, false, not, cond}

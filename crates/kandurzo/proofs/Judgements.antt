@@ -29,12 +29,12 @@ use Rattle.records.specs.declared.Pair.{Pair}
 use Rattle.records.specs.declared.Head.{Head}
 use Rattle.records.specs.Records.{held_list, agrees}
 use Rattle.on_words.specs.declared.buffers.Buffer.{Buffer}
-use Rattle.on_words.specs.Buffers.{any_short, work_left}
+use Rattle.on_words.specs.Buffers.{any_short}
 use Rattle.on_words.specs.Gate.{gate_number}
 use Rattle.on_words.specs.Judging.{check_buffers, surplus_buffers, CheckOn, SurplusOn}
 use Rattle.kandurzo.specs.Laying.{Laid}
 use Rattle.kandurzo.specs.Judging.{check_call_causes, CheckCall, surplus_call_causes, SurplusCall}
-use Rattle.on_words.proofs.Filling.{work_zeros}
+use Rattle.on_words.proofs.Filling.{work_zeros, left_turned}
 use Rattle.kandurzo.proofs.Gates.{gate_left, gate_first, gate_then}
 use Rattle.kandurzo.proofs.Taken.{length_held}
 
@@ -80,9 +80,6 @@ module _ (h : Head) (ps : List Pair) (members shares work : List ℕ)
     unfolding check_call_causes rest
     number_is e d = e ∙ sym d ∙ sym (rw is at (gate_then (agrees h ps) short rest (sym f)))
 
-    left_is : {k : ℕ} → v.number ≡ k → (k ≡ 12 → ⊥) → (k ≡ 13 → ⊥) → work' ≡ work_left v.number work
-    left_is e a b = on.left ∙ laid.left ∙ sym (work_zeros v.number work (λ x. a (sym e ∙ x)) (λ x. b (sym e ∙ x)))
-
     -- of a list without pairs
     done_turned : no_pair h.m ≡ true → CheckCall h ps members shares work v work'
     unfolding if_taken rest judged_number
@@ -94,7 +91,7 @@ module _ (h : Head) (ps : List Pair) (members shares work : List ℕ)
           p = rw is_20 refl;
           q = rw is_20 refl;
           optimal = λ z. absurd (omega (arith, z, number));
-          left = left_is number (λ x. omega (arith, x)) (λ x. omega (arith, x));
+          left = on.left ∙ laid.left ∙ sym (left_turned work number);
         }
 
     -- and of one with a pair
@@ -108,7 +105,7 @@ module _ (h : Head) (ps : List Pair) (members shares work : List ℕ)
           p = rw says.number says.p;
           q = rw says.number says.q;
           optimal = says.optimal;
-          left = left_is says.number (λ x. omega (arith, x, low)) (λ x. omega (arith, x, low));
+          left = on.left ∙ laid.left ∙ sym (work_zeros v.number work (λ x. omega (arith, says.number, low)) (λ x. omega (arith, says.number, low)));
         }
 
     pub check_done : CheckCall h ps members shares work v work'

@@ -1,19 +1,20 @@
 -- Solve, from the words to the call, and what follows of its answers.
 --   unsplit_never        the condition of 15 never holds: so 15 never comes
---   solve_refused, solve_done    the call's promise, where it refuses and where it does not
+--   solve_refused, solve_done    the call's promise, where 13 or 12 refuses and where neither does
+--   solve_passed         where nothing is refused head and list agree, and the list has a pair
 --   records_in_order     two records' floats compare as their ratios do
 -- Assumes nothing.
-use mathlib.Core.Path.{◌≡◌, refl, sym, ◌∙◌}
+use mathlib.Core.Path.{◌≡◌, sym, ◌∙◌}
 use mathlib.Core.Bool.{Bool, true}
 use mathlib.Core.List.{List}
-use Prim.Native.Nat.{ℕ}
+use Prim.Native.Nat.{ℕ, ◌≤◌}
 use native.Mathlib.Omega.{arith}
 use lib.ListN.{length}
 use Rattle.std.proofs.Common.{Err}
 use Rattle.theory.specs.Lists.{is_list}
 use Rattle.theory.specs.Pairless.{group_causes, group_number}
 use Rattle.theory.specs.Promise.{SplitDensest, RatiosInOrder}
-use Rattle.theory.proofs.Pairless.{zero_or_twenty}
+use Rattle.theory.proofs.Pairless.{served_some}
 use Rattle.theory.proofs.Promises.{split_densest, ratios_in_order}
 use Rattle.refusals.specs.declared.Refusal.{Refusal}
 use Rattle.refusals.specs.Numbers.{number_of}
@@ -26,7 +27,8 @@ use Rattle.on_words.specs.declared.buffers.Buffer.{Buffer}
 use Rattle.on_words.specs.Buffers.{any_short}
 use Rattle.on_words.specs.Gate.{gate_number}
 use Rattle.on_words.specs.Solving.{solve_buffers, declined, solved_of, SolveOn}
-use Rattle.on_words.proofs.Filling.{work_zeros}
+use Rattle.on_words.proofs.Filling.{left_group}
+use Rattle.on_words.proofs.Pairless.{declines}
 use Rattle.kandurzo.specs.Laying.{Laid}
 use Rattle.kandurzo.specs.Solving.{solve_call_causes, NoSplit, SolveCall}
 use Rattle.kandurzo.specs.Promise.{UnsplitNever, RecordsInOrder}
@@ -51,7 +53,7 @@ module _ (h : Head) (ps : List Pair) (members cores shares work : List ℕ)
         number = let k = rw is at (gate_first (agrees h ps) short (group_causes h.m) f (numbered e)) in
             record { outright = k; fifteen = λ z. absurd (numbered e (k ∙ z)) };
         handed = λ z. absurd (numbered e z);
-        refused = λ _. record { answer = refl; members_are = refl; cores_are = refl; shares_are = refl };
+        refused = λ _. declines members cores shares e;
         left = gate_left (agrees h ps) short work f (numbered e);
       }
 
@@ -59,8 +61,6 @@ module _ (h : Head) (ps : List Pair) (members cores shares work : List ℕ)
       SolveOn h members cores shares words r members' cores' shares' work' → SolveCall h ps members cores shares work r members' cores' shares' work'
   unfolding UnsplitNever solve_call_causes group_number group_causes
   solve_done f laid {r} on =
-      let twenty : (k : ℕ) → r.number ≡ k → (k ≡ 0 → ⊥) → k ≡ 20 = λ k e n. zero_or_twenty h.m (sym on.number ∙ e) n in
-      let zeros = work_zeros r.number work (λ e. omega (arith, twenty 12 e (λ z. omega arith))) (λ e. omega (arith, twenty 13 e (λ z. omega arith))) in
       let number = on.number ∙ sym (rw is at (gate_then (agrees h ps) short (group_causes h.m) (sym f))) in
       record {
         number = record {
@@ -69,17 +69,20 @@ module _ (h : Head) (ps : List Pair) (members cores shares work : List ℕ)
         };
         handed = λ z. rw laid.list at (on.handed z);
         refused = on.refused;
-        left = on.left ∙ laid.left ∙ sym zeros;
+        left = on.left ∙ laid.left ∙ sym (left_group h.m work on.number);
       }
 
 -- ---- what follows of the answers
 
--- a call that refuses nothing has a list as it is held
+-- a call that refuses nothing has passed 13, 12 and 20: its list is one as it is held, with a pair
 module _ (h : Head) (ps : List Pair) (ms cs xs ws : List ℕ) {r : Solved} {ms' cs' xs' ws' : List ℕ}
     (call : SolveCall h ps ms cs xs ws r ms' cs' xs' ws') (z : r.number ≡ 0) where
+  pub solve_passed : (agrees h ps ≡ true) × (1 ≤ h.m)
+  unfolding solve_call_causes group_number group_causes
+  solve_passed = let g = gate_all (agrees h ps) _ (group_causes h.m) (sym call.number.outright ∙ z) in (g.0, served_some h.m g.2)
+
   taken_list : is_list (held_list h ps) ≡ true
-  unfolding solve_call_causes group_causes
-  taken_list = held_is_list h ps (gate_all (agrees h ps) _ (group_causes h.m) (sym call.number.outright ∙ z)).0
+  taken_list = held_is_list h ps solve_passed.0
 
 -- the floats that two such calls return are in the order of their ratios
 pub records_in_order : RecordsInOrder

@@ -3,7 +3,8 @@
 --   front_more, front_all               entries put in front one by one
 --   put_front                           a text put at the start of a buffer stands in front
 --   zeros_length                        16,384 zeros
---   work_zeros, left_open               what `work_left` says of a number that is neither 12 nor 13, and of 0
+--   work_zeros, left_open, left_turned    what `work_left` says of a number that is neither 12 nor 13, of 0, and of 20
+--   left_group                          and of a list's own, 20 or 0
 --   cleared_past                        buffers that are the same past some of the 16,384 words are cleared to the same
 -- Assumes nothing.
 use mathlib.Core.Path.{◌≡◌, refl, sym, ap, ◌∙◌}
@@ -14,7 +15,11 @@ use native.Mathlib.Nat.{zero-add}
 use native.Mathlib.Numerals.{add-one}
 use lib.ListN.{length, get_or, set, take, drop, replicate, length-replicate}
 use lib.Seq.{drop-drop, length-take-le, take-length}
-use borrow.Author.Tests.{ne_eqb}
+use lib.Dec.{eqb}
+use borrow.Author.Tests.{eqb-true, eqb-false, ne_eqb}
+use Rattle.theory.specs.Pairless.{group_number}
+use Rattle.theory.proofs.Pairless.{zero_or_twenty}
+use Rattle.theory.proofs.Tests.{by_test}
 use Rattle.lines.specs.Putting.{put}
 use Rattle.on_words.specs.Buffers.{in_front, work_words, cleared, work_left}
 
@@ -59,6 +64,15 @@ work_zeros k w a b = rw (ne_eqb k 12 a, ne_eqb k 13 b)
 -- so does 0
 pub left_open : {k : ℕ} (w : List ℕ) → k ≡ 0 → work_left k w ≡ cleared w
 left_open {k} w z = work_zeros k w (λ e. omega (arith, z, e)) (λ e. omega (arith, z, e))
+
+-- and 20
+pub left_turned : {k : ℕ} (w : List ℕ) → k ≡ 20 → work_left k w ≡ cleared w
+left_turned {k} w t = work_zeros k w (λ e. omega (arith, t, e)) (λ e. omega (arith, t, e))
+
+-- which are the numbers of a list
+pub left_group : (m : ℕ) {k : ℕ} (w : List ℕ) → k ≡ group_number m → work_left k w ≡ cleared w
+left_group m {k} w n =
+    by_test (eqb k 0) (λ z. left_open w (eqb-true k 0 z)) (λ s. left_turned w (zero_or_twenty m (sym n) (eqb-false k 0 s)))
 
 -- from word k on the same, k among the first 16,384: cleared, they are the same
 pub cleared_past : (k : ℕ) (v w : List ℕ) → k ≤ 16384 → drop k v ≡ drop k w → cleared v ≡ cleared w

@@ -1,9 +1,11 @@
 -- Solve and check of the list in the words, by what is said of its M: a refusal is 20, of a list without pairs; where none is given there is a pair.
+--   turned                        20, and M is 0
+--   declines                      a refusal hands nothing out
 --   check_turned, check_served    check
 --   solve_turned, solve_served    solve
 -- Assumes nothing.
 use mathlib.Core.Path.{◌≡◌, refl, sym, ap, ◌∙◌}
-use mathlib.Core.Bool.{true, false}
+use mathlib.Core.Bool.{false}
 use mathlib.Core.List.{List}
 use Prim.Native.Nat.{ℕ}
 use lib.ListN.{take}
@@ -22,12 +24,17 @@ use Rattle.densest.specs.Solve.{Solves}
 use Rattle.records.specs.declared.Head.{Head}
 use Rattle.on_words.specs.Buffers.{cleared}
 use Rattle.on_words.specs.Judging.{CheckOn}
-use Rattle.on_words.specs.Solving.{declined, solved_of, SolveOn}
+use Rattle.on_words.specs.Solving.{declined, solved_of, Declined, SolveOn}
 use Rattle.on_words.proofs.Sheets.{handed}
 
+-- beside a refusal
+pub declines : (members cores shares : List ℕ) (e : Refusal) → Declined members cores shares (solved_of (Err e)) members cores shares
+unfolding declined
+declines members cores shares e = record { answer = refl; members_are = refl; cores_are = refl; shares_are = refl }
+
 module _ (h : Head) where
-  turned : (e : Refusal) → number_of e ≡ group_number h.m → (number_of e ≡ 20) × (no_pair h.m ≡ true)
-  turned e n = let t = zero_or_twenty h.m (sym n) (numbered e) in (t, pairless h.m (turned_none h.m (sym n ∙ t)))
+  pub turned : (e : Refusal) → number_of e ≡ group_number h.m → (number_of e ≡ 20) × (h.m ≡ 0)
+  turned e n = let t = zero_or_twenty h.m (sym n) (numbered e) in (t, turned_none h.m (sym n ∙ t))
 
   served : 0 ≡ group_number h.m → no_pair h.m ≡ false
   served n = paired h.m (served_some h.m (sym n))
@@ -36,7 +43,7 @@ module _ (h : Head) where
     pub check_turned : (e : Refusal) → number_of e ≡ group_number h.m → CheckOn h members shares work (verdict_of (Err e)) work'
     check_turned e n =
         let t = turned e n in
-        record { pairless = λ _. ap refused_by t.0; judged = λ f. no (sym f ∙ t.1); left = left }
+        record { pairless = λ _. ap refused_by t.0; judged = λ f. no (sym f ∙ pairless h.m t.1); left = left }
 
     pub check_served : 0 ≡ group_number h.m → {v : Verdict} → CheckSays (laid_list h.n h.m work) (take h.n members) (take h.m shares) v →
         CheckOn h members shares work v work'
@@ -50,7 +57,7 @@ module _ (h : Head) where
         record {
           number = n;
           handed = λ z. absurd (numbered e z);
-          refused = λ _. record { answer = refl; members_are = refl; cores_are = refl; shares_are = refl };
+          refused = λ _. declines members cores shares e;
           left = left;
         }
 

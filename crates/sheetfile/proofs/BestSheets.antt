@@ -20,8 +20,7 @@ use Rattle.theory.proofs.Bounds.{total_bound, inside_bound, size_bound, size_le_
 use Rattle.theory.proofs.Cores.{core_bits}
 use Rattle.lines.specs.Outcomes.{taken}
 use Rattle.pairfile.specs.File.{group_list}
-use Rattle.pairfile.proofs.Accepts.{accepted}
-use Rattle.pairfile.proofs.Grouped.{taken_group}
+use Rattle.pairfile.proofs.Grouped.{group_listed}
 use Rattle.sheetfile.specs.Sheet.{Sheet}
 use Rattle.sheetfile.specs.Writer.{seven_digits, Writable}
 
@@ -47,7 +46,7 @@ pub best_writable : (file : List ℕ) (g : Pairs) (s : Sheet) → group_list fil
     Optimal g s.members s.shares s.p s.q → s.k ≡ rounded_up s.p s.q → s.coresize ≡ size (core g s.k) → Writable g s
 unfolding is_split core_numbers rounded_up
 best_writable file g s e o ek ec =
-    let list = (accepted 4096 file g (taken_group file g e).0).list in
+    let list = group_listed file g e in
     let l = listed g list in
     let p_few : s.p ≤ 4096000 = omega (arith, o.inside_count, inside_bound g s.members list) in
     let q_few : s.q ≤ 512 = omega (arith, o.modules, size_bound g s.members list o.is_a_group) in

@@ -23,8 +23,7 @@ use Rattle.lines.specs.Lines.{is_place, Line, first, second, third, fourth}
 use Rattle.lines.specs.Outcomes.{Outcome, refused, taken, ◌>>=◌, ◌>>◌, passed, judge}
 use Rattle.pairfile.specs.File.{group_list}
 use Rattle.lines.proofs.Fills.{starts_plain, parted}
-use Rattle.pairfile.proofs.Accepts.{accepted}
-use Rattle.pairfile.proofs.Grouped.{taken_group, group_first}
+use Rattle.pairfile.proofs.Grouped.{group_listed, group_first}
 use Rattle.lines.proofs.Prefix.{span, rest_alike, Alike, taken_alike, alike_then, alike_same, trim_line, line_alike, judged_alike}
 use Rattle.sheetfile.specs.Sheet.{
   head_form,
@@ -133,7 +132,7 @@ sheet_first w file bs h = go (group_list file) refl
     go : (o : Outcome Pairs) → group_list file ≡ o → (do g ← o; audit_sheet g (take w bs)) ≡ (do g ← o; audit_sheet g bs)
     go (refused k) e = refl
     go (taken g) e =
-        let l : Listed g = listed g (accepted 4096 file g (taken_group file g e).0).list in
+        let l : Listed g = listed g (group_listed file g e) in
         rw (read_trimmed g w bs (omega (arith, l.few, l.short)))
 
 -- both files trimmed

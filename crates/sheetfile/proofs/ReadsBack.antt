@@ -28,8 +28,7 @@ use Rattle.lines.specs.Text.{text, between}
 use Rattle.lines.specs.Numbers.{is_digit}
 use Rattle.lines.specs.Lines.{is_place, places, first, second, third, fourth, line_of, filled}
 use Rattle.lines.specs.Outcomes.{taken, ◌>>=◌, ◌>>◌, passed, judge, line_or, line_due}
-use Rattle.pairfile.proofs.Accepts.{accepted}
-use Rattle.pairfile.proofs.Grouped.{taken_group}
+use Rattle.pairfile.proofs.Grouped.{group_listed}
 use Rattle.lines.proofs.Found.{judge_passed}
 use Rattle.lines.proofs.Fills.{small, starts_plain, parted, line_filled}
 use Rattle.sheetfile.specs.Sheet.{
@@ -190,5 +189,5 @@ none_met g s o ek ec =
 pub accepts_back : AcceptsBack
 unfolding AcceptsBack SheetBack audit audit_sheet ◌>>=◌ ◌>>◌
 accepts_back file g s e o ek ec =
-    let list = (accepted 4096 file g (taken_group file g e).0).list in
+    let list = group_listed file g e in
     rw (e, sheet_back g s list (best_writable file g s e o ek ec), judge_passed (sheet_causes g s) (none_met g s o ek ec))

@@ -24,7 +24,6 @@ use Rattle.theory.specs.Ratio.{float_ratio}
 use Rattle.theory.specs.Plain as plain
 use Rattle.theory.specs.Plain.{weighted}
 use Rattle.theory.proofs.Refusals.{refusal_none}
-use Rattle.theory.proofs.Pairless.{pairless}
 use Rattle.theory.proofs.Plain.{inside_plain, found_plain, surplus_plain, members_plain, check_plain}
 use Rattle.theory.proofs.PlainCores.{leaving_plain, core_numbers_plain}
 use Rattle.records.specs.declared.Pair.{Pair}
@@ -50,7 +49,7 @@ use Rattle.statements.specs.Entry.{CheckSays, surplus_refusal, Differs, SurplusS
 use Rattle.statements.specs.Promise.{Ones, ListStated, PeelStated, SolveStated, CheckStated, TwentyStated, SurplusStated}
 use Rattle.statements.proofs.Lent.{lent, list_lent, held_lent, refusal_lent}
 use Rattle.statements.proofs.Sheets.{found_as}
-use Rattle.statements.proofs.Twenty.{number, past_twenty, twenty_open, open_twenty, neither}
+use Rattle.statements.proofs.Twenty.{number, past_twenty, twenty_where}
 
 -- what is the same where nothing is refused is the same answer
 same_taken : {A : Type 0} (k : ℕ) (x y old : A) → (k ≡ 0 → x ≡ y) → if_taken k x old ≡ if_taken k y old
@@ -60,6 +59,11 @@ same_taken k x y old f = go (eqb k 0) refl
     go : (t : Bool) → eqb k 0 ≡ t → cond t x old ≡ cond t y old
     go true e = f (eqb-true k 0 e)
     go false e = refl
+
+-- a list has no pair where its M is 0
+none_where : (m : ℕ) → (no_pair m ≡ true) ↔ (m ≡ 0)
+unfolding no_pair
+none_where m = (λ t. eqb-true m 0 t, λ e. rw e refl)
 
 -- 13 written first, or last
 turned : (t : Bool) (x y : ℕ) → cond (not t) x y ≡ cond t y x
@@ -192,17 +196,10 @@ module _ (h : Head) (ps : List Pair) (members shares work : List ℕ) (v : Verdi
   -- where 20 comes
   check_twenty : let f = plain.check_refusal h.n h.m (ends_of ps) members shares (length work) in
       (v.number ≡ 20) ↔ ((h.m ≡ 0) × (f ≡ 13 → ⊥) × (f ≡ 12 → ⊥))
-  unfolding check_number no_pair
+  unfolding check_number
   check_twenty =
-      let low = check_few (held_list h ps) (take h.n members) (take h.m shares) in (
-        λ e.
-            let o = twenty_open (agrees h ps) short none _ (λ k. omega (arith, k, low)) (sym check_number_is ∙ e) in
-            let f : plain.check_refusal h.n h.m (ends_of ps) members shares (length work) ≡ refusal causes = sym check_order_is ∙ rw (o.0, o.1) in
-            (sym (length_held h ps o.0) ∙ eqb-true _ 0 o.2, λ k. omega (arith, k, f, low), λ k. omega (arith, k, f, low)),
-        λ e.
-            let o = neither (agrees h ps) short _ (λ k. e.1 (sym check_order_is ∙ k)) (λ k. e.2 (sym check_order_is ∙ k)) in
-            check_number_is ∙ open_twenty (agrees h ps) short none _ o.0 o.1 (pairless _ (length_held h ps o.0 ∙ e.0)),
-      )
+      twenty_where (agrees h ps) short none check_number_is (sym check_order_is) (check_few (held_list h ps) (take h.n members) (take h.m shares))
+      (λ e. rw (length_held h ps e) (none_where h.m))
 
 pub check_says : CheckStated
 unfolding CheckStated
@@ -304,18 +301,10 @@ module _ (h : Head) (ps : List Pair) (members cores shares work : List ℕ) (r :
       rw (← order) (solve_as r.number refl, call.left)
 
   -- where 20 comes
-  solve_twenty : (r.number ≡ 20) ↔
-      ((h.m ≡ 0) × (solve_refusal h.n h.m (ends_of ps) (length members) (length cores) (length shares) (length work) ≡ 0))
-  unfolding no_pair
-  solve_twenty = (
-    λ e.
-        let o = twenty_open (agrees h ps) solve_short (no_pair h.m) 0 (λ k. omega (arith, k)) (sym solve_number_is ∙ e) in
-        (eqb-true h.m 0 o.2, sym solve_order_is ∙ rw (o.0, o.1)),
-    λ e.
-        let z = solve_order_is ∙ e.1 in
-        let o = neither (agrees h ps) solve_short 0 (λ k. omega (arith, z, k)) (λ k. omega (arith, z, k)) in
-        solve_number_is ∙ open_twenty (agrees h ps) solve_short (no_pair h.m) 0 o.0 o.1 (pairless h.m e.0),
-  )
+  solve_twenty : let f = solve_refusal h.n h.m (ends_of ps) (length members) (length cores) (length shares) (length work) in
+      (r.number ≡ 20) ↔ ((h.m ≡ 0) × (f ≡ 13 → ⊥) × (f ≡ 12 → ⊥))
+  solve_twenty =
+      twenty_where (agrees h ps) solve_short (no_pair h.m) solve_number_is (sym solve_order_is) (omega arith) (λ e. none_where h.m)
 
 pub solve_says : SolveStated
 unfolding SolveStated

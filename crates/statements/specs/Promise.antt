@@ -57,7 +57,8 @@ CheckStated =
 pub record TwentyStated : Type 0 where
   pub solve : (h : Head) (ps : List Pair) (members cores shares work : List ℕ) (r : Solved) (members' cores' shares' work' : List ℕ) →
       Ones h ps → SolveCall h ps members cores shares work r members' cores' shares' work' →
-      (r.number ≡ 20) ↔ ((h.m ≡ 0) × (solve_refusal h.n h.m (ends_of ps) (length members) (length cores) (length shares) (length work) ≡ 0))
+      let f = solve_refusal h.n h.m (ends_of ps) (length members) (length cores) (length shares) (length work) in
+      (r.number ≡ 20) ↔ ((h.m ≡ 0) × (f ≡ 13 → ⊥) × (f ≡ 12 → ⊥))
   pub check : (h : Head) (ps : List Pair) (members shares work : List ℕ) (v : Verdict) (work' : List ℕ) →
       Ones h ps → CheckCall h ps members shares work v work' →
       let f = check_refusal h.n h.m (ends_of ps) members shares (length work) in

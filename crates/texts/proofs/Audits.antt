@@ -12,8 +12,7 @@ use Rattle.theory.proofs.Bounds.{size_bound}
 use Rattle.theory.proofs.Tests.{tests}
 use Rattle.lines.specs.Outcomes.{Outcome, refused, taken}
 use Rattle.lines.specs.Lines.{filled}
-use Rattle.pairfile.proofs.Accepts.{accepted}
-use Rattle.pairfile.proofs.Grouped.{taken_group}
+use Rattle.pairfile.proofs.Grouped.{group_listed}
 use Rattle.refusals.specs.declared.Refusal.{Refusal}
 use Rattle.refusals.specs.Numbers.{number_of}
 use Rattle.numbers.specs.declared.Ratio.{Ratio}
@@ -57,5 +56,5 @@ module _ {file sheet : List ℕ} {r : Ratio} (a : Audits file sheet (answered (O
       let c = b.2 in
       let same = ratio_as s b.1 in
       let w = best_writable file c.list s c.named c.optimal c.order c.core_size in
-      let few = size_bound c.list s.members (accepted 4096 file c.list (taken_group file c.list c.named).0).list w.group in
+      let few = size_bound c.list s.members (group_listed file c.list c.named) w.group in
       simp tests (omega (arith, same.0, w.head_digits.0), (omega (arith, same.1, w.members_size, few), refl))

@@ -29,8 +29,7 @@ use Rattle.refusals.specs.Numbers.{number_of}
 use Rattle.lines.specs.Outcomes.{Outcome, refused, taken, number_given, outcome_of}
 use Rattle.lines.proofs.Taken.{refused_not_taken, taken_same}
 use Rattle.pairfile.specs.File.{group_list}
-use Rattle.pairfile.proofs.Accepts.{accepted}
-use Rattle.pairfile.proofs.Grouped.{taken_group}
+use Rattle.pairfile.proofs.Grouped.{group_listed}
 use Rattle.on_words.specs.Buffers.{in_front}
 use Rattle.lines.specs.Putting.{Puts, Writes}
 use Rattle.lines.specs.declared.writer.Writer.{Writer}
@@ -152,7 +151,7 @@ module _ {file members : List ℕ} {x : Answer} {members' : List ℕ} (a : Answe
 
   module _ (g : Pairs) (e : group_list file ≡ taken g) (is : x ≡ group_answer g (found_of g)) where
     list : is_list g ≡ true
-    list = (accepted 4096 file g (taken_group file g e).0).list
+    list = group_listed file g e
 
     n_as : x.head.n ≡ g.n
     unfolding group_answer
@@ -197,7 +196,7 @@ module _ {file members cores shares words : List ℕ} {x : Answer} {members' cor
     shares_of = take (length g.pairs) shares'
 
     held : Listed g
-    held = listed g (accepted 4096 file g (taken_group file g e).0).list
+    held = listed g (group_listed file g e)
 
     over : HandedOver g members cores shares words x members' cores' shares' words'
     over = rw is (s.taken g e)

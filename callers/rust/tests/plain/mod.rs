@@ -203,6 +203,18 @@ pub fn is_group(n: usize, members: &[u8]) -> bool {
     members[..n].iter().all(|&x| x <= 1) && members[..n].contains(&1)
 }
 
+/// Solve's number, with so many member bytes, core numbers, shares and words of work.
+pub fn solve(head: Head, list: &[Pair], [members, cores, shares, work]: [usize; 4]) -> u32 {
+    let (n, m) = (head.n as usize, head.m as usize);
+    if !agree(head, list) {
+        13
+    } else if members < n || cores < n || shares < m || work < 16384 {
+        12
+    } else {
+        20 * (m == 0) as u32
+    }
+}
+
 /// Check's number, P and Q.
 pub fn check(head: Head, list: &[Pair], members: &[u8], shares: &[u32], work: usize) -> (u32, u32, u32) {
     if !agree(head, list) {
