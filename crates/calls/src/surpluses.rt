@@ -1,5 +1,5 @@
-// surplus: groups of the list *tail* of document 01, whose found group is 0 to 3, of ratio 6/4; and with other counts of its pair 3,4; groups of a list without
-// pairs.
+// surplus: groups of the list *tail* of document 01, whose found group is 0 to 3, of ratio 6/4; and with other counts of its pair 3,4; groups of a list
+// without pairs.
 use crate::samples::{Damage, Lent, NONE};
 use crate::{print, samples};
 use kandurzo::surplus;

@@ -151,7 +151,8 @@ module _ (h : Head) (ps : List Pair) (members cores shares work : List ℕ) {r :
               (members_enough, (rw m_held at shares_enough, w)),
         ) refl in
         let rest = judged_causes u (take h.n members') (take h.m shares') in
-        check.number ∙ gate_then (agrees h ps) short rest gate ∙ judged_served u _ _ (rw m_held (paired h.m (solve_passed h ps members cores shares work call z).1)) ∙ sheet_good
+        let some = (solve_passed h ps members cores shares work call z).1 in
+        check.number ∙ gate_then (agrees h ps) short rest gate ∙ judged_served u _ _ (rw m_held (paired h.m some)) ∙ sheet_good
 
 pub solve_accepted : SolveAccepted
 unfolding SolveAccepted if_taken held_list

@@ -91,8 +91,8 @@ EveryListJudged =
     CheckCall h ps members shares work v work' →
     CheckSays g (take g.n members) (take (length g.pairs) shares) v × (work' ≡ cleared work)
 
--- SURPLUS LOOKS AT THE TWO GROUPS OF EVERY LIST that is lent with buffers of the stated sizes: neither 13 nor 12 comes; 7 or 0, and the value, are said of that
--- list and the two groups
+-- SURPLUS LOOKS AT THE TWO GROUPS OF EVERY LIST that is lent with buffers of the stated sizes: neither 13 nor 12 comes; 7 or 0, and the value, are said of
+-- that list and the two groups
 unfoldable pub EveryListCompared : Type 0
 EveryListCompared =
     (g : Pairs) (h : Head) (ps : List Pair) (t s : List ℕ) (d : Difference) → Lent g h ps → g.n ≤ length t → g.n ≤ length s →

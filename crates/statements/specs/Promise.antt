@@ -1,5 +1,5 @@
--- Our contracts are no weaker than document 03's, 20 aside: of a list of ones, whatever a call of kandurzo answers and leaves is as document 03 states it, of N
--- and M of the head and the records as numbers, two for each (`ends_of`). So from peel, solve, check and surplus a list of ones gets the earlier answers
+-- Our contracts are no weaker than document 03's, 20 aside: of a list of ones, whatever a call of kandurzo answers and leaves is as document 03 states it,
+-- of N and M of the head and the records as numbers, two for each (`ends_of`). So from peel, solve, check and surplus a list of ones gets the earlier answers
 -- (document 02, item 4). Document 03 has no 20 and serves a list without pairs, which solve and check turn down (document 02, item 6): of these two its
 -- statements hold of every call that does not answer 20. A statement is a type; proofs/Says.antt has its theorem.
 --   Ones              the first M records count once each, as all pairs of document 03 do
