@@ -32,17 +32,6 @@ use Rattle.peel.specs.Places.{index_of}
 use Rattle.slots.specs.Buffers.{entry}
 
 module _ (g : Pairs) where
-  pub leaver_at : (i : ℕ) → i < g.n → leaver g (remainder g i) ≡ some (get_or (leaving g) i 0)
-  unfolding LeavingSteps
-  leaver_at i l = (leaving_steps g).1 i l
-
-  pub remainder_full : (i : ℕ) → i ≤ g.n → length (remainder g i) ≡ g.n
-  remainder_full i l = (peeled g i l).full
-
-  pub leaver_in : (i : ℕ) → i < g.n → is_in (remainder g i) (get_or (leaving g) i 0) ≡ true
-  unfolding LeaverFewest
-  leaver_in i l = (leaver_fewest g (remainder g i) (get_or (leaving g) i 0) (leaver_at i l)).1
-
   pub leaver_below : (i : ℕ) → i < g.n → get_or (leaving g) i 0 < g.n
   unfolding LeaverFewest
   leaver_below i l = (leaver_fewest g (remainder g i) (get_or (leaving g) i 0) (leaver_at i l)).0
@@ -62,16 +51,6 @@ module _ (g : Pairs) where
           fails (is_in (set (remainder g i) (get_or (leaving g) i 0) 0) (get_or (leaving g) j 0))
           (λ y. no (sym (ih (leb-false i j e)) ∙ none_comes (remainder g i) (get_or (leaving g) i 0) (get_or (leaving g) j 0) y))
 
-  -- later remainders lie in earlier ones
-  remainder_sub : (i j : ℕ) → i ≤ j → Sub (remainder g j) (remainder g i)
-  unfolding remainder left_behind
-  remainder_sub i zero l = let same : i ≡ 0 = omega arith in rw same (λ u e. e)
-  remainder_sub i (suc j) l = go (leb i j) refl (remainder_sub i j)
-    where
-      go : (t : Bool) → leb i j ≡ t → (i ≤ j → Sub (remainder g j) (remainder g i)) → Sub (remainder g (suc j)) (remainder g i)
-      go true e ih = λ u k. ih (leb-true i j e) u (none_comes (remainder g j) (get_or (leaving g) j 0) u k)
-      go false e ih = let same : i ≡ suc j = omega (arith, leb-false i j e) in rw same (λ u k. k)
-
   -- so no module stands at two places
   later_apart : (i j : ℕ) → j < i → i < g.n → get_or (leaving g) j 0 ≡ get_or (leaving g) i 0 → ⊥
   later_apart i j l h e =
@@ -85,21 +64,6 @@ module _ (g : Pairs) where
       go true true x y = omega (arith, leb-true i j x, leb-true j i y)
       go true false x y = absurd (later_apart j i (leb-false j i y) k e)
       go false t x y = absurd (later_apart i j (leb-false i j x) h (sym e))
-
-  pub remainder_size : (i : ℕ) → i ≤ g.n → size (remainder g i) + i ≡ g.n
-  unfolding remainder left_behind
-  remainder_size zero h = omega (arith, size_everyone g)
-  remainder_size (suc i) h =
-      omega (arith, remainder_size i (omega arith), size_leave (remainder g i) (get_or (leaving g) i 0) (leaver_in i h))
-
-  remainder_bytes : (i : ℕ) → bytes_good (remainder g i) ≡ true
-  unfolding remainder left_behind
-  remainder_bytes zero = (everyone_bits g).1
-  remainder_bytes (suc i) = good_leave (remainder g i) (get_or (leaving g) i 0) (remainder_bytes i)
-
-  pub remainder_group : (i : ℕ) → i < g.n → is_group g (remainder g i) ≡ true
-  remainder_group i l =
-      bits_group g (remainder g i) (remainder_full i (omega arith), remainder_bytes i) (omega (arith, remainder_size i (omega arith)))
 
   pub leaving_entries : table g.n (entry (leaving g)) ≡ leaving g
   unfolding entry LeavingSteps

@@ -67,16 +67,6 @@ module _ (finals : List ℕ) where
   unfolding densest_by
   best_next i a b l k = rw add-one (best_of_two (densest_by (length finals) (remaining finals) i) (suc i) a b l (rw add-one at k))
 
--- the densest of the first i is one of them
-pub densest_le : (g : Pairs) (i : ℕ) → densest_upto g i ≤ i
-unfolding densest_upto denser_of
-densest_le g zero = omega arith
-densest_le g (suc i) = go (at_most g (remainder g (suc i)) (remainder g (densest_upto g i))) (densest_le g i)
-  where
-    go : (t : Bool) → densest_upto g i ≤ i → cond t (densest_upto g i) (suc i) ≤ suc i
-    go true ih = omega arith
-    go false ih = omega arith
-
 -- ---- by the list
 
 module _ (n m : ℕ) (ends weights : List ℕ) (h : is_list (list_in n m ends weights) ≡ true) where
@@ -141,62 +131,3 @@ module _ (g : Pairs) (h : is_list g ≡ true) where
     densest_by_is zero l = refl
     densest_by_is (suc i) l =
         rw (densest_by_is i (omega arith)) (denser_by_is (densest_upto g i) (suc i) (omega (arith, densest_le g i)) l)
-
--- ---- the densest of them
-
--- what is compared is a ratio: remainders with a module left are groups
-as_dense_self : (g : Pairs) (s : List ℕ) → at_most g s s ≡ true
-unfolding at_most
-as_dense_self g s = le-leb (inside g s * size s) (inside g s * size s) (omega arith)
-
--- one more remainder: the densest so far stays, or gives way to it
-densest_cases : (g : Pairs) (i : ℕ) (P : ℕ → Type 0) →
-    (at_most g (remainder g (suc i)) (remainder g (densest_upto g i)) ≡ true → P (densest_upto g i)) →
-    (at_most g (remainder g (suc i)) (remainder g (densest_upto g i)) ≡ false → P (suc i)) → P (densest_upto g (suc i))
-unfolding densest_upto denser_of
-densest_cases g i P stays gives = go (at_most g (remainder g (suc i)) (remainder g (densest_upto g i))) refl
-  where
-    go : (t : Bool) → at_most g (remainder g (suc i)) (remainder g (densest_upto g i)) ≡ t → P (cond t (densest_upto g i) (suc i))
-    go true e = stays e
-    go false e = gives e
-
--- a number up to i + 1 is one up to i, or i + 1
-up_to : (i : ℕ) (P : ℕ → Type 0) → ((j : ℕ) → j ≤ i → P j) → P (suc i) → (j : ℕ) → j ≤ suc i → P j
-up_to i P below here j l = go (leb j i) refl
-  where
-    go : (t : Bool) → leb j i ≡ t → P j
-    go true e = below j (leb-true j i e)
-    go false e = let same : j ≡ suc i = omega (arith, leb-false j i e) in rw same here
-
--- no remainder so far is denser
-pub densest_best : (g : Pairs) (i : ℕ) → i < g.n → (j : ℕ) → j ≤ i → at_most g (remainder g j) (remainder g (densest_upto g i)) ≡ true
-unfolding densest_upto
-densest_best g zero h = λ j l. let same : j ≡ 0 = omega arith in rw same (as_dense_self g (remainder g 0))
-densest_best g (suc i) h =
-    densest_cases g i (λ d. (j : ℕ) → j ≤ suc i → at_most g (remainder g j) (remainder g d) ≡ true)
-    (λ e. up_to i (λ j. at_most g (remainder g j) (remainder g (densest_upto g i)) ≡ true) (densest_best g i (omega arith)) e)
-    (λ e. up_to i (λ j. at_most g (remainder g j) (remainder g (suc i)) ≡ true)
-    (λ j l.
-    at_most_trans g (remainder g j) (remainder g (densest_upto g i)) (remainder g (suc i))
-    (remainder_group g (densest_upto g i) (omega (arith, densest_le g i)))
-    (densest_best g i (omega arith) j l) (other e))
-    (as_dense_self g (remainder g (suc i))))
-  where
-    other : at_most g (remainder g (suc i)) (remainder g (densest_upto g i)) ≡ false →
-        at_most g (remainder g (densest_upto g i)) (remainder g (suc i)) ≡ true
-    other e = ⊎_elim (λ a. a) (λ a. no (sym e ∙ a)) (at_most_or g (remainder g (densest_upto g i)) (remainder g (suc i)))
-
--- and none as dense is larger
-pub densest_larger : (g : Pairs) (i : ℕ) → i < g.n → (j : ℕ) → j ≤ i →
-    at_most g (remainder g (densest_upto g i)) (remainder g j) ≡ true → densest_upto g i ≤ j
-unfolding densest_upto
-densest_larger g zero h = λ j l e. omega arith
-densest_larger g (suc i) h =
-    densest_cases g i (λ d. (j : ℕ) → j ≤ suc i → at_most g (remainder g d) (remainder g j) ≡ true → d ≤ j)
-    (λ e. up_to i (λ j. at_most g (remainder g (densest_upto g i)) (remainder g j) ≡ true → densest_upto g i ≤ j)
-    (densest_larger g i (omega arith)) (λ _. omega (arith, densest_le g i)))
-    (λ e. up_to i (λ j. at_most g (remainder g (suc i)) (remainder g j) ≡ true → suc i ≤ j)
-    (λ j l a. no (sym e
-    ∙ at_most_trans g (remainder g (suc i)) (remainder g j) (remainder g (densest_upto g i)) (remainder_group g j (omega arith)) a
-    (densest_best g i (omega arith) j l)))
-    (λ _. omega arith))

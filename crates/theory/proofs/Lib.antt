@@ -13,6 +13,7 @@ pub mod Best
 pub mod Cores
 pub mod Leaving
 pub mod Peeling
+pub mod Remainders
 pub mod Assign
 pub mod Splits
 pub mod Surplus
@@ -20,6 +21,7 @@ pub mod Rounding
 pub mod FloatOrder
 pub mod Floats
 pub mod Bounds
+pub mod Kits
 pub mod Cases
 pub mod Promises
 pub mod Plain
