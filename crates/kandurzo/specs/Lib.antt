@@ -6,6 +6,7 @@ pub mod Writing
 pub mod Peeling
 pub mod Judging
 pub mod Solving
+pub mod Kitting
 pub mod Promise
 pub mod Keeping
 pub mod Twice

@@ -1,6 +1,6 @@
 -- What the planner is promised of the calls. A statement is a type; proofs/Promises.antt has a theorem for each, of the same name in small letters.
--- Lent, PeelServed, SolveServed, TurnedDown, PeelingOf, BestOfAll, SharesAlike and CompareAlike are what statements say of one list, call or answer. A
--- statement speaks of a call by what its contract in src/lib.rt says of it (AddSays, PeelCall and so on). The planner's demands:
+-- Lent, PeelServed, SolveServed, TurnedDown, KitServed, NoKit, PeelingOf, BestOfAll, SharesAlike and CompareAlike are what statements say of one list, call or
+-- answer. A statement speaks of a call by what its contract in src/lib.rt says of it (AddSays, PeelCall and so on). The planner's demands:
 --   1. Every list, with buffers of the stated sizes, gets its group, core numbers and load sheet; a call that meets a refusal condition gets that
 --      number and changes no head, list or answer buffer. A list without pairs has no group (document 02, item 6): solve and check turn it down.
 --   2. The group is the largest of all groups of greatest ratio; core numbers, leaving order, surplus and file reading are those of document 01, where a
@@ -10,6 +10,7 @@
 --      at share size Q is exactly P. (The equality: theory, specs/Promise.antt; of solve and check: Optimal, in Handed and in CheckCall.)
 -- The statements:
 --   every list    Lent, LentHeld; PeelServed, EveryListPeeled; SolveServed, EveryListSolved; EveryListJudged, EveryListCompared; TurnedDown, NoStopsNoGroup
+--   kits          KitServed, EveryListPacked; NoKit, KitTurnedDown
 --   refusals      RefusalsKeep; UnsplitNever, FifteenNever
 --   answers       PeelingOf, PeelExact; BestOfAll, CheckExact; SharesAlike, SolveAlone, SolveAccepted; CompareAlike, RecordsInOrder
 -- Those of start, add, remove and read are in Keeping (and 13 after read_dimacs), the others of read_dimacs and write_dimacs in Exchange; what 5 before 4
@@ -24,6 +25,7 @@ use Rattle.theory.specs.Leaving.{leaver, leaving, left_behind}
 use Rattle.theory.specs.Cores.{core_numbers}
 use Rattle.theory.specs.Splits.{is_split, pair_in_core}
 use Rattle.theory.specs.Promise.{BothBest, LargestOrder}
+use Rattle.theory.specs.Kits.{bad_least, kit, KitPromise}
 use Rattle.verify.specs.declared.Verdict.{Verdict}
 use Rattle.verify.specs.declared.Difference.{Difference}
 use Rattle.verify.specs.Answers.{refused_by, CheckSays, SurplusSays}
@@ -43,6 +45,7 @@ use Rattle.kandurzo.specs.Peeling.{PeelCall}
 use Rattle.on_words.specs.Solving.{Handed, Declined}
 use Rattle.kandurzo.specs.Solving.{Unsplit, SolveCall}
 use Rattle.kandurzo.specs.Judging.{CheckCall, SurplusCall}
+use Rattle.kandurzo.specs.Kitting.{KitCall}
 
 -- ---- every list
 
@@ -116,10 +119,38 @@ pub record NoStopsNoGroup : Type 0 where
       CheckCall h ps members shares work v work' →
       (g.pairs ≡ []) ↔ ((v ≡ refused_by 20) × (work' ≡ cleared work))
 
+-- a list gets its kit: no refusal; its member bytes in front, its P and Q; the work buffer is cleared
+pub record KitServed (g : Pairs) (k : ℕ) (members work : List ℕ) (v : Verdict) (members' work' : List ℕ) : Type 0 where
+  pub number : v.number ≡ 0
+  pub members_are : members' ≡ in_front (kit g k) members
+  pub promise : KitPromise g k (take g.n members') v.p v.q
+  pub left : work' ≡ cleared work
+
+-- KIT SERVES EVERY LIST WITH A PAIR that is lent with buffers of the stated sizes, at every k from 1 to N
+unfoldable pub EveryListPacked : Type 0
+EveryListPacked =
+    (g : Pairs) (h : Head) (ps : List Pair) (k : ℕ) (members work : List ℕ) (v : Verdict) (members' work' : List ℕ) →
+    Lent g h ps → 1 ≤ length g.pairs → 1 ≤ k → k ≤ g.n → g.n ≤ length members → 16384 ≤ length work →
+    KitCall h ps k members work v members' work' → KitServed g k members work v members' work'
+
+-- no kit is made: P and Q are 0, the member bytes as before, and the work buffer is cleared
+pub record NoKit (number : ℕ) (members work : List ℕ) (v : Verdict) (members' work' : List ℕ) : Type 0 where
+  pub answer : v ≡ refused_by number
+  pub members_are : members' ≡ members
+  pub left : work' ≡ cleared work
+
+-- WHAT IS TURNED DOWN, of the lists that are lent with buffers of the stated sizes: those without pairs by 20, at any k; of the others k outside 1 to N by 21
+unfoldable pub KitTurnedDown : Type 0
+KitTurnedDown =
+    (g : Pairs) (h : Head) (ps : List Pair) (k : ℕ) (members work : List ℕ) (v : Verdict) (members' work' : List ℕ) →
+    Lent g h ps → g.n ≤ length members → 16384 ≤ length work → KitCall h ps k members work v members' work' →
+    ((g.pairs ≡ []) ↔ NoKit 20 members work v members' work')
+    × (((1 ≤ length g.pairs) × (bad_least g.n k ≡ true)) ↔ NoKit 21 members work v members' work')
+
 -- ---- refusals
 
--- A REFUSED CALL CHANGES NO HEAD, LIST OR ANSWER BUFFER (start has none of them; place, peel, solve, check, surplus and write_dimacs
--- only read head and list)
+-- A REFUSED CALL CHANGES NO HEAD, LIST OR ANSWER BUFFER (start has none of them; place, peel, solve, check, kit, surplus and
+-- write_dimacs only read head and list)
 pub record RefusalsKeep : Type 0 where
   pub add : (h : Head) (ps : List Pair) (a b w : ℕ) (r : Changed) (ps' : List Pair) →
       AddSays h ps a b w r ps' → (r.number ≡ 0 → ⊥) → (r.head ≡ h) × (ps' ≡ ps)
@@ -133,6 +164,8 @@ pub record RefusalsKeep : Type 0 where
   pub solve : (h : Head) (ps : List Pair) (members cores shares work : List ℕ) (r : Solved) (members' cores' shares' work' : List ℕ) →
       SolveCall h ps members cores shares work r members' cores' shares' work' → (r.number ≡ 0 → ⊥) →
       (members' ≡ members) × (cores' ≡ cores) × (shares' ≡ shares)
+  pub kit : (h : Head) (ps : List Pair) (k : ℕ) (members work : List ℕ) (v : Verdict) (members' work' : List ℕ) →
+      KitCall h ps k members work v members' work' → (v.number ≡ 0 → ⊥) → members' ≡ members
   pub write_dimacs : (h : Head) (ps : List Pair) (text : List ℕ) (w : Written) (text' : List ℕ) →
       WriteCall h ps text w text' → (w.number ≡ 0 → ⊥) → text' ≡ text
 

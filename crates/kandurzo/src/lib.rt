@@ -1,5 +1,5 @@
-// The public calls of Kandurzo, over lent records (document 01, "The list and its calls"; document 02, items 1 to 4 and 6: DIMACS files; 5 before 4;
-// place; stop counts; no group without pairs). An entry is one line: it turns the `Result` of the call's own function, which refuses by `?`, into what C is
+// The public calls of Kandurzo, over lent records (document 01, "The list and its calls"; document 02, items 1 to 4, 6 and 7: DIMACS files; 5 before
+// 4; place; stop counts; no group without pairs; kits). An entry is one line: it turns the `Result` of the call's own function, which refuses by `?`, into what C is
 // answered. That function takes the records that are held, copies them to words (crate records), and leaves the rest to crate `on_words`. Head and list are
 // two parameters, as C passes them. The entries are here for Rattle callers, and once more in `kandurzo_c` for C: a static library is a crate that no other
 // can use.
@@ -21,6 +21,7 @@ ghost use Rattle.kandurzo.specs.Writing.{WriteCall};
 ghost use Rattle.kandurzo.specs.Peeling.{PeelCall};
 ghost use Rattle.kandurzo.specs.Solving.{SolveCall};
 ghost use Rattle.kandurzo.specs.Judging.{CheckCall, SurplusCall};
+ghost use Rattle.kandurzo.specs.Kitting.{KitCall};
 
 use changes::{added, begun, found, removed};
 use files::{read_as, written};
@@ -28,7 +29,7 @@ use on_words::reading::{EdgeFile, PairFile};
 pub use on_words::{Placed, Solved, Written};
 use records::{Head, Pair};
 use refusals::{Refusal, number};
-use sheets::{checked, compared, peeled, solved};
+use sheets::{checked, compared, packed, peeled, solved};
 use verify::{Difference, Verdict};
 
 // What start, add, remove, read and read_dimacs answer, as C has it: the refusal number or 0, and the head after the call.
@@ -206,6 +207,24 @@ pub extern "C" fn kandurzo_check(
 }
 
 pub use kandurzo_check as check;
+
+// The kit of at least k modules: of the sets left over in the leaving order, the full set included, with at least k modules the one of greatest ratio, of
+// equals the larger, by member bytes; its P and Q. Three times its ratio is no less than the ratio of any group with at least k modules. Refuses by 13, 12
+// (members, work), 20, 21.
+#[unsafe(no_mangle)]
+pub extern "C" fn kandurzo_kit(
+    head: Head,
+    list: &[Pair],
+    k: u32,
+    members: &mut [u8],
+    work: &mut [u32],
+) -> Verdict
+    ensures { KitCall head list.now k members.old work.old result members.new work.new }
+{
+    Verdict::from(packed(head, list, k, members, work))
+}
+
+pub use kandurzo_kit as kit;
 
 // The surplus of the first group against the second. Refuses by 13, 12 (both sets), 7.
 #[unsafe(no_mangle)]

@@ -1,15 +1,17 @@
-// Peel, solve, check and surplus: what they find, or why they refuse.
+// Peel, solve, check, kit and surplus: what they find, or why they refuse.
 ghost use Rattle.refusals.specs.Numbers.{number_in};
 ghost use Rattle.verify.specs.Answers.{verdict_of, difference_of};
 ghost use Rattle.on_words.specs.Solving.{solved_of};
 ghost use Rattle.kandurzo.specs.Peeling.{PeelCall};
 ghost use Rattle.kandurzo.specs.Solving.{SolveCall};
 ghost use Rattle.kandurzo.specs.Judging.{CheckCall, SurplusCall};
+ghost use Rattle.kandurzo.specs.Kitting.{KitCall};
 
 use crate::laying::lay_held;
 use numbers::Ratio;
 use on_words::Solution;
 use on_words::judging::{check_buffers, check_on_words, surplus_buffers, surplus_on_words};
+use on_words::kitting::{kit_buffers, kit_on_words};
 use on_words::peeling::{peel_buffers, peel_on_words};
 use on_words::solving::{solve_buffers, solve_on_words};
 use records::{Head, Pair};
@@ -64,6 +66,22 @@ pub(crate) fn checked(
     let lent = check_buffers(head, members.len(), shares.len(), work.len());
     lay_held(head, list, &lent, work)?;
     check_on_words(head, members, shares, work)
+}
+
+// The ratio of the kit of at least k modules; refuses by 13, 12, 20, 21.
+#[tactic(auto, using(on_words::proofs::Enough::kit_enough))]
+pub(crate) fn packed(
+    head: Head,
+    list: &[Pair],
+    k: u32,
+    members: &mut [u8],
+    work: &mut [u32],
+) -> Result<Ratio, Refusal>
+    ensures { KitCall head list.now k members.old work.old (verdict_of result) members.new work.new }
+{
+    let lent = kit_buffers(head, members.len(), work.len());
+    lay_held(head, list, &lent, work)?;
+    kit_on_words(head, k, members, work)
 }
 
 // The surplus of the first group against the second; refuses by 13, 12, 7.

@@ -11,6 +11,7 @@ ghost use Rattle.kandurzo.specs.Writing.{WriteCall};
 ghost use Rattle.kandurzo.specs.Peeling.{PeelCall};
 ghost use Rattle.kandurzo.specs.Solving.{SolveCall};
 ghost use Rattle.kandurzo.specs.Judging.{CheckCall, SurplusCall};
+ghost use Rattle.kandurzo.specs.Kitting.{KitCall};
 
 use kandurzo::{Changed, Placed, Solved, Written};
 use records::{Head, Pair};
@@ -139,6 +140,22 @@ pub extern "C" fn kandurzo_check(
     ensures { CheckCall head list.now members.now shares.now work.old result work.new }
 {
     kandurzo::kandurzo_check(head, list, members, shares, work)
+}
+
+// The kit of at least k modules: of the sets left over in the leaving order, the full set included, with at least k modules the one of greatest ratio, of
+// equals the larger, by member bytes; its P and Q. Three times its ratio is no less than the ratio of any group with at least k modules. Refuses by 13, 12
+// (members, work), 20, 21.
+#[unsafe(no_mangle)]
+pub extern "C" fn kandurzo_kit(
+    head: Head,
+    list: &[Pair],
+    k: u32,
+    members: &mut [u8],
+    work: &mut [u32],
+) -> Verdict
+    ensures { KitCall head list.now k members.old work.old result members.new work.new }
+{
+    kandurzo::kandurzo_kit(head, list, k, members, work)
 }
 
 // The surplus of the first group against the second. Refuses by 13, 12 (both sets), 7.

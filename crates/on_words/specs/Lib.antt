@@ -8,3 +8,4 @@ pub mod Writing
 pub mod Peeling
 pub mod Judging
 pub mod Solving
+pub mod Kitting

@@ -1,11 +1,11 @@
-// The calls of Kandurzo once their records lie in words (document 01, "The list and its calls"; document 02, items 1 to 4 and 6): the refusals in their
+// The calls of Kandurzo once their records lie in words (document 01, "The list and its calls"; document 02, items 1 to 4, 6 and 7): the refusals in their
 // order, the answer, and what is left in the lent buffers.
 //
 // A call takes the records that are held (gate: 13, and 12 where a lent buffer is short) and copies them to words (crate records); its function on words
 // works on the list that lies there, and clears the work buffer. Add and remove look the pair up in the words and shift what stands behind it; a reader
-// leaves the file's pairs in them. Each costs what the crate below it does (pairs, peel, densest, verify, pairfile, dimacs), and the 16,384 words that are
-// cleared. On words add refuses by 5, 4, 18, 19, 11, remove by 5, 4, 14, solve by 20, check by 20, 7, 8, 9, surplus by 7, and both readers by the file's
-// numbers.
+// leaves the file's pairs in them. Each costs what the crate below it does (pairs, peel, kits, densest, verify, pairfile, dimacs), and the 16,384 words that
+// are cleared. On words add refuses by 5, 4, 18, 19, 11, remove by 5, 4, 14, solve by 20, check by 20, 7, 8, 9, kit by 20, 21, surplus by 7, and both readers
+// by the file's numbers.
 // Head and words are two parameters, not a struct that keeps what the words hold: a call lays them out once and hands them to one function. So that they
 // hold the list is a clause of each, and so are 16,384 words of work, which C lends.
 // `as` stands where std has no `From`: from u32 to usize, and where a bound lets a number fit fewer bits.
@@ -19,6 +19,7 @@ mod buffers;
 pub mod edits;
 pub mod gate;
 pub mod judging;
+pub mod kitting;
 pub mod peeling;
 pub mod reading;
 pub mod solving;

@@ -20,16 +20,17 @@ use Rattle.theory.specs.Promise.{LeavingEveryone, LeaverCore}
 use Rattle.theory.proofs.Tables.{greatest_ext}
 use Rattle.theory.proofs.Lists.{listed}
 use Rattle.theory.proofs.Leaving.{leaving_everyone}
+use Rattle.theory.specs.Kits.{densest_upto, densest_remainder}
 use Rattle.theory.proofs.Peeling.{leaver_core}
+use Rattle.theory.proofs.Remainders.{remainder_size, densest_le}
 use Rattle.peel.specs.declared.Remainder.{Remainder}
 use Rattle.peel.specs.Places.{index_of, places}
-use Rattle.peel.specs.Remainders.{densest_upto, densest_remainder}
 use Rattle.peel.specs.Peel.{Peels}
 use Rattle.slots.specs.Buffers.{entry, WrittenFront}
 use Rattle.peel.specs.Steps.{remaining, densest_by, LeaversWritten, Numberable, Numbered, Comparable, RemainderAt}
 use Rattle.slots.proofs.Buffers.{written_all}
-use Rattle.peel.proofs.Leavers.{leaver_below, leavers_apart, leaving_entries, place_of_leaver, remainder_size}
-use Rattle.peel.proofs.Remainders.{finals_inside, remaining_inside, densest_by_is, densest_le}
+use Rattle.peel.proofs.Leavers.{leaver_below, leavers_apart, leaving_entries, place_of_leaver}
+use Rattle.peel.proofs.Remainders.{finals_inside, remaining_inside, densest_by_is}
 
 -- the first entries of a buffer are as many as are asked for
 pub ruleset fronts = (length-take-le)

@@ -1,9 +1,6 @@
 -- The leaving order, place by place.
---   leaver_at                 who stands at place i leaves the remainder at i
---   leaver_in, leaver_below   it is there, and a module
+--   leaver_below              who stands at place i is a module
 --   leaver_out, leavers_apart    it does not come back: so no module stands at two places
---   remainder_full, remainder_size    a byte for each module; N − i are left when i have left
---   remainder_group           a remainder with a module left is a group
 --   leaving_entries           the order as a table
 --   place_of_leaver           the place of the leaver at place i is i
 --   remainder_by_place        a module is in a remainder exactly if it leaves later
@@ -27,7 +24,7 @@ use Rattle.theory.proofs.Tests.{no, fails}
 use Rattle.theory.proofs.Tables.{length_table, table_at}
 use Rattle.theory.proofs.Groups.{Sub, everyone_bits, bits_group, size_everyone, size_leave, good_leave, leaver_gone, none_comes}
 use Rattle.theory.proofs.Leaving.{leaver_fewest, leaving_steps, leaving_everyone}
-use Rattle.theory.proofs.Peeling.{peeled}
+use Rattle.theory.proofs.Remainders.{leaver_at, leaver_in, remainder_sub}
 use Rattle.peel.specs.Places.{index_of}
 use Rattle.slots.specs.Buffers.{entry}
 

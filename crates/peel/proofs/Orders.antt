@@ -19,7 +19,8 @@ use Rattle.ranking.specs.declared.Leaver.{Leaver}
 use Rattle.ranking.specs.Ranking.{SomePresent}
 use Rattle.peel.specs.Steps.{RankingOf, SomeRanked, LeaversWritten}
 use Rattle.peel.specs.Turns.{Turned}
-use Rattle.peel.proofs.Leavers.{leaver_at, leaver_in, leaver_below}
+use Rattle.theory.proofs.Remainders.{leaver_at, leaver_in}
+use Rattle.peel.proofs.Leavers.{leaver_below}
 
 -- i modules have left
 pub record TurnsDone (l : HeldList) (i : ℕ) (order finals keys order' finals' : List ℕ) : Type 0 where

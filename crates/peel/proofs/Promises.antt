@@ -13,15 +13,15 @@ use borrow.Author.Tests.{ltb-true, lt-ltb, le-ltb}
 use Rattle.theory.specs.Basics.{table}
 use Rattle.theory.specs.Leaving.{leaving, before}
 use Rattle.theory.specs.Cores.{core_number, core_numbers}
+use Rattle.theory.specs.Kits.{densest_remainder}
 use Rattle.theory.specs.Promise.{CoreExact, OutsideFirst}
 use Rattle.theory.proofs.Tests.{no}
 use Rattle.theory.proofs.Tables.{length_table, table_at}
 use Rattle.theory.proofs.Promises.{core_exact, outside_first}
 use Rattle.peel.specs.Places.{index_of, places}
-use Rattle.peel.specs.Remainders.{densest_remainder}
 use Rattle.peel.specs.Promise.{PeelPromised, PlaceBefore}
-use Rattle.peel.proofs.Leavers.{remainder_size, remainder_by_place}
-use Rattle.peel.proofs.Remainders.{densest_le, densest_best, densest_larger}
+use Rattle.theory.proofs.Remainders.{remainder_size, densest_le, densest_best, densest_larger}
+use Rattle.peel.proofs.Leavers.{remainder_by_place}
 
 -- ---- places
 

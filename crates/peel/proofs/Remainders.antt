@@ -1,10 +1,9 @@
--- The densest remainder, by the final degrees and by the list itself.
+-- The densest remainder by the final degrees is that of the list.
 --   remaining_total                     what is left inside, and the final degrees of those that have left
 --   best_next                           the densest so far
 --   inside_finals, finals_inside, remaining_inside    what is left inside is the remainder's inside count
 --   all_light                           it is at most 4,096,000
 --   denser_by_is, densest_by_is         the densest by the final degrees is the densest remainder
---   densest_best, densest_larger        no remainder of as many modules is denser, and none as dense is larger
 -- Assumes nothing.
 use mathlib.Core.Path.{◌≡◌, refl, sym, ◌∙◌}
 use mathlib.Core.Bool.{Bool, true, false, cond}
@@ -22,21 +21,21 @@ use Rattle.std.proofs.lemmas.List.Sums.{sum_by-drop_more}
 use Rattle.theory.specs.Lists.{Pairs, is_list}
 use Rattle.theory.specs.Groups.{size, everyone, holds_pair, inside, at_most}
 use Rattle.theory.specs.Leaving.{degree, leaving, left_behind, remainder, leaving_degree}
+use Rattle.theory.specs.Kits.{denser_of, densest_upto}
 use Rattle.theory.specs.Words.{word_pair, list_in}
 use Rattle.theory.proofs.Lists.{proper}
 use Rattle.theory.proofs.Tests.{no}
 use Rattle.theory.proofs.Groups.{inside_none}
 use Rattle.theory.proofs.Densest.{at_most_trans, at_most_or}
 use Rattle.theory.proofs.Cores.{inside_leave}
+use Rattle.theory.proofs.Remainders.{leaver_in, remainder_size, densest_le}
 use Rattle.slots.specs.Slots.{total}
 use Rattle.slots.proofs.Totals.{total_ext, total_const}
 use Rattle.slots.proofs.Held.{cond_most}
 use Rattle.slots.proofs.Words.{few_pairs, good_pair, inside_total}
 use Rattle.peel.specs.declared.Remainder.{Remainder}
-use Rattle.peel.specs.Remainders.{denser_of, densest_upto}
 use Rattle.slots.specs.Buffers.{entry}
 use Rattle.peel.specs.Steps.{remaining, denser_by, densest_by, RemainderAt, denser}
-use Rattle.peel.proofs.Leavers.{leaver_in, remainder_size, remainder_group}
 
 -- ---- by the final degrees
 

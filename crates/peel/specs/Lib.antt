@@ -1,6 +1,5 @@
 -- What peel answers, and what only its own functions cite; each file opens with what it gives.
 pub mod Places
-pub mod Remainders
 pub mod Peel
 pub mod Promise
 pub mod Steps

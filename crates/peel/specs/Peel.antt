@@ -7,9 +7,9 @@ use Rattle.theory.specs.Lists.{Pairs}
 use Rattle.theory.specs.Groups.{inside, size}
 use Rattle.theory.specs.Leaving.{leaving, remainder}
 use Rattle.theory.specs.Cores.{core_numbers}
+use Rattle.theory.specs.Kits.{densest_remainder}
 use Rattle.peel.specs.declared.Remainder.{Remainder}
 use Rattle.peel.specs.Places.{places}
-use Rattle.peel.specs.Remainders.{densest_remainder}
 
 -- the buffers have an entry for each module, and the densest remainder is asked of 1 to N modules
 pub record Peelable (n least : ℕ) (order cores place : List ℕ) : Type 0 where

@@ -4,7 +4,7 @@
 -- Assumes nothing: these are definitions.
 use Rattle.std.specs.Prelude.{ℕ, Result, Ok, Err}
 use Rattle.refusals.specs.declared.Refusal.{Refusal}
-use Rattle.refusals.specs.declared.Refusal.TheVariants.{BadLine, BadModuleCount, TooManyPairs, UnknownModule, PairedWithItself, BytesFollow, NoGroup, ShareTooLarge, LoadTooLarge, NamedTwice, ListFull, BufferTooShort, HeadDisagrees, NotHeld, BadEdgeLine, BadEdgeCount, BadStopCount, TooManyStops, NoPair, BadSheetLine, BadGroupSize, BadMember, BadCoreNumber, AnotherPair, SheetGoesOn, BadRatio, BadCore, FileTooLong, BadArgument}
+use Rattle.refusals.specs.declared.Refusal.TheVariants.{BadLine, BadModuleCount, TooManyPairs, UnknownModule, PairedWithItself, BytesFollow, BadMembers, ShareTooLarge, LoadTooLarge, NamedTwice, ListFull, BufferTooShort, HeadDisagrees, NotHeld, BadEdgeLine, BadEdgeCount, BadStopCount, TooManyStops, NoPair, BadLeastSize, BadSheetLine, BadGroupSize, BadMember, BadCoreNumber, AnotherPair, SheetGoesOn, BadRatio, BadCore, FileTooLong, BadArgument}
 
 -- the number of each case
 abbrev pub number_of : Refusal → ℕ
@@ -14,7 +14,7 @@ number_of TooManyPairs = 3
 number_of UnknownModule = 4
 number_of PairedWithItself = 5
 number_of BytesFollow = 6
-number_of NoGroup = 7
+number_of BadMembers = 7
 number_of ShareTooLarge = 8
 number_of LoadTooLarge = 9
 number_of NamedTwice = 10
@@ -27,6 +27,7 @@ number_of BadEdgeCount = 17
 number_of BadStopCount = 18
 number_of TooManyStops = 19
 number_of NoPair = 20
+number_of BadLeastSize = 21
 number_of BadSheetLine = 101
 number_of BadGroupSize = 102
 number_of BadMember = 103

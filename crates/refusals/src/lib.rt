@@ -22,7 +22,7 @@ pub enum Refusal {
     // Bytes follow the last pair line.
     BytesFollow = 6,
     // A member byte above 1 among the first N, or none is 1.
-    NoGroup = 7,
+    BadMembers = 7,
     // A share above its pair's units among the first M.
     ShareTooLarge = 8,
     // A load above P.
@@ -47,6 +47,8 @@ pub enum Refusal {
     TooManyStops = 19,
     // The list holds no pair.
     NoPair = 20,
+    // The least size of a kit, k, outside 1 to N.
+    BadLeastSize = 21,
     // A line of a sheet is missing, isn't of the form due there, or lacks its LF.
     BadSheetLine = 101,
     // Q outside 1 to N.

@@ -13,7 +13,7 @@ use std::alloc::{AllocError, Global};
 fn kind(answer: Result<Ratio, Refusal>) -> u32 {
     match answer {
         Ok(_) => 0,
-        Err(Refusal::NoGroup) => 1,
+        Err(Refusal::BadMembers) => 1,
         Err(Refusal::ShareTooLarge) => 2,
         Err(_) => 3,
     }

@@ -31,7 +31,7 @@ impl Plain {
             .iter()
             .fold(0u32, |sum, &byte| sum.saturating_add(u32::from(byte)));
         if q == 0 || members.iter().any(|&byte| 1 < byte) {
-            return Err(Refusal::NoGroup);
+            return Err(Refusal::BadMembers);
         }
         let p = self.inside(|v| members.get(v as usize).copied() == Some(1));
         Ok(Ratio { p, q })

@@ -21,7 +21,7 @@ use Rattle.theory.specs.Promise.{AcceptedOptimal, SurplusSigned}
 use Rattle.theory.proofs.Duality.{accepted_optimal}
 use Rattle.theory.proofs.Surplus.{surplus_signed}
 use Rattle.refusals.specs.declared.Refusal.{Refusal}
-use Rattle.refusals.specs.declared.Refusal.TheVariants.{NoGroup, ShareTooLarge, LoadTooLarge}
+use Rattle.refusals.specs.declared.Refusal.TheVariants.{BadMembers, ShareTooLarge, LoadTooLarge}
 use Rattle.numbers.specs.declared.Ratio.{Ratio}
 use Rattle.verify.specs.Counts.{ratio_of}
 use Rattle.verify.specs.Answers.{refused_by, verdict_of, difference_of, CheckSays, SurplusSays}
@@ -63,7 +63,7 @@ module _ (g : Pairs) (s xs : List ℕ) where
 
 module _ (g : Pairs) (t s : List ℕ) where
   -- either set is no group
-  bad : surplus_number g t s ≡ 7 → SurplusSays g t s (difference_of (Err NoGroup))
+  bad : surplus_number g t s ≡ 7 → SurplusSays g t s (difference_of (Err BadMembers))
   unfolding if_taken
   bad e = record { number = sym e; value = rw e; signs = λ z. absurd (omega arith) }
 

@@ -17,22 +17,22 @@ use Rattle.theory.specs.Words.{list_in}
 use Rattle.theory.proofs.Tests.{tests}
 use Rattle.theory.proofs.Bounds.{inside_bound, size_bound}
 use Rattle.refusals.specs.declared.Refusal.{Refusal}
-use Rattle.refusals.specs.declared.Refusal.TheVariants.{NoGroup}
+use Rattle.refusals.specs.declared.Refusal.TheVariants.{BadMembers}
 use Rattle.numbers.specs.declared.Ratio.{Ratio}
 use Rattle.verify.specs.Counts.{ratio_of, IsSmall}
 
 module _ (g : Pairs) (s : List ℕ) where
   -- no group has no ratio
-  no_group : is_group g s ≡ false → ratio_of g s ≡ Err NoGroup
+  no_group : is_group g s ≡ false → ratio_of g s ≡ Err BadMembers
   unfolding ratio_of
   no_group e = rw e
 
   -- a byte is above 1
-  pub bad_bytes : bytes_good s ≡ false → ratio_of g s ≡ Err NoGroup
+  pub bad_bytes : bytes_good s ≡ false → ratio_of g s ≡ Err BadMembers
   bad_bytes e = no_group (unfold is_group in rw (e, and-false))
 
   -- all bytes are 0
-  pub no_member : size s ≡ 0 → ratio_of g s ≡ Err NoGroup
+  pub no_member : size s ≡ 0 → ratio_of g s ≡ Err BadMembers
   no_member e = no_group (unfold is_group in rw (e, and-false, and-false))
 
   -- where there is a ratio, it is that of a group
@@ -40,16 +40,16 @@ module _ (g : Pairs) (s : List ℕ) where
   unfolding ratio_of
   is_ratio r e = go (is_group g s) e
     where
-      go : (b : Bool) → cond b (Ok (record { p = inside g s; q = size s })) (Err NoGroup) ≡ Ok r → (b ≡ true) × (r ≡ record { p = inside g s; q = size s })
+      go : (b : Bool) → cond b (Ok (record { p = inside g s; q = size s })) (Err BadMembers) ≡ Ok r → (b ≡ true) × (r ≡ record { p = inside g s; q = size s })
       go true e = (refl, cc)
       go false e = cc
 
   -- where there is none, the bytes make no group
-  pub no_ratio : (x : Refusal) → ratio_of g s ≡ Err x → (is_group g s ≡ false) × (x ≡ NoGroup)
+  pub no_ratio : (x : Refusal) → ratio_of g s ≡ Err x → (is_group g s ≡ false) × (x ≡ BadMembers)
   unfolding ratio_of
   no_ratio x e = go (is_group g s) e
     where
-      go : (b : Bool) → cond {A = Result Ratio Refusal} b (Ok (record { p = inside g s; q = size s })) (Err NoGroup) ≡ Err x → (b ≡ false) × (x ≡ NoGroup)
+      go : (b : Bool) → cond {A = Result Ratio Refusal} b (Ok (record { p = inside g s; q = size s })) (Err BadMembers) ≡ Err x → (b ≡ false) × (x ≡ BadMembers)
       go true e = cc
       go false e = (refl, cc)
 

@@ -79,11 +79,11 @@ fn ratio_of(list: List, members: &[u8]) -> Result<Ratio, Refusal>
     ensures { result ≡ ratio_of (listed list.entry) members.now }
 {
     if !bytes_good(members) {
-        return Err(Refusal::NoGroup);
+        return Err(Refusal::BadMembers);
     }
     let q = groups::group_size(members);
     if q == 0 {
-        return Err(Refusal::NoGroup);
+        return Err(Refusal::BadMembers);
     }
     let p = groups::inside_count(list, members);
     Ok(Ratio { p, q })

@@ -1,0 +1,2 @@
+-- What the contract of `kit` cites.
+pub mod Kits
