@@ -74,7 +74,7 @@ fn write_lines<F: Fn(usize) -> Option<[u32; 3]>>(
 
 // The first lines of a group that is answered by its ratio alone.
 pub(crate) fn write_ratio(ratio: Ratio, writer: &mut Writer)
-    requires room { HasRoom (ratio_lines ratio.p ratio.q) writer.old }
+    requires { HasRoom (ratio_lines ratio.p ratio.q) writer.old }
     ensures { Writes (ratio_lines ratio.p ratio.q) writer.old writer.new }
 {
     writer.line(b"status=0\nratio=P/Q\n", &[ratio.p, ratio.q]);
