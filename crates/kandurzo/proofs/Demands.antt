@@ -13,9 +13,7 @@ use mathlib.Core.Logic.{◌↔◌}
 use mathlib.Core.List.{List, [], ◌∷◌}
 use Prim.Native.Nat.{ℕ, ◌≤◌}
 use native.Mathlib.Omega.{arith}
-use lib.Dec.{eqb}
 use lib.ListN.{length, take, length-take}
-use borrow.Author.Tests.{eqb-true, eqb-false}
 use Rattle.std.proofs.lemmas.List.{nil_from_length}
 use Rattle.theory.specs.Lists as Lists
 use Rattle.theory.specs.Lists.{Pairs}
@@ -23,8 +21,8 @@ use Rattle.theory.specs.Refusals.{Cause, cause, refusal, if_taken}
 use Rattle.theory.specs.Check.{check_number}
 use Rattle.theory.specs.Pairless.{no_pair, group_causes, group_number, judged_number}
 use Rattle.theory.specs.Surplus.{surplus_number}
-use Rattle.theory.proofs.Tests.{tests, by_test}
-use Rattle.theory.proofs.Pairless.{pairless, paired, none_turned, some_served, turned_none, judged_turned, judged_served}
+use Rattle.theory.proofs.Tests.{tests}
+use Rattle.theory.proofs.Pairless.{pairless, paired, none_turned, some_served, turned_none, judged_turned, judged_served, by_pairs}
 use Rattle.theory.proofs.Refusals.{if_taken_old}
 use Rattle.lines.specs.Outcomes.{Outcome, refused, taken, number_given}
 use Rattle.pairfile.specs.Answers.{pairs_of}
@@ -154,16 +152,16 @@ module _ {g : Pairs} {h : Head} {ps : List Pair} (lent : Lent g h ps) (members s
   -- a list without pairs gets 20, and no other does
   sheet_turned : (v.number ≡ 20) ↔ (length g.pairs ≡ 0)
   sheet_turned = (
-    λ t. by_test (eqb (length g.pairs) 0) (λ z. eqb-true _ 0 z) (λ s.
+    λ t. by_pairs (length g.pairs) (λ z. z) (λ some.
         let low = check_few g (take g.n members) (take (length g.pairs) shares) in
-        absurd (omega (arith, t, low, sheet_number (omega (arith, eqb-false (length g.pairs) 0 s))))),
+        absurd (omega (arith, t, low, sheet_number some))),
     λ none. judged_as ∙ judged_turned g _ _ (pairless (length g.pairs) none),
   )
 
   -- so what is accepted is of a list with a pair
   pub accepted_some : v.number ≡ 0 → 1 ≤ length g.pairs
   accepted_some z =
-      by_test (eqb (length g.pairs) 0) (λ t. absurd (omega (arith, z, sheet_turned.1 (eqb-true _ 0 t)))) (λ s. omega (arith, eqb-false (length g.pairs) 0 s))
+      by_pairs (length g.pairs) (λ none. absurd (omega (arith, z, sheet_turned.1 none))) (λ some. some)
 
 pub every_list_judged : EveryListJudged
 unfolding EveryListJudged
@@ -246,6 +244,7 @@ refusals_keep = record {
   read = λ read bytes ps work r ps' work' call n. call.records ∙ read_refused _ ps (λ z. n (call.number ∙ z));
   peel = λ h ps order cores work r order' cores' work' call n. (call.order_is ∙ if_taken_old r _ order n, call.cores_are ∙ if_taken_old r _ cores n);
   solve = λ h ps members cores shares work r members' cores' shares' work' call n. let no = call.refused n in (no.members_are, no.cores_are, no.shares_are);
+  kit = λ h ps k members work v members' work' call n. call.says.members_are ∙ if_taken_old v.number _ members n;
   write_dimacs = λ h ps text w text' call n. call.bytes ∙ if_taken_old w.number _ text n;
 }
 

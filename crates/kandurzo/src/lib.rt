@@ -1,6 +1,6 @@
-// The public calls of Kandurzo, over lent records (document 01, "The list and its calls"; document 02, items 1 to 4, 6 and 7: DIMACS files; 5 before
-// 4; place; stop counts; no group without pairs; kits). An entry is one line: it turns the `Result` of the call's own function, which refuses by `?`, into what C is
-// answered. That function takes the records that are held, copies them to words (crate records), and leaves the rest to crate `on_words`. Head and list are
+// The public calls of Kandurzo, over lent records (document 01, "The list and its calls"; document 02, items 1 to 4, 6 and 7: DIMACS files; 5 before 4;
+// place; stop counts; no group without pairs; kits). An entry is one line: it turns the `Result` of the call's own function, which refuses by `?`, into what C
+// is answered. That function takes the records that are held, copies them to words (crate records), and leaves the rest to crate `on_words`. Head and list are
 // two parameters, as C passes them. The entries are here for Rattle callers, and once more in `kandurzo_c` for C: a static library is a crate that no other
 // can use.
 // `as` stands where std has no `From`: from u32 to usize, and where a bound lets a number fit fewer bits.

@@ -1,7 +1,7 @@
 -- Where head and list agree, M records are there; where no lent buffer is short, each is as long as stated.
 --   records_enough       M records are there
 --   LongEnough, none_short, all_long    no buffer is short exactly where each is as long as stated
---   peel_enough, check_enough, solve_enough, surplus_enough, write_enough, read_enough    a call's buffers then
+--   peel_enough, check_enough, solve_enough, kit_enough, surplus_enough, write_enough, read_enough    a call's buffers then
 -- Assumes nothing.
 use mathlib.Core.Path.{◌≡◌, refl, sym}
 use mathlib.Core.Bool.{Bool, true, false, ◌||◌}
@@ -19,6 +19,7 @@ use Rattle.on_words.specs.Buffers.{Buffer, any_short}
 use Rattle.on_words.specs.Peeling.{peel_buffers}
 use Rattle.on_words.specs.Judging.{check_buffers, surplus_buffers}
 use Rattle.on_words.specs.Solving.{solve_buffers}
+use Rattle.on_words.specs.Kitting.{kit_buffers}
 use Rattle.on_words.specs.Writing.{write_buffers}
 use Rattle.on_words.specs.Reading.{read_buffers}
 
@@ -63,6 +64,10 @@ module _ (h : Head) (members cores shares work : ℕ) {lent : List Buffer} (is :
     (none : any_short lent ≡ false) where
   pub solve_enough : (h.n ≤ members) × (h.n ≤ cores) × (h.m ≤ shares) × (16384 ≤ work)
   solve_enough = let x = none_short _ (rw is at none) in (x.0, x.1.0, x.1.1.0, x.1.1.1)
+
+pub kit_enough : (h : Head) (members work : ℕ) {lent : List Buffer} → lent ≡ kit_buffers h members work → any_short lent ≡ false →
+    (h.n ≤ members) × (16384 ≤ work)
+kit_enough h members work is none = none_short _ (rw is at none)
 
 pub surplus_enough : (h : Head) (first second : ℕ) {lent : List Buffer} → lent ≡ surplus_buffers h first second → any_short lent ≡ false →
     (h.n ≤ first) × (h.n ≤ second)

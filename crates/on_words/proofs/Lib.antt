@@ -7,4 +7,5 @@ pub mod Enough
 pub mod Peels
 pub mod Sheets
 pub mod Pairless
+pub mod Kits
 pub mod Readings

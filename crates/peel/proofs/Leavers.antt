@@ -8,8 +8,7 @@
 use mathlib.Core.Path.{◌≡◌, refl, sym, ap, ◌∙◌}
 use mathlib.Core.Bool.{Bool, true, false}
 use mathlib.Core.List.{List, [], ◌∷◌}
-use mathlib.Core.Option.{some}
-use Prim.Native.Nat.{ℕ, zero, suc, ◌+◌, ◌≤◌, ◌<◌}
+use Prim.Native.Nat.{ℕ, zero, suc, ◌<◌}
 use native.Mathlib.Omega.{arith}
 use lib.Dec.{leb}
 use lib.ListN.{length, get_or, set}
@@ -17,12 +16,12 @@ use lib.Seq.{ext_get_or}
 use borrow.Author.Tests.{leb-true, leb-false, eq-eqb, ne_eqb}
 use Rattle.theory.specs.Basics.{table}
 use Rattle.theory.specs.Lists.{Pairs}
-use Rattle.theory.specs.Groups.{is_in, size, bytes_good, is_group}
-use Rattle.theory.specs.Leaving.{leaver, leaving, left_behind, remainder}
+use Rattle.theory.specs.Groups.{is_in}
+use Rattle.theory.specs.Leaving.{leaving, left_behind, remainder}
 use Rattle.theory.specs.Promise.{LeaverFewest, LeavingSteps, LeavingEveryone}
 use Rattle.theory.proofs.Tests.{no, fails}
 use Rattle.theory.proofs.Tables.{length_table, table_at}
-use Rattle.theory.proofs.Groups.{Sub, everyone_bits, bits_group, size_everyone, size_leave, good_leave, leaver_gone, none_comes}
+use Rattle.theory.proofs.Groups.{leaver_gone, none_comes}
 use Rattle.theory.proofs.Leaving.{leaver_fewest, leaving_steps, leaving_everyone}
 use Rattle.theory.proofs.Remainders.{leaver_at, leaver_in, remainder_sub}
 use Rattle.peel.specs.Places.{index_of}
@@ -31,7 +30,7 @@ use Rattle.slots.specs.Buffers.{entry}
 module _ (g : Pairs) where
   pub leaver_below : (i : ℕ) → i < g.n → get_or (leaving g) i 0 < g.n
   unfolding LeaverFewest
-  leaver_below i l = (leaver_fewest g (remainder g i) (get_or (leaving g) i 0) (leaver_at i l)).0
+  leaver_below i l = (leaver_fewest g (remainder g i) (get_or (leaving g) i 0) (leaver_at g i l)).0
 
   -- who has left does not come back
   pub leaver_out : (i j : ℕ) → j < i → is_in (remainder g i) (get_or (leaving g) j 0) ≡ false
@@ -52,7 +51,7 @@ module _ (g : Pairs) where
   later_apart : (i j : ℕ) → j < i → i < g.n → get_or (leaving g) j 0 ≡ get_or (leaving g) i 0 → ⊥
   later_apart i j l h e =
       let out : is_in (remainder g i) (get_or (leaving g) i 0) ≡ false = rw e at (leaver_out i j l) in
-      no (sym out ∙ leaver_in i h)
+      no (sym out ∙ leaver_in g i h)
 
   pub leavers_apart : (i j : ℕ) → i < g.n → j < g.n → get_or (leaving g) i 0 ≡ get_or (leaving g) j 0 → i ≡ j
   leavers_apart i j h k e = go (leb i j) (leb j i) refl refl

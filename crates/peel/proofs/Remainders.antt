@@ -5,15 +5,13 @@
 --   all_light                           it is at most 4,096,000
 --   denser_by_is, densest_by_is         the densest by the final degrees is the densest remainder
 -- Assumes nothing.
-use mathlib.Core.Path.{◌≡◌, refl, sym, ◌∙◌}
+use mathlib.Core.Path.{◌≡◌, refl}
 use mathlib.Core.Bool.{Bool, true, false, cond}
 use mathlib.Core.List.{List}
-use mathlib.Core.Logic.{⊎_elim}
 use Prim.Native.Nat.{ℕ, zero, suc, ◌+◌, ◌*◌, ◌-◌, ◌≤◌, ◌<◌}
 use native.Mathlib.Omega.{arith}
 use native.Mathlib.Numerals.{add-one}
 use lib.Dec.{leb}
-use borrow.Author.Tests.{leb-true, leb-false, le-leb}
 use lib.ListN.{length, get_or}
 use Rattle.std.specs.List.{sum}
 use Rattle.std.proofs.Math.Seq.{drop-length}
@@ -24,9 +22,7 @@ use Rattle.theory.specs.Leaving.{degree, leaving, left_behind, remainder, leavin
 use Rattle.theory.specs.Kits.{denser_of, densest_upto}
 use Rattle.theory.specs.Words.{word_pair, list_in}
 use Rattle.theory.proofs.Lists.{proper}
-use Rattle.theory.proofs.Tests.{no}
 use Rattle.theory.proofs.Groups.{inside_none}
-use Rattle.theory.proofs.Densest.{at_most_trans, at_most_or}
 use Rattle.theory.proofs.Cores.{inside_leave}
 use Rattle.theory.proofs.Remainders.{leaver_in, remainder_size, densest_le}
 use Rattle.slots.specs.Slots.{total}

@@ -5,8 +5,9 @@
 --   falls_light               down to k modules, no leaver carries more than twice the kit's ratio
 --   left_light                so a group loses at most that with each of its members, as the leaving order takes them
 --   kit_promised, kit_exact, kit_group, kit_within_three, kit_bound    the statements
---   good_least, least_good    k from 1 to N
---   kit_pairless, kit_turned, kit_made    the number that is given: 20, 21, or none
+--   kit_length                a byte for each module
+--   least_good, good_least, least_bad    k from 1 to N, or not
+--   kit_pairless, kit_turned, kit_made, by_number    the number that is given: 20, 21, or none
 -- Of the leaver it is used only that it is present and has the fewest: no tie rule matters.
 -- Assumes nothing.
 use mathlib.Core.Path.{◌≡◌, refl, sym, ap, ◌∙◌}
@@ -16,7 +17,7 @@ use Prim.Native.Nat.{ℕ, zero, suc, ◌+◌, ◌*◌, ◌-◌, ◌≤◌, ◌<�
 use native.Mathlib.Omega.{arith}
 use native.Mathlib.Nat.{mul-le-mul_left, mul-le-mul_right, le_of_mul-le-mul_right}
 use mathlib.Core.Option.{some}
-use lib.Dec.{eqb}
+use lib.Dec.{eqb, leb}
 use lib.ListN.{length, get_or, set}
 use lib.Seq.{set-get_or}
 use borrow.Author.Tests.{eqb-true, le-leb, not-false}
@@ -27,7 +28,7 @@ use Rattle.theory.specs.Kits.{densest_upto, densest_remainder, kit, LeftOver, Is
 use Rattle.theory.specs.Kits.{bad_least, kit_causes, kit_number}
 use Rattle.theory.specs.Refusals.{cause, refusal}
 use Rattle.theory.specs.Promise.{LeaverFewest}
-use Rattle.theory.proofs.Tests.{tests, no, cond_le}
+use Rattle.theory.proofs.Tests.{tests, no, fails, by_test, cond_le}
 use Rattle.theory.proofs.Sums.{over, over_ext, over_add, over_at, over_zero, byte_le, bit}
 use Rattle.theory.proofs.Lists.{Proper, proper}
 use Rattle.theory.proofs.Groups.{Bits, Sub, in_lt, group_bits, size_pos, in_leave, size_leave, good_leave}
@@ -35,7 +36,7 @@ use Rattle.theory.proofs.Cores.{degree_sub, sub_everyone, inside_leave}
 use Rattle.theory.proofs.Leaving.{leaver_fewest}
 use Rattle.theory.proofs.Remainders.{leaver_at, remainder_full, remainder_bytes, remainder_size, remainder_group, densest_le, densest_best, densest_larger}
 use Rattle.theory.proofs.Bounds.{size_le_length}
-use Rattle.theory.proofs.Pairless.{pairless, paired, pairless_then, paired_then}
+use Rattle.theory.proofs.Pairless.{pairless, paired, pairless_then, paired_then, by_pairs}
 
 -- ---- degrees and inside counts
 
@@ -300,17 +301,27 @@ kit_promised g k l pos few =
       bound = λ t h. kit_bound g k t l pos few h;
     }
 
+-- a byte for each module
+pub kit_length : (g : Pairs) (k : ℕ) → length (kit g k) ≡ g.n
+unfolding kit densest_remainder
+kit_length g k = remainder_full g (densest_upto g (g.n - k)) (omega (arith, densest_le g (g.n - k)))
+
 -- ---- the number that is given
 
 module _ (n m k : ℕ) where
   -- k from 1 to N
-  pub good_least : 1 ≤ k → k ≤ n → bad_least n k ≡ false
+  pub least_good : 1 ≤ k → k ≤ n → bad_least n k ≡ false
   unfolding bad_least
-  good_least pos few = rw (le-leb 1 k pos, le-leb k n few)
+  least_good pos few = rw (le-leb 1 k pos, le-leb k n few)
 
-  pub least_good : bad_least n k ≡ false → (1 ≤ k) × (k ≤ n)
+  pub good_least : bad_least n k ≡ false → (1 ≤ k) × (k ≤ n)
   unfolding bad_least
-  least_good e = simp tests at (not-false _ e)
+  good_least e = simp tests at (not-false _ e)
+
+  -- or not
+  pub least_bad : (1 ≤ k → k ≤ n → ⊥) → bad_least n k ≡ true
+  unfolding bad_least
+  least_bad out = rw (fails (leb 1 k && leb k n) (λ e. let h = simp tests at e in out h.0 h.1)) refl
 
   -- no pair: 20, whatever k is
   pub kit_pairless : m ≡ 0 → kit_number n m k ≡ 20
@@ -326,3 +337,10 @@ module _ (n m k : ℕ) where
   pub kit_made : 1 ≤ m → bad_least n k ≡ false → kit_number n m k ≡ 0
   unfolding kit_number kit_causes cause refusal
   kit_made l e = paired_then m _ (paired m l) ∙ rw e refl
+
+  -- there is no fourth case
+  pub by_number : {A : Type 0} → (m ≡ 0 → kit_number n m k ≡ 20 → A) → (1 ≤ m → bad_least n k ≡ true → kit_number n m k ≡ 21 → A) →
+      (1 ≤ m → bad_least n k ≡ false → kit_number n m k ≡ 0 → A) → A
+  by_number none bad good =
+      by_pairs m (λ z. none z (kit_pairless z))
+      (λ l. by_test (bad_least n k) (λ e. bad l e (kit_turned l e)) (λ e. good l e (kit_made l e)))

@@ -1,6 +1,7 @@
 -- A list without pairs is turned down by 20, and no other is.
 --   pairless, paired                  whether it holds no pair, by its M
 --   pairless_then, paired_then        20, or the causes behind decide
+--   by_pairs                          by whether M is 0
 --   none_turned, some_served          the number given, where M is 0 and where it is not
 --   served_some, turned_none          and back
 --   zero_or_twenty                    no other number is given
@@ -46,7 +47,7 @@ module _ (m : ℕ) where
   some_served l = paired_then [] (paired l)
 
   -- M is 0 or not
-  by_pairs : {A : Type 0} → (m ≡ 0 → A) → (1 ≤ m → A) → A
+  pub by_pairs : {A : Type 0} → (m ≡ 0 → A) → (1 ≤ m → A) → A
   by_pairs none some = by_test (eqb m 0) (λ t. none (eqb-true m 0 t)) (λ t. some (omega (arith, eqb-false m 0 t)))
 
   pub served_some : group_number m ≡ 0 → 1 ≤ m
