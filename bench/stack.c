@@ -42,6 +42,8 @@ static uint32_t surplus(void) { return kandurzo_surplus(head, list, head.m, memb
 static uint32_t peel(void) { return kandurzo_peel(head, list, head.m, order, head.n, cores, head.n, work, KANDURZO_WORK); }
 static uint32_t check(void) { return kandurzo_check(head, list, head.m, members, head.n, shares, head.m, work, KANDURZO_WORK).number; }
 
+static uint32_t kit(void) { return kandurzo_kit(head, list, head.m, (head.n + 1) / 2, members, head.n, work, KANDURZO_WORK).number; }
+
 static uint32_t write_dimacs(void) {
     kandurzo_written_t answer = kandurzo_write_dimacs(head, list, head.m, text, KANDURZO_TEXT);
     written = answer.length;
@@ -72,6 +74,7 @@ static struct {
     {"solve", solve, KANDURZO_STACK_SOLVE, SIZE_MAX, 0, ""},
     {"check", check, KANDURZO_STACK_CHECK, SIZE_MAX, 0, ""},
     {"surplus", surplus, KANDURZO_STACK_SURPLUS, SIZE_MAX, 0, ""},
+    {"kit", kit, KANDURZO_STACK_KIT, SIZE_MAX, 0, ""},
 };
 
 enum { CALLS = sizeof calls / sizeof *calls };

@@ -17,7 +17,7 @@
 #include "../callers/c/kandurzo.h"
 #include "common.hpp"
 
-#define CALLS(CALL) CALL(read) CALL(peel) CALL(solve) CALL(check) CALL(surplus) CALL(add_to) CALL(remove_from)
+#define CALLS(CALL) CALL(read) CALL(peel) CALL(solve) CALL(check) CALL(kit) CALL(surplus) CALL(add_to) CALL(remove_from)
 #define DECLARED(call) decltype(kandurzo_##call) old_kandurzo_##call, new_kandurzo_##call;
 #define FIELD(call) decltype(&kandurzo_##call) call;
 #define OLD(call) old_kandurzo_##call,
@@ -48,7 +48,8 @@ struct Listed {
     kandurzo_head_t head;
     std::vector<kandurzo_pair_t> list, added;
     kandurzo_solved_t solved;
-    std::vector<uint8_t> members;
+    kandurzo_verdict_t kit;
+    std::vector<uint8_t> members, packed;
     std::vector<uint16_t> order;
     std::vector<uint32_t> cores, shares;
 };
@@ -89,6 +90,17 @@ static void check(const Library &library, const Listed &list) {
     agree(v.number == 0 && v.p == list.solved.p && v.q == list.solved.q, list);
 }
 
+// At least half of the modules, rounded up.
+static kandurzo_verdict_t packed(const Library &library, const Listed &list) {
+    uint32_t n = list.head.n;
+    return library.kit(list.head, list.list.data(), list.head.m, (n + 1) / 2, lent.members, n, lent.work, KANDURZO_WORK);
+}
+
+static void kit(const Library &library, const Listed &list) {
+    kandurzo_verdict_t v = packed(library, list);
+    agree(v.number == 0 && v.p == list.kit.p && v.q == list.kit.q, list);
+}
+
 static void surplus(const Library &library, const Listed &list) {
     uint32_t n = list.head.n;
     kandurzo_difference_t d = library.surplus(list.head, list.list.data(), list.head.m, lent.members, n, lent.others, n);
@@ -118,8 +130,8 @@ static void nothing(const Library &, const Listed &) {}
 static const struct {
     const char *name;
     void (*run)(const Library &, const Listed &), (*before)(const Library &, const Listed &);
-} calls[] = {{"solve", solve, nothing}, {"peel", peel, nothing}, {"check", check, answered}, {"read", read, nothing}, {"surplus", surplus, answered},
-             {"add", add, taken_out}};
+} calls[] = {{"solve", solve, nothing}, {"peel", peel, nothing}, {"check", check, answered}, {"kit", kit, nothing}, {"read", read, nothing},
+             {"surplus", surplus, answered}, {"add", add, taken_out}};
 
 // What the old build answers.
 static void ask(const Library &library, Listed &list) {
@@ -131,6 +143,8 @@ static void ask(const Library &library, Listed &list) {
     list.solved = solved(library, list);
     list.members.assign(lent.members, lent.members + n);
     list.shares.assign(lent.shares, lent.shares + m);
+    list.kit = packed(library, list);
+    list.packed.assign(lent.members, lent.members + n);
     peel(library, list);
     list.order.assign(lent.order, lent.order + n);
     list.cores.assign(lent.cores, lent.cores + n);
@@ -150,6 +164,8 @@ static void ask_again(const Library &old, const Library &library, const Listed &
     agree(holds(lent.members, list.members) && holds(lent.cores, list.cores), list);
     check(old, list);
     answered(library, list), check(library, list), surplus(library, list);
+    kit(library, list);
+    agree(holds(lent.members, list.packed), list);
     peel(library, list);
     agree(holds(lent.order, list.order) && holds(lent.cores, list.cores), list);
 }

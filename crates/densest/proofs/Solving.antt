@@ -32,7 +32,7 @@ use Rattle.peel.specs.Peel.{Peelable, Peels}
 use Rattle.peel.specs.Places.{index_of, places}
 use Rattle.peel.specs.Promise.{PeelPromised}
 use Rattle.peel.specs.declared.Remainder.{Remainder}
-use Rattle.peel.proofs.Leavers.{remainder_group}
+use Rattle.theory.proofs.Remainders.{remainder_group}
 use Rattle.peel.proofs.Promises.{peel_promised}
 use Rattle.rounds.specs.Known.{Candidate, Cored}
 use Rattle.rounds.specs.Search.{Round, GroupFound}

@@ -14,7 +14,7 @@ use Rattle.std.proofs.lemmas.List.{nil_from_length}
 use Rattle.theory.specs.Lists.{Pairs}
 use Rattle.theory.specs.Kits.{bad_least, kit_causes, kit_number, KitPromise}
 use Rattle.theory.proofs.Refusals.{if_taken_old}
-use Rattle.theory.proofs.Kits.{least_good, good_least, kit_pairless, kit_turned, kit_made, by_number}
+use Rattle.theory.proofs.Kits.{least_good, kit_pairless, kit_turned, kit_made, by_number}
 use Rattle.refusals.specs.declared.Refusal.{Refusal}
 use Rattle.refusals.specs.Numbers.{number_of}
 use Rattle.lines.proofs.Found.{numbered}
@@ -28,7 +28,7 @@ use Rattle.on_words.specs.Buffers.{any_short}
 use Rattle.on_words.specs.Gate.{gate_number}
 use Rattle.on_words.specs.Kitting.{kit_buffers, KitSays, KitOn}
 use Rattle.on_words.proofs.Filling.{left_open}
-use Rattle.on_words.proofs.Kits.{no_kit, kit_keeps, left_kit}
+use Rattle.on_words.proofs.Kits.{no_kit, kit_keeps, in_range, left_kit}
 use Rattle.kandurzo.specs.Laying.{Laid}
 use Rattle.kandurzo.specs.Kitting.{kit_call_causes, KitCall}
 use Rattle.kandurzo.specs.Promise.{Lent, KitServed, EveryListPacked, NoKit, KitTurnedDown}
@@ -52,11 +52,6 @@ module _ (h : Head) (ps : List Pair) (k : ℕ) (members work : List ℕ) {lent :
         left = gate_left (agrees h ps) short work f (numbered e);
       }
 
-  -- where a kit is made, k is from 1 to N
-  in_range : kit_number h.n h.m k ≡ 0 → (1 ≤ k) × (k ≤ h.n)
-  in_range z =
-      by_number h.n h.m k (λ _ i. absurd (omega (arith, z, i))) (λ _ _ i. absurd (omega (arith, z, i))) (λ _ good _. good_least h.n h.m k good)
-
   pub kit_done : 0 ≡ gate_number (agrees h ps) short → {words : List ℕ} → Laid h ps work words → {v : Verdict} {members' work' : List ℕ} →
       KitOn h k members words v members' work' → KitCall h ps k members work v members' work'
   unfolding kit_call_causes kit_number held_list
@@ -66,7 +61,7 @@ module _ (h : Head) (ps : List Pair) (k : ℕ) (members work : List ℕ) {lent :
         number = on.number ∙ sym (rw is at (gate_then (agrees h ps) short (kit_causes h.n h.m k) (sym f)));
         says = says;
         promise = λ z.
-            let range = in_range (sym on.number ∙ z) in
+            let range = in_range h.n h.m k (sym on.number ∙ z) in
             kit_keeps (held_list h ps) k (held_is_list h ps laid.agreed) range.0 range.1 says z;
         left = on.left ∙ laid.left ∙ sym (left_kit h.n h.m k work on.number);
       }

@@ -2,9 +2,10 @@
 --   no_kit                  beside a refusal: P and Q are 0, the member bytes as before
 --   kit_refused, kit_done    the promise on words, where it is refused and where the kit is made
 --   kit_keeps                what is promised of it then
+--   in_range                 k where a kit is made
 --   left_kit                 the work buffer after it
 -- Assumes nothing.
-use mathlib.Core.Path.{◌≡◌, refl, sym, ap, ◌∙◌}
+use mathlib.Core.Path.{◌≡◌, sym, ap, ◌∙◌}
 use mathlib.Core.Bool.{true}
 use mathlib.Core.List.{List, ◌++◌}
 use Prim.Native.Nat.{ℕ, ◌≤◌}
@@ -13,10 +14,11 @@ use lib.ListN.{length, take, drop}
 use lib.Seq.{take_at}
 use Rattle.std.proofs.Common.{Ok, Err}
 use Rattle.theory.specs.Lists.{Pairs, is_list}
+use Rattle.theory.specs.Refusals.{if_taken}
 use Rattle.theory.specs.Kits.{kit, kit_number, KitPromise, KitPromised}
 use Rattle.theory.specs.Words.{laid_list}
 use Rattle.theory.proofs.Refusals.{if_taken_new, if_taken_old}
-use Rattle.theory.proofs.Kits.{kit_promised, kit_length, by_number}
+use Rattle.theory.proofs.Kits.{kit_promised, kit_length, good_least, by_number}
 use Rattle.numbers.specs.declared.Ratio.{Ratio}
 use Rattle.refusals.specs.declared.Refusal.{Refusal}
 use Rattle.refusals.specs.Numbers.{number_of}
@@ -41,7 +43,7 @@ no_kit g k members e =
 
 -- where it is made
 kit_says : (g : Pairs) (k : ℕ) {members members' : List ℕ} {r : Ratio} → Packs g k members members' r → KitSays g k members (verdict_of (Ok r)) members'
-unfolding in_front
+unfolding in_front if_taken
 kit_says g k {members} p = record {
   p = p.p_is;
   q = p.q_is;
@@ -55,6 +57,11 @@ module _ (h : Head) (k : ℕ) (members : List ℕ) {work work' : List ℕ} (left
   pub kit_done : 0 ≡ kit_number h.n h.m k → {members' : List ℕ} {r : Ratio} → Packs (laid_list h.n h.m work) k members members' r →
       KitOn h k members work (verdict_of (Ok r)) members' work'
   kit_done n p = record { number = n; says = kit_says _ k p; left = left }
+
+-- where a kit is made, k is from 1 to N
+pub in_range : (n m k : ℕ) → kit_number n m k ≡ 0 → (1 ≤ k) × (k ≤ n)
+in_range n m k z =
+    by_number n m k (λ _ i. absurd (omega (arith, z, i))) (λ _ _ i. absurd (omega (arith, z, i))) (λ _ good _. good_least n m k good)
 
 -- none of its numbers is 12 or 13
 pub left_kit : (n m k : ℕ) {j : ℕ} (w : List ℕ) → j ≡ kit_number n m k → work_left j w ≡ cleared w

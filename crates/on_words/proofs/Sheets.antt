@@ -6,17 +6,14 @@
 use mathlib.Core.Path.{◌≡◌, refl, sym, ◌∙◌}
 use mathlib.Core.Bool.{true}
 use mathlib.Core.List.{List}
-use Prim.Native.Nat.{ℕ, ◌≤◌, ◌<◌}
+use Prim.Native.Nat.{ℕ, ◌<◌}
 use native.Mathlib.Omega.{arith}
 use lib.ListN.{get_or, take, take-append-drop}
 use lib.Seq.{take_at, length-take-le, get_or-take}
 use Rattle.theory.specs.Lists.{Pairs, is_list}
 use Rattle.theory.specs.Groups.{found_of}
-use Rattle.theory.specs.Splits.{is_split}
-use Rattle.theory.specs.Ratio.{float_ratio}
 use Rattle.theory.specs.Promise.{FoundAlone, FoundOutright}
 use Rattle.theory.specs.Words.{laid_list, HoldsList}
-use Rattle.theory.proofs.Tests.{tests}
 use Rattle.theory.proofs.Densest.{found_alone}
 use Rattle.theory.proofs.Best.{found_outright, found_length}
 use Rattle.densest.specs.declared.Solution.{Solution}

@@ -28,10 +28,11 @@ fn check_least(head: Head, k: u32) -> Result<(), Refusal>
     ensures { number_in result ≡ kit_number head.n head.m k }
 {
     check_some_pair(head.m)?;
-    if k < 1 || head.n < k {
-        return Err(Refusal::BadLeastSize);
+    if (1..=head.n).contains(&k) {
+        Ok(())
+    } else {
+        Err(Refusal::BadLeastSize)
     }
-    Ok(())
 }
 
 // The kit of at least k modules of the list in the words; refuses by 20, 21.
