@@ -12,22 +12,21 @@
 --   refused_written, text_written                  the text in a buffer, or the refusal
 -- Assumes nothing.
 use mathlib.Core.Path.{◌≡◌, refl, sym, ap, ◌∙◌}
-use mathlib.Core.Bool.{true, cond}
+use mathlib.Core.Bool.{true}
 use mathlib.Core.List.{List, [], ◌∷◌, ◌++◌}
 use Prim.Native.Nat.{ℕ, zero, suc, ◌+◌, ◌*◌, ◌-◌, ◌≤◌, ◌<◌, min, max}
 use native.Mathlib.Numerals.{add-one}
 use native.Mathlib.Omega.{arith}
-use borrow.Author.Tests.{leb-true, eqb-true, eqb-false, eq-eqb, ne_eqb}
-use lib.Dec.{eqb}
+use borrow.Author.Tests.{leb-true}
 use lib.ListN.{length, get_or, length-append}
-use Rattle.std.specs.Prelude.{Option, Some, None, Ok, Err}
+use Rattle.std.specs.Prelude.{Some, None, Ok, Err}
 use Rattle.std.specs.List.{slice_get}
 use Rattle.theory.specs.Basics.{all, mark}
 use Rattle.theory.specs.Lists.{Pair, Pairs, pair, ends_in_range, is_list}
 use Rattle.theory.specs.Refusals.{refusal}
 use Rattle.theory.specs.Words.{word_pair, pairs_in}
 use Rattle.theory.proofs.Lists.{listed}
-use Rattle.theory.proofs.Tests.{tests, by_test, mark_le}
+use Rattle.theory.proofs.Tests.{tests, mark_le}
 use Rattle.theory.proofs.Words.{length_pairs_in, pairs_in_at}
 use Rattle.refusals.specs.declared.Refusal.{Refusal}
 use Rattle.refusals.specs.Numbers.{number_of as refusal_number}
@@ -36,7 +35,6 @@ use Rattle.pairs.specs.Causes.{pair_causes}
 use Rattle.pairs.specs.Located.{Place, located}
 use Rattle.pairs.proofs.Rising.{place_le}
 use Rattle.lines.specs.Text.{text, between}
-use Rattle.lines.specs.Numbers.{number_of}
 use Rattle.lines.specs.Lines.{is_place, places, filled}
 use Rattle.lines.specs.Outcomes.{Outcome, refused, taken, ◌>>=◌, ◌>>◌}
 use Rattle.lines.specs.Putting.{Puts, HasRoom, Writes}
@@ -45,7 +43,6 @@ use Rattle.lines.proofs.Found.{judge_refused, judged_by, judge_passed}
 use Rattle.lines.proofs.Lengths.{no_more, and_small, filled_length}
 use Rattle.lines.proofs.Parts.{Left, left_front, left_step}
 use Rattle.pairfile.specs.File.{read_file}
-use Rattle.pairfile.proofs.Accepts.{accepted}
 use Rattle.texts.specs.Texts.{refusal_text, printed}
 use Rattle.texts.specs.Printed.{TextWritten}
 use Rattle.texts.specs.Converted.{converted}

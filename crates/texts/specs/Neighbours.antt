@@ -9,7 +9,7 @@
 --   NeighboursNearest, NeighboursRound        the text shows the nearest records; the modules may be named in either order
 --   NeighboursPlaced                           number, held and place are what the call place answers
 -- proofs/Nearest.antt has a theorem for each promise, of the same name in small letters. Assumes nothing: these are definitions.
-use Rattle.std.specs.Prelude.{◌≡◌, Bool, true, false, ◌&&◌, cond, List, [], ◌∷◌, ◌++◌, ℕ, zero, suc, ◌+◌, ◌≤◌, ◌<◌, eqb, length, get_or, Option, Some, None}
+use Rattle.std.specs.Prelude.{◌≡◌, Bool, true, false, ◌&&◌, List, [], ◌∷◌, ◌++◌, ℕ, zero, suc, ◌+◌, ◌≤◌, ◌<◌, length, get_or, Option, Some, None}
 use Rattle.std.specs.List.{slice_get}
 use Rattle.theory.specs.Basics.{mark}
 use Rattle.theory.specs.Lists.{Pair, Pairs, stands_before}
@@ -19,7 +19,7 @@ use Rattle.pairs.specs.Causes.{pair_causes}
 use Rattle.pairs.specs.Located.{Place, located}
 use Rattle.lines.specs.Text.{text}
 use Rattle.lines.specs.Lines.{filled}
-use Rattle.lines.specs.Outcomes.{Outcome, refused, taken, ◌>>=◌, ◌>>◌, judge}
+use Rattle.lines.specs.Outcomes.{Outcome, taken, ◌>>=◌, ◌>>◌, judge}
 use Rattle.pairfile.specs.File.{read_file}
 use Rattle.records.specs.declared.Pair.{Pair as Record}
 use Rattle.records.specs.declared.Head.{Head}

@@ -1,5 +1,5 @@
 // What the programs `group`, `sheet` and `audit` print, written into a lent buffer (document 01, end of "Lists tried by hand"); converted.rt has what
-// `from_dimacs` and `to_dimacs` print, neighbours.rt what `neighbours` prints, kits.rt what `kit` prints. reading.rt reads their input, arguments.rt the
+// `from_dimacs` and `to_dimacs` print, neighbours.rt what `neighbours` prints, kitting.rt what `kit` prints. reading.rt reads their input, arguments.rt the
 // numbers among their arguments.
 //
 // A program reads its input, calls one of the public functions, and writes the first bytes of the buffer out, as many as the function answers.
@@ -12,7 +12,7 @@
 
 mod arguments;
 mod converted;
-mod kits;
+mod kitting;
 mod neighbours;
 mod reading;
 
@@ -27,7 +27,7 @@ ghost use Rattle.texts.specs.Printed.{Prints, TextWritten, GroupRead, SheetRead,
 
 use answer::{Answer, sheet_file, solve_file};
 pub use converted::{from_dimacs_text, to_dimacs_text};
-pub use kits::kit_text;
+pub use kitting::kit_text;
 use lines::Writer;
 use lists::List;
 pub use neighbours::neighbours_text;
@@ -73,6 +73,7 @@ fn write_lines<F: Fn(usize) -> Option<[u32; 3]>>(
 }
 
 // The first lines of a group that is answered by its ratio alone.
+#[tactic(auto, unfolding(crate::specs::Texts::ratio_lines, crate::specs::Texts::ratio_form, lines::specs::Text::text))]
 pub(crate) fn write_ratio(ratio: Ratio, writer: &mut Writer)
     requires { HasRoom (ratio_lines ratio.p ratio.q) writer.old }
     ensures { Writes (ratio_lines ratio.p ratio.q) writer.old writer.new }

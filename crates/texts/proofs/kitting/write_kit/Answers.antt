@@ -1,11 +1,11 @@
--- `kits::write_kit` meets its contract: the ratio, then the members.
+-- `kitting::write_kit` meets its contract: the ratio, then the members.
 use Rattle.std.proofs.Common.{refl}
 use Rattle.lines.proofs.Parts.{Left, left_start, left_front, left_step}
 use Rattle.sheetfile.specs.Writer.{member_lines}
 use Rattle.texts.specs.Texts.{ratio_lines}
 use Rattle.texts.specs.Kits.{kit_lines}
-use Rattle.texts.proofs.kits.write_kit.Goals as goal
-use Rattle.texts.proofs.kits.write_kit.Goals.{After-write_ratio}
+use Rattle.texts.proofs.kitting.write_kit.Goals as goal
+use Rattle.texts.proofs.kitting.write_kit.Goals.{After-write_ratio}
 
 pub write_ratio-requires : goal.write_ratio-requires
 unfolding kit_lines
