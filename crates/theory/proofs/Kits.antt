@@ -35,7 +35,6 @@ use Rattle.theory.proofs.Groups.{Bits, Sub, in_lt, group_bits, size_pos, in_leav
 use Rattle.theory.proofs.Cores.{degree_sub, sub_everyone, inside_leave}
 use Rattle.theory.proofs.Leaving.{leaver_fewest}
 use Rattle.theory.proofs.Remainders.{leaver_at, remainder_full, remainder_bytes, remainder_size, remainder_group, densest_le, densest_best, densest_larger}
-use Rattle.theory.proofs.Bounds.{size_le_length}
 use Rattle.theory.proofs.Pairless.{pairless, paired, pairless_then, paired_then, by_pairs}
 
 -- ---- degrees and inside counts
