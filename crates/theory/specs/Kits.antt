@@ -77,7 +77,7 @@ pub record IsKit (g : Pairs) (k : ℕ) (s : List ℕ) : Type 0 where
 abbrev pub WithinThree : Pairs → (k p q : ℕ) → Type 0
 WithinThree g k p q = (t : List ℕ) → is_group g t ≡ true → k ≤ size t → inside g t * q ≤ 3 * p * size t
 
--- and of any group, with (2 · size + k) / size in the place of 3: more than 3 where it has fewer than k modules, 3 where it has k, and nearer to 2 the more it has
+-- and of any group, with (2 · size + k) / size in the place of 3: more than 3 where it has fewer than k modules, 3 where it has k, nearer to 2 the more it has
 abbrev pub WithinSize : Pairs → (k p q : ℕ) → Type 0
 WithinSize g k p q = (t : List ℕ) → is_group g t ≡ true → inside g t * q ≤ p * (2 * size t + k)
 
