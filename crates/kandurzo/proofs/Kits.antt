@@ -8,18 +8,18 @@ use mathlib.Core.Logic.{◌↔◌}
 use mathlib.Core.List.{List, []}
 use Prim.Native.Nat.{ℕ, ◌≤◌}
 use native.Mathlib.Omega.{arith}
-use lib.ListN.{length, take}
+use lib.ListN.{length}
 use Rattle.std.proofs.Common.{Err}
 use Rattle.std.proofs.lemmas.List.{nil_from_length}
 use Rattle.theory.specs.Lists.{Pairs}
-use Rattle.theory.specs.Kits.{bad_least, kit_causes, kit_number, KitPromise}
+use Rattle.theory.specs.Kits.{bad_least, kit_causes, kit_number}
 use Rattle.theory.proofs.Refusals.{if_taken_new, if_taken_old}
 use Rattle.theory.proofs.Kits.{least_good, kit_pairless, kit_turned, kit_made, by_number}
 use Rattle.refusals.specs.declared.Refusal.{Refusal}
 use Rattle.refusals.specs.Numbers.{number_of}
 use Rattle.lines.proofs.Found.{numbered}
 use Rattle.verify.specs.declared.Verdict.{Verdict}
-use Rattle.verify.specs.Answers.{refused_by, verdict_of}
+use Rattle.verify.specs.Answers.{verdict_of}
 use Rattle.records.specs.declared.Pair.{Pair}
 use Rattle.records.specs.declared.Head.{Head}
 use Rattle.records.specs.Records.{held_list, agrees}
