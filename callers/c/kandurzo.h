@@ -1,4 +1,4 @@
-/* Kandurzo from C: fault groups of a pair list (document 01; document 02, items 1 to 4 and 6).
+/* Kandurzo from C: fault groups of a pair list (document 01; document 02, items 1 to 4, 6 and 7).
  *
  * A list has N modules (1 to 512), numbered 0 to N-1, and M pairs (at most 4,096) of two different modules, each with its stop count W (1 to 1,000): in how
  * many stop reports the pair was named. The caller lends every buffer: a head with N and M, and records, smaller module first, in strictly rising order by
@@ -31,6 +31,7 @@
  *   18  W outside 1 to 1,000
  *   19  the raised count passes 1,000
  *   20  the list holds no pair, and so it has no group: no stops, no group
+ *   21  k outside 1 to N
  */
 #ifndef KANDURZO_H
 #define KANDURZO_H
@@ -63,7 +64,8 @@ enum {
     KANDURZO_STACK_PEEL = 56320,
     KANDURZO_STACK_SOLVE = 106496, /* the most: enough for every call */
     KANDURZO_STACK_CHECK = 16384,
-    KANDURZO_STACK_SURPLUS = 59392
+    KANDURZO_STACK_SURPLUS = 59392,
+    KANDURZO_STACK_KIT = 57344
 };
 
 /* A record: the pair's smaller module, its larger, and its stop count. */
@@ -176,6 +178,15 @@ kandurzo_verdict_t kandurzo_check(kandurzo_head_t head, const kandurzo_pair_t *l
  * of the first. Above zero exactly if the first is denser, zero exactly if the ratios are equal. Wants N member bytes of each. Refuses by 13, 12, 7. */
 kandurzo_difference_t kandurzo_surplus(kandurzo_head_t head, const kandurzo_pair_t *list, size_t length, const uint8_t *first, size_t first_length,
                                        const uint8_t *second, size_t second_length);
+
+/* Kit: a group with at least k modules. A planner wants it in the place of solve's group where suppliers pack kits from a least size k: that group, which none
+ * is denser than, may have fewer modules. The sets left over in the leaving order are those present when 0, 1, 2 and so on modules have left; of those with at
+ * least k modules the kit is the one of greatest ratio, of equals the larger. Three times its ratio is no less than the ratio of any group with at least k
+ * modules; for a group of s modules, be s below k or not, (2s + k)/s times is enough. Writes the kit's member bytes (1 in, 0 out) and answers P and Q, its
+ * inside count and its number of modules. Wants N entries of members, 16,384 words of work. Refuses by 13, 12, 20, 21. The work buffer is untouched after 12
+ * or 13 and holds 16,384 zero words after any other return. */
+kandurzo_verdict_t kandurzo_kit(kandurzo_head_t head, const kandurzo_pair_t *list, size_t length, uint32_t k, uint8_t *members, size_t members_length,
+                                uint32_t *work, size_t work_length);
 
 #ifdef __cplusplus
 }

@@ -17,7 +17,7 @@ enum { ROOM = 8192, FILE_BYTES = 65536 };
 static kandurzo_head_t head;
 static kandurzo_pair_t list[KANDURZO_PAIRS];
 static size_t room = KANDURZO_PAIRS, entries = KANDURZO_MODULES, words = KANDURZO_WORK, text_room = KANDURZO_TEXT, count;
-static uint32_t a, b, w, q;
+static uint32_t a, b, w, q, k;
 static uint8_t file[FILE_BYTES], text[KANDURZO_TEXT], members[KANDURZO_MODULES], others[KANDURZO_MODULES];
 static uint16_t order[KANDURZO_MODULES];
 static uint32_t cores[KANDURZO_MODULES], shares[KANDURZO_PAIRS], work[KANDURZO_WORK];
@@ -69,8 +69,10 @@ static uint32_t check(void) { return kandurzo_check(head, list, room, members, e
 
 static uint32_t surplus(void) { return kandurzo_surplus(head, list, room, members, entries, others, entries).number; }
 
+static uint32_t kit(void) { return kandurzo_kit(head, list, room, k, others, entries, work, words).number; }
+
 /* Each call, the bytes stated for it, and the most that it used. */
-enum call { START, ADD, ADD_TO, REMOVE, REMOVE_FROM, PLACE, READ, READ_DIMACS, WRITE_DIMACS, PEEL, SOLVE, CHECK, SURPLUS, CALLS };
+enum call { START, ADD, ADD_TO, REMOVE, REMOVE_FROM, PLACE, READ, READ_DIMACS, WRITE_DIMACS, PEEL, SOLVE, CHECK, SURPLUS, KIT, CALLS };
 
 static struct painted calls[CALLS] = {
     {"start", start, KANDURZO_STACK_START, 0},
@@ -86,6 +88,7 @@ static struct painted calls[CALLS] = {
     {"solve", solve, KANDURZO_STACK_SOLVE, 0},
     {"check", check, KANDURZO_STACK_CHECK, 0},
     {"surplus", surplus, KANDURZO_STACK_SURPLUS, 0},
+    {"kit", kit, KANDURZO_STACK_KIT, 0},
 };
 
 /* Makes a call on the stack stated for it; the number wanted must come. */
@@ -286,21 +289,28 @@ static void dimacs_files(void) {
     run(READ_DIMACS, 17);
 }
 
-/* Peel, solve, check and surplus, with short buffers, and on a list and a head that disagree. */
+/* Peel, solve, check, surplus and kit, with short buffers, and on a list and a head that disagree. */
 static void searches_refused(void) {
     entries = head.n - 1;
-    for (enum call call = PEEL; call <= SURPLUS; call++) run(call, 12);
+    for (enum call call = PEEL; call <= KIT; call++) run(call, 12);
     entries = KANDURZO_MODULES;
     uint32_t n = head.n;
     head.n = 0;
-    for (enum call call = PEEL; call <= SURPLUS; call++) run(call, 13);
+    for (enum call call = PEEL; call <= KIT; call++) run(call, 13);
     head.n = n;
 }
 
-/* Peel, solve, check and surplus, on an agreeing list and head and on others, with right and wrong groups and shares. */
+/* Kits of at least one module, half of the modules and all, with the number wanted of these, and k outside 1 to N, with the number wanted of that. */
+static void kits(uint32_t made, uint32_t refused) {
+    const uint32_t sizes[] = {1, (head.n + 1) / 2, head.n}, outside[] = {0, head.n + 1, UINT32_MAX};
+    for (int i = 0; i < 3; i++) k = sizes[i], run(KIT, made), k = outside[i], run(KIT, refused);
+}
+
+/* Peel, solve, check, surplus and kit, on an agreeing list and head and on others, with right and wrong groups and shares. */
 static void searches(void) {
     memset(others, 1, sizeof others);
     for (enum call call = PEEL; call <= SURPLUS; call++) run(call, 0);
+    kits(0, 21);
     searches_refused();
     shares[0] = list[0].w * q + 1;
     run(CHECK, 8);
@@ -312,7 +322,8 @@ static void searches(void) {
     run(CHECK, 9);
 }
 
-/* As many modules without pairs: solve and check turn such a list down, whatever the group is, and all else serves it, also once a pair has come and gone. */
+/* As many modules without pairs: solve, check and kit turn such a list down, whatever the group or k is, and all else serves it, also once a pair has come
+ * and gone. */
 static void no_pairs(void) {
     head = kandurzo_start(head.n).head;
     memset(others, 1, sizeof others);
@@ -328,6 +339,7 @@ static void no_pairs(void) {
             run(CHECK, 20);
             run(SURPLUS, byte == 1 ? 0 : 7);
         }
+        kits(20, 20);
         searches_refused();
         write_file(0);
         run(READ, 0);

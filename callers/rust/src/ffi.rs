@@ -28,6 +28,8 @@ pub mod stack {
     pub const CHECK: usize = 16384;
     /// Of [`surplus`](super::surplus).
     pub const SURPLUS: usize = 59392;
+    /// Of [`kit`](super::kit).
+    pub const KIT: usize = 57344;
 }
 
 /// A record: the pair's smaller module, its larger, and its stop count. A list is in rising order by its modules, whatever the counts.
@@ -109,7 +111,7 @@ pub struct Solved {
     pub ratio: f64,
 }
 
-/// What check answers; beside a refusal P and Q are 0.
+/// What check and kit answer; beside a refusal P and Q are 0.
 #[repr(C)]
 #[derive(Clone, Copy, Debug, PartialEq, Eq)]
 pub struct Verdict {
@@ -208,6 +210,16 @@ mod library {
             second: *const u8,
             second_length: usize,
         ) -> Difference;
+        pub fn kandurzo_kit(
+            head: Head,
+            list: *const Pair,
+            length: usize,
+            k: u32,
+            members: *mut u8,
+            members_length: usize,
+            work: *mut u32,
+            work_length: usize,
+        ) -> Verdict;
     }
 }
 
@@ -346,6 +358,23 @@ pub fn surplus(head: Head, list: &[Pair], first: &[u8], second: &[u8]) -> Differ
             first.len(),
             second.as_ptr(),
             second.len(),
+        )
+    }
+}
+
+/// Writes the kit: of the sets left over in the leaving order with at least k modules the one of greatest ratio, of equals the larger. Refuses by 13, 12, 20,
+/// 21.
+pub fn kit(head: Head, list: &[Pair], k: u32, members: &mut [u8], work: &mut [u32]) -> Verdict {
+    unsafe {
+        library::kandurzo_kit(
+            head,
+            list.as_ptr(),
+            list.len(),
+            k,
+            members.as_mut_ptr(),
+            members.len(),
+            work.as_mut_ptr(),
+            work.len(),
         )
     }
 }

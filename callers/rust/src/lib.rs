@@ -1,5 +1,5 @@
 //! Kandurzo from Rust: the largest group of greatest ratio in a list of fault pairs, each with its stop count, with core numbers and a load sheet that
-//! shows that no group is denser (document 01; document 02, items 1 to 4 and 6).
+//! shows that no group is denser; and kits, groups with at least k modules (document 01; document 02, items 1 to 4, 6 and 7).
 //!
 //! ```
 //! let tail = b"modules=5\npairs=7\n0,1,1\n0,2,1\n0,3,1\n1,2,1\n1,3,1\n2,3,1\n3,4,1\n";
@@ -34,7 +34,7 @@ pub const TEXT: usize = 65536;
 /// Bytes of stack that are enough for any call of the library; [`ffi::stack`] has them by call.
 pub const STACK: usize = ffi::stack::SOLVE;
 
-/// Why a call declined: document 01's number, 1 to 15, or document 02's, 16 to 20.
+/// Why a call declined: document 01's number, 1 to 15, or document 02's, 16 to 21.
 #[derive(Clone, Copy, Debug, PartialEq, Eq, Hash)]
 pub struct Refusal(u32);
 
@@ -75,6 +75,7 @@ impl Refusal {
             18 => "W outside 1 to 1,000",
             19 => "the raised count passes 1,000",
             20 => "the list holds no pair",
+            21 => "k outside 1 to N",
             _ => "a number that the documents do not have",
         }
     }
@@ -144,8 +145,31 @@ pub struct Solution {
 impl Solution {
     /// The group's modules, rising.
     pub fn group(&self) -> impl Iterator<Item = usize> + '_ {
-        (0..self.members.len()).filter(|&v| self.members[v] == 1)
+        rising(&self.members)
     }
+}
+
+/// A kit: of the sets left over in the leaving order with at least k modules the one of greatest ratio; of equals, the larger.
+#[derive(Clone, Debug, PartialEq, Eq)]
+pub struct Kit {
+    /// P, its inside count: the sum of the stop counts of its pairs.
+    pub p: u32,
+    /// Q, its number of modules, k or more.
+    pub q: u32,
+    /// For each module 1 if it is in the kit, else 0.
+    pub members: Vec<u8>,
+}
+
+impl Kit {
+    /// The kit's modules, rising.
+    pub fn group(&self) -> impl Iterator<Item = usize> + '_ {
+        rising(&self.members)
+    }
+}
+
+/// The modules whose byte is 1.
+fn rising(members: &[u8]) -> impl Iterator<Item = usize> + '_ {
+    (0..members.len()).filter(|&v| members[v] == 1)
 }
 
 impl List {
@@ -280,5 +304,24 @@ impl List {
         let answer = ffi::surplus(self.head, &self.records, first, second);
         Refusal::of(answer.number)?;
         Ok(answer.value)
+    }
+
+    /// A group with at least k modules, for when suppliers pack kits from a least size k and the found group may have fewer modules. Three times its ratio is
+    /// no less than the ratio of any group with at least k modules. Refuses by 20, 21.
+    ///
+    /// ```
+    /// let mut list = kandurzo::List::read(b"modules=5\npairs=4\n0,1,9\n1,2,2\n2,3,2\n3,4,1\n")?;
+    /// assert_eq!(list.solve()?.group().collect::<Vec<_>>(), [0, 1]);
+    /// let kit = list.kit(3)?;
+    /// assert_eq!((kit.p, kit.q), (11, 3));
+    /// assert_eq!(kit.group().collect::<Vec<_>>(), [0, 1, 2]);
+    /// assert_eq!(list.kit(6).unwrap_err().to_string(), "21: k outside 1 to N");
+    /// # Ok::<(), kandurzo::Refusal>(())
+    /// ```
+    pub fn kit(&mut self, k: u32) -> Result<Kit, Refusal> {
+        let mut members = vec![0; self.modules()];
+        let kit = ffi::kit(self.head, &self.records, k, &mut members, &mut self.work);
+        Refusal::of(kit.number)?;
+        Ok(Kit { p: kit.p, q: kit.q, members })
     }
 }

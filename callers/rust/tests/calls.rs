@@ -1,6 +1,6 @@
-//! Each call over lent buffers but the readers (files.rs, dimacs.rs), on generated lists, valid and damaged, with counts of all sorts, against the plain
-//! computation: the number, every value beside it, and every entry of every buffer, those past the ones named too. Each test also asserts that it met every
-//! number of its call; 15 is proved never to come.
+//! Each call over lent buffers but the readers (files.rs, dimacs.rs), place and kit (place.rs, kits.rs), on generated lists, valid and damaged, with
+//! counts of all sorts, against the plain computation: the number, every value beside it, and every entry of every buffer, those past the ones named too.
+//! Each test also asserts that it met every number of its call; 15 is proved never to come.
 mod plain;
 
 use kandurzo::ffi::{self, Changed, Difference, Placed, Solved, Verdict, Written};
@@ -284,7 +284,7 @@ fn surplus() {
     met.are(&[0, 7, 12, 13]);
 }
 
-/// Solve and check with so many member bytes and core numbers, shares and words of work, all of anything: this number and nothing beside it from both.
+/// Solve, check and kit with so many member bytes and core numbers, shares and words of work, all of anything: this number and nothing beside it from each.
 fn turned_down(random: &mut Random, head: Head, list: &[Pair], [x, z, words_of_work]: [usize; 3], number: u32) {
     let (mut members, mut cores, mut shares) = (bytes(random, x), words(random, x), words(random, z));
     let (before, work) = ((members.clone(), cores.clone(), shares.clone()), words(random, words_of_work));
@@ -292,14 +292,19 @@ fn turned_down(random: &mut Random, head: Head, list: &[Pair], [x, z, words_of_w
     is_refusal(ffi::solve(head, list, &mut members, &mut cores, &mut shares, &mut after), number);
     assert_eq!((&members, &cores, &shares), (&before.0, &before.1, &before.2));
     assert!(after == cleared, "the work buffer after {number} of solve");
-    for group in [vec![1; x], vec![0; x], vec![2; x], members] {
+    for group in [vec![1; x], vec![0; x], vec![2; x], members.clone()] {
         after = work.clone();
         assert_eq!(ffi::check(head, list, &group, &shares, &mut after), Verdict { number, p: 0, q: 0 });
         assert!(after == cleared, "the work buffer after {number} of check");
     }
+    for k in [0, 1, head.n, head.n + 1, u32::MAX] {
+        after = work.clone();
+        assert_eq!(ffi::kit(head, list, k, &mut members, &mut after), Verdict { number, p: 0, q: 0 }, "k = {k}");
+        assert!(members == before.0 && after == cleared, "the buffers after {number} of kit");
+    }
 }
 
-/// 13, 12 and 20, whatever the records past M = 0, the group and the shares are.
+/// 13, 12 and 20, whatever the records past M = 0, the group, the shares and k are.
 #[test]
 fn lists_without_pairs() {
     let mut random = Random(8);

@@ -1,5 +1,5 @@
 //! Stop counts (document 02, item 4), by hand and on generated lists: add, remove, and what every call refuses. What peel, solve, check and surplus make of
-//! them is in stops.rs, pair files are in files.rs, and each call against the plain computation is in calls.rs.
+//! them is in stops.rs, kits are in kits.rs, pair files are in files.rs, and each other call against the plain computation is in calls.rs.
 mod plain;
 
 use kandurzo::ffi::{self, Changed};
@@ -189,7 +189,7 @@ fn removed_whole() {
 }
 
 /// The numbers of all calls that are lent a list, with enough of every buffer; a pair of modules that are not held.
-fn numbers(head: Head, list: &[Pair], a: u32, b: u32) -> [u32; 9] {
+fn numbers(head: Head, list: &[Pair], a: u32, b: u32) -> [u32; 10] {
     let (n, mut own, mut lent) = (head.n as usize, head, list.to_vec());
     let (members, mut work, mut text) = (vec![1; n], vec![7; WORK], vec![0; 65536]);
     let (mut order, mut cores, mut shares, mut found) = (vec![0; n], vec![0; n], vec![0; list.len()], vec![0; n]);
@@ -203,6 +203,7 @@ fn numbers(head: Head, list: &[Pair], a: u32, b: u32) -> [u32; 9] {
         ffi::solve(head, list, &mut found, &mut cores, &mut shares, &mut work).number,
         ffi::check(head, list, &found, &shares, &mut work).number,
         ffi::surplus(head, list, &members, &members).number,
+        ffi::kit(head, list, 1, &mut found, &mut work).number,
     ]
 }
 
@@ -213,7 +214,7 @@ fn counts_that_disagree() {
     for _ in 0..300 {
         let drawn = lists::small(&mut random);
         let (n, m) = (drawn.n, drawn.pairs.len());
-        // what solve and check give where head and list agree
+        // what solve, check and kit give where head and list agree
         let group = plain::solve(drawn.head(), &drawn.records(), [n, n, m, WORK]);
         let all = (0..n as u32).flat_map(|a| (0..a).map(move |b| (a, b)));
         let Some((a, b)) = all.into_iter().find(|&(a, b)| ends::count(&drawn, a, b) == 0) else { continue };
@@ -221,11 +222,11 @@ fn counts_that_disagree() {
             for j in 0..m {
                 let mut list = [drawn.records(), pairs(&mut random, 1)].concat();
                 list[j].w = w;
-                assert_eq!(numbers(drawn.head(), &list, a, b), [13; 9], "{w} at {j} of {m}");
+                assert_eq!(numbers(drawn.head(), &list, a, b), [13; 10], "{w} at {j} of {m}");
             }
             let past = [Pair { w, ..Pair::default() }, Pair { a: 0, b: 1, w }];
             let list = in_front(&drawn.records(), &[drawn.records(), past.to_vec()].concat());
-            assert_eq!(numbers(drawn.head(), &list, a, b), [0, 0, 0, 14, 0, 0, group, group, 0], "{w} past {m}");
+            assert_eq!(numbers(drawn.head(), &list, a, b), [0, 0, 0, 14, 0, 0, group, group, 0, group], "{w} past {m}");
         }
         without_pairs += u32::from(m == 0);
     }

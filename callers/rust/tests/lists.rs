@@ -1,7 +1,7 @@
 //! `List`: the lists that document 01 tries by hand, lists without pairs, and long runs of edits against a table of pairs and their stop counts.
 mod plain;
 
-use kandurzo::{List, Pair, Peeling, Place, Refusal};
+use kandurzo::{Kit, List, Pair, Peeling, Place, Refusal};
 use plain::{dimacs, files, lists, Plain, Random};
 use std::collections::BTreeMap;
 
@@ -74,6 +74,8 @@ fn refusals_have_numbers_and_texts() {
         "10: the pair is named on an earlier line"
     );
     assert_eq!(tail.check(&[1; 5], &[6; 7]).unwrap_err().text(), "a share above W times Q among the first M");
+    assert_eq!(tail.kit(0).unwrap_err().to_string(), "21: k outside 1 to N");
+    assert_eq!([6, 7, u32::MAX].map(|k| number(tail.kit(k))), [21; 3]);
     let mut none = list(5, &[]);
     assert_eq!(none.solve().unwrap_err().to_string(), "20: the list holds no pair");
     assert_eq!(none.check(&[1; 5], &[]).unwrap_err().text(), "the list holds no pair");
@@ -81,11 +83,12 @@ fn refusals_have_numbers_and_texts() {
     assert_eq!((number(none.check(&[1; 4], &[])), number(none.check(&[], &[0; 7]))), (12, 12));
 }
 
-/// A list without pairs, which has no group: solve and check turn it down, all else serves it.
+/// A list without pairs, which has no group: solve, check and kit turn it down, all else serves it.
 fn turned_down(list: &mut List) {
     let n = list.modules();
     let (all, one) = (vec![1; n], [&[1][..], &vec![0; n - 1]].concat());
     assert_eq!((number(list.solve()), number(list.check(&all, &[])), number(list.check(&one, &[0]))), (20, 20, 20));
+    assert_eq!([0, 1, n as u32, n as u32 + 1, u32::MAX].map(|k| number(list.kit(k))), [20; 5]);
     assert_eq!(list.peel(), Ok(Peeling { order: (0..n as u16).collect(), cores: vec![0; n] }));
     assert_eq!((list.surplus(&all, &one), number(list.surplus(&one, &vec![0; n]))), (Ok(0), 7));
     assert_eq!(list.write_dimacs(), Ok(format!("p edge {n} 0\n").into_bytes()));
@@ -144,7 +147,7 @@ fn printed_for_debugging() {
 type Held = BTreeMap<(usize, usize), usize>;
 
 /// The list holds the pairs and counts of the table, a list read from either of the table's files is the same, as far as a DIMACS file can say, and it is
-/// written as its DIMACS file. It is peeled and solved as the table is; solve turns it down where no pair is held.
+/// written as its DIMACS file. It is peeled and solved as the table is, and packed into kits; solve and kit turn it down where no pair is held.
 fn holds(list: &mut List, random: &mut Random, held: &Held) {
     let plain = Plain { n: list.modules(), pairs: held.iter().map(|(&(a, b), &w)| (a, b, w)).collect() };
     assert_eq!(list.pairs(), plain.records());
@@ -160,6 +163,9 @@ fn holds(list: &mut List, random: &mut Random, held: &Held) {
     let found = list.solve().unwrap();
     assert_eq!(found.cores, peeled.cores);
     assert_eq!(found.members, plain.largest_by_split(&found.shares, found.p as usize, found.q as usize));
+    let k = 1 + random.below(plain.n);
+    let (members, p, q) = plain.kit(k);
+    assert_eq!(list.kit(k as u32), Ok(Kit { p: p as u32, q: q as u32, members }));
 }
 
 /// The number that remove gives, None where it takes the pair out.

@@ -2,7 +2,7 @@
 mod plain;
 
 use kandurzo::ffi::stack;
-use kandurzo::{List, Place, Refusal};
+use kandurzo::{Kit, List, Place, Refusal};
 use plain::{dimacs, files, lists, Random};
 use std::thread;
 
@@ -26,6 +26,7 @@ fn each_method_in_a_small_thread() {
         assert_eq!(within(stack::SOLVE, || none.solve()).map_err(Refusal::number), Err(20));
         assert_eq!(within(stack::CHECK, || none.check(&vec![1; n], &[])).map_err(Refusal::number), Err(20));
         assert_eq!(within(stack::PEEL, || none.peel()).unwrap().cores, vec![0; n]);
+        assert_eq!(within(stack::KIT, || none.kit(1)).map_err(Refusal::number), Err(20));
         let mut list = within(stack::READ, || List::read(&file)).unwrap();
         assert_eq!(within(stack::PLACE, || list.place(b, a)), Ok(Place { held: true, at: m / 2 }));
         assert_eq!(within(stack::REMOVE, || list.remove(a, b)), Ok(()));
@@ -41,6 +42,9 @@ fn each_method_in_a_small_thread() {
         let found = within(stack::SOLVE, || list.solve()).unwrap();
         assert_eq!(within(stack::CHECK, || list.check(&found.members, &found.shares)), Ok((found.p, found.q)));
         assert_eq!(within(stack::SURPLUS, || list.surplus(&found.members, &found.members)), Ok(0));
+        let (members, p, q) = drawn.kit(n / 2);
+        assert_eq!(within(stack::KIT, || list.kit(n as u32 / 2)), Ok(Kit { p: p as u32, q: q as u32, members }));
+        assert_eq!(within(stack::KIT, || list.kit(0)).map_err(Refusal::number), Err(21));
     }
 }
 
@@ -58,6 +62,7 @@ fn figures_of_the_header() {
         ("SOLVE", stack::SOLVE),
         ("CHECK", stack::CHECK),
         ("SURPLUS", stack::SURPLUS),
+        ("KIT", stack::KIT),
     ];
     let here: Vec<String> = figures.iter().map(|(name, bytes)| format!("KANDURZO_STACK_{name} = {bytes}")).collect();
     let header = include_str!("../../c/kandurzo.h").lines().map(|line| line.split(',').next().unwrap().trim());

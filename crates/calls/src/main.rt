@@ -1,5 +1,5 @@
-// The public calls that read a list, on lent records: peel, solve, check, surplus and write_dimacs on sound lists, on buffers that are short or long, and on
-// heads and records that do not agree.
+// The public calls that read a list, on lent records: peel, solve, kit, check, surplus and write_dimacs on sound lists, on buffers that are short or long, and
+// on heads and records that do not agree.
 //
 // Each line has the call, what is altered, the number that documents 01 and 02 give it and the number that the call gave; then what it answered
 // and what it left of the lent buffers: of those of 8 entries all, each 9 before, and of the work buffer how many words are 0 and how many are 7 as before. The
@@ -9,6 +9,7 @@
 #![tactic(auto)]
 
 mod checks;
+mod kits;
 mod peels;
 mod plain;
 mod print;
@@ -35,6 +36,7 @@ fn each_call(
     checks::damaged(rt, name, judged, damage)?;
     peels::damaged(rt, name, due, damage)?;
     solves::damaged(rt, name, due, damage)?;
+    kits::damaged(rt, name, due, damage)?;
     surpluses::damaged(rt, name, due, damage)?;
     writes::damaged(rt, alloc, name, due, damage)
 }
@@ -106,6 +108,7 @@ fn main(rt: HostRuntime) -> io::Result<()> {
     let alloc = rt.alloc();
     peels::run(&rt)?;
     solves::run(&rt)?;
+    kits::run(&rt)?;
     checks::run(&rt)?;
     surpluses::run(&rt)?;
     writes::run(&rt, alloc)?;

@@ -1,4 +1,4 @@
-// What solve has to answer for its members, core numbers and shares, computed a second time from the records as plainly as can be.
+// What solve has to answer for its members, core numbers and shares, and kit for its members, computed a second time from the records as plainly as can be.
 use crate::samples::Lent;
 use model::{front, raise_at, reaching, rounded_up};
 use records::Pair;
@@ -32,6 +32,19 @@ fn inside(pairs: &[Pair], members: &[u8]) -> u32 {
 fn size(members: &[u8]) -> u32 {
     let size = members.iter().filter(|&&byte| byte == 1).count();
     u32::try_from(size).unwrap_or(u32::MAX)
+}
+
+// The members' inside count and number.
+pub(crate) fn counted(lent: &Lent, members: &[u8]) -> (u32, u32) {
+    (
+        inside(lent.pairs(), members),
+        size(front(members, lent.n())),
+    )
+}
+
+// How many are not the same.
+pub(crate) fn unlike(same: &[bool]) -> usize {
+    same.iter().filter(|&&same| !same).count()
 }
 
 // How many entries of two lists differ.
@@ -68,8 +81,7 @@ fn add_loads(pairs: &[Pair], shares: &[u32], q: u32, loads: &mut [u32]) {
 // The second computation.
 pub(crate) fn computed(lent: &Lent, members: &[u8], cores: &[u32], shares: &[u32]) -> Second {
     let mut loads = [0u32; 512];
-    let p = inside(lent.pairs(), members);
-    let q = size(front(members, lent.n()));
+    let (p, q) = counted(lent, members);
     let k = rounded_up(p, q);
     add_loads(lent.pairs(), shares, q, &mut loads);
     Second {

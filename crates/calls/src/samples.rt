@@ -22,6 +22,11 @@ impl Lent {
     }
 }
 
+// Raises the count of the first pair.
+pub(crate) fn raise_first(lent: &mut Lent, by: u16) {
+    lent.list[0].w = lent.list[0].w.wrapping_add(by);
+}
+
 // What is altered of a list of 5 modules whose last record is 3,4 with the count 1: the head's N, how many more pairs than there are the head's M says, that
 // record, and the count of the record past it.
 #[derive(Clone, Copy)]

@@ -2,8 +2,8 @@
 // turned down; lists of 512 modules; lists with counts. Where solve finds a group, `differ` says how much of its answer is not as due: P, Q, K, the core's
 // size, shares above W times Q and loads above P by a second computation, the answer of check, and the core numbers of peel. The float must be P/Q rounded
 // once.
-use crate::plain::{Second, differing};
-use crate::samples::{Counts, Damage, Kind, Lent, NONE};
+use crate::plain::{Second, differing, unlike};
+use crate::samples::{Counts, Damage, Kind, Lent, NONE, raise_first};
 use crate::{plain, print, ratios, samples};
 use kandurzo::{Solved, check, kandurzo_peel, solve};
 use model::{front, front_mut};
@@ -54,11 +54,6 @@ fn print_solved(rt: &impl Print, name: &str, due: u32, found: Solved) -> io::Res
     )?;
     let same = found.ratio == ratios::quotient(found.p, found.q);
     print!(rt; " ratio {}", print::as_due(same))
-}
-
-// How many are not the same.
-fn unlike(same: &[bool]) -> usize {
-    same.iter().filter(|&&same| !same).count()
 }
 
 // How much of what solve found is not as the second computation says. There is no From of u32 for usize.
@@ -116,11 +111,6 @@ fn confirm(
         unconfirmed(found, verdict),
         cores_differ(lent, cores)
     )
-}
-
-// Raises the count of the first pair.
-fn raise_first(lent: &mut Lent, by: u16) {
-    lent.list[0].w = lent.list[0].w.wrapping_add(by);
 }
 
 // One line: what solve says and writes.

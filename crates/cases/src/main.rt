@@ -11,6 +11,7 @@
 //   neighbours FILE A B             the pair of the arguments A and B, which may be empty, is looked up in the pair file's list
 //   groups   FILE                   `group` prints the group of the pair file's list
 //   sheets   FILE                   and `sheet` its sheet
+//   kits     FILE K                 and `kit` the kit of at least K modules, an argument that may be empty
 //   verdicts FILE SHEET             `audit` prints what it answers of the sheet beside the pair file
 //
 // and for DIMACS files, in the folder `dimacs`:
@@ -38,7 +39,7 @@
 //   audited        P/Q
 //   bytes          how many of the altered sheets are refused, how many are best sheets themselves (accepted with the same P/Q), and how many neither
 //   limits         P/Q; before the number stands how many bytes were read of each file
-//   neighbours, groups, sheets, verdicts    in the place of the number: what is printed, with `;` for each LF
+//   neighbours, groups, sheets, kits, verdicts    in the place of the number: what is printed, with `;` for each LF
 //   dimacs/files, rooms      N,M and the pairs of the list, modules numbered from 0, with its count behind a pair where that is not 1
 //   dimacs/made    N,M and how many of the pairs are named by a line, smaller module first, behind the one before; before the number the file's length
 //   dimacs/written, full     in the place of the number: the length written, how many bytes are not those due (7 past the length, as before),
@@ -60,7 +61,7 @@ use audited::{try_audit, try_bytes, try_limits};
 use edges::{try_edges, try_room};
 use made::try_made;
 use model::raise;
-use printed::{try_asked, try_group, try_sheet, try_verdict};
+use printed::{try_asked, try_group, try_kit, try_sheet, try_verdict};
 use solved::{try_file, try_large};
 use std::{fs, io};
 use words::Words;
@@ -115,6 +116,7 @@ fn main(rt: HostRuntime) -> io::Result<()> {
     try_list(&rt, "neighbours", try_asked)?;
     try_list(&rt, "groups", try_group)?;
     try_list(&rt, "sheets", try_sheet)?;
+    try_list(&rt, "kits", try_kit)?;
     try_list(&rt, "verdicts", try_verdict)?;
     try_list(&rt, "dimacs/files", try_edges)?;
     try_list(&rt, "dimacs/rooms", try_room)?;

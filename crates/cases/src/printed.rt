@@ -1,8 +1,9 @@
-// What programs print: `group`, `sheet` and `audit` of a pair file, and of a sheet beside it; `neighbours` of a pair that is asked for beside a pair file.
+// What programs print: `group`, `sheet` and `audit` of a pair file, and of a sheet beside it; `kit` and `neighbours` of a least size and of a pair that are
+// asked for beside a pair file.
 // Of what is printed, each LF becomes `;`.
 use crate::words::Words;
 use std::io;
-use texts::{audit_text, group_text, neighbours_text, sheet_text};
+use texts::{audit_text, group_text, kit_text, neighbours_text, sheet_text};
 
 // The bytes that are printed.
 fn shown(rt: &HostRuntime, printed: &[u8]) -> io::Result<String> {
@@ -25,6 +26,15 @@ pub(crate) fn try_sheet(rt: &HostRuntime, words: &mut Words) -> io::Result<Strin
     let mut out = [0u8; 140000];
     let file = words.file(rt)?;
     let r = sheet_text(file.as_slice(), &mut out);
+    shown(rt, &out[..r])
+}
+
+// A pair file, and behind it the argument of `kit`, which may be empty.
+pub(crate) fn try_kit(rt: &HostRuntime, words: &mut Words) -> io::Result<String> {
+    let mut out = [0u8; 8192];
+    let file = words.file(rt)?;
+    let least = words.word()?.as_bytes();
+    let r = kit_text(file.as_slice(), least, &mut out);
     shown(rt, &out[..r])
 }
 

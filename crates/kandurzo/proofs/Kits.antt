@@ -1,6 +1,6 @@
 -- Kits, from the words to the call, and what is promised of them.
 --   kit_refused, kit_done                 the call's promise, where 13 or 12 refuses and where neither does
---   every_list_packed, kit_turned_down    every list with a pair gets its kit; what is turned down, and by which number
+--   every_list_kitted, kit_turned_down    every list with a pair gets its kit; what is turned down, and by which number
 -- Assumes nothing.
 use mathlib.Core.Path.{◌≡◌, sym, ap, ◌∙◌}
 use mathlib.Core.Bool.{Bool, true}
@@ -8,18 +8,18 @@ use mathlib.Core.Logic.{◌↔◌}
 use mathlib.Core.List.{List, []}
 use Prim.Native.Nat.{ℕ, ◌≤◌}
 use native.Mathlib.Omega.{arith}
-use lib.ListN.{length, take}
+use lib.ListN.{length}
 use Rattle.std.proofs.Common.{Err}
 use Rattle.std.proofs.lemmas.List.{nil_from_length}
 use Rattle.theory.specs.Lists.{Pairs}
-use Rattle.theory.specs.Kits.{bad_least, kit_causes, kit_number, KitPromise}
-use Rattle.theory.proofs.Refusals.{if_taken_old}
+use Rattle.theory.specs.Kits.{bad_least, kit_causes, kit_number}
+use Rattle.theory.proofs.Refusals.{if_taken_new, if_taken_old}
 use Rattle.theory.proofs.Kits.{least_good, kit_pairless, kit_turned, kit_made, by_number}
 use Rattle.refusals.specs.declared.Refusal.{Refusal}
 use Rattle.refusals.specs.Numbers.{number_of}
 use Rattle.lines.proofs.Found.{numbered}
 use Rattle.verify.specs.declared.Verdict.{Verdict}
-use Rattle.verify.specs.Answers.{refused_by, verdict_of}
+use Rattle.verify.specs.Answers.{verdict_of}
 use Rattle.records.specs.declared.Pair.{Pair}
 use Rattle.records.specs.declared.Head.{Head}
 use Rattle.records.specs.Records.{held_list, agrees}
@@ -31,7 +31,7 @@ use Rattle.on_words.proofs.Filling.{left_open}
 use Rattle.on_words.proofs.Kits.{no_kit, kit_keeps, in_range, left_kit}
 use Rattle.kandurzo.specs.Laying.{Laid}
 use Rattle.kandurzo.specs.Kitting.{kit_call_causes, KitCall}
-use Rattle.kandurzo.specs.Promise.{Lent, KitServed, EveryListPacked, NoKit, KitTurnedDown}
+use Rattle.kandurzo.specs.Promise.{Lent, KitServed, EveryListKitted, NoKit, KitTurnedDown}
 use Rattle.kandurzo.proofs.Gates.{gate_left, gate_first, gate_then}
 use Rattle.kandurzo.proofs.Taken.{held_is_list}
 use Rattle.kandurzo.proofs.Demands.{n_is, m_is, lent_list, lent_passes}
@@ -79,12 +79,11 @@ module _ {g : Pairs} {h : Head} {ps : List Pair} (lent : Lent g h ps) (k : ℕ) 
       call.number ∙ lent_passes lent (kit_buffers h (length members) (length work)) _ (omega (arith, n_is lent, a), w) ∙ rw (n_is lent, m_is lent)
 
   served : 1 ≤ m → 1 ≤ k → k ≤ g.n → KitServed g k members work v members' work'
-  unfolding if_taken
   served some pos few =
       let z : v.number ≡ 0 = number_is ∙ kit_made g.n m k some (least_good g.n m k pos few) in
       record {
         number = z;
-        members_are = rw (z, lent_list lent) at call.says.members_are;
+        members_are = rw (lent_list lent) at (call.says.members_are ∙ if_taken_new _ _ members z);
         promise = rw (lent_list lent, n_is lent) at (call.promise z);
         left = call.left ∙ left_open work z;
       }
@@ -118,9 +117,9 @@ module _ {g : Pairs} {h : Head} {ps : List Pair} (lent : Lent g h ps) (k : ℕ) 
     ),
   )
 
-pub every_list_packed : EveryListPacked
-unfolding EveryListPacked
-every_list_packed g h ps k members work v members' work' lent some pos few a w call = served lent k members work a w call some pos few
+pub every_list_kitted : EveryListKitted
+unfolding EveryListKitted
+every_list_kitted g h ps k members work v members' work' lent some pos few a w call = served lent k members work a w call some pos few
 
 pub kit_turned_down : KitTurnedDown
 unfolding KitTurnedDown

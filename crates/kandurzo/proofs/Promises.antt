@@ -1,6 +1,6 @@
 -- One theorem for each statement of specs/Promise.antt, specs/Keeping.antt, specs/Twice.antt, specs/Placing.antt and specs/Exchange.antt, in their order.
 --   lent_held, every_list_peeled, every_list_solved, every_list_judged, every_list_compared, no_stops_no_group    every list
---   every_list_packed, kit_turned_down    kits
+--   every_list_kitted, kit_turned_down    kits
 --   refusals_keep, unsplit_never, fifteen_never    refusals
 --   peel_exact, check_exact, solve_alone, solve_accepted, records_in_order    answers
 --   held_once, either_way_round, add_exactly, remove_exactly, add_holds, remove_drops, thirteen_never_follows    one pair more, one pair less
@@ -11,7 +11,7 @@
 --   every_list_written, written_read, read_rewritten, comments_unread, read_dimacs_exact, every_dimacs_read    read_dimacs and write_dimacs
 -- Assumes nothing.
 use Rattle.kandurzo.specs.Promise.{LentHeld, EveryListPeeled, EveryListSolved, EveryListJudged, EveryListCompared, NoStopsNoGroup, RefusalsKeep, UnsplitNever}
-use Rattle.kandurzo.specs.Promise.{EveryListPacked, KitTurnedDown, FifteenNever, PeelExact, CheckExact, SolveAlone, SolveAccepted, RecordsInOrder}
+use Rattle.kandurzo.specs.Promise.{EveryListKitted, KitTurnedDown, FifteenNever, PeelExact, CheckExact, SolveAlone, SolveAccepted, RecordsInOrder}
 use Rattle.kandurzo.specs.Keeping.{HeldOnce, EitherWayRound, AddExactly, RemoveExactly, AddHolds, RemoveDrops, ThirteenNeverFollows, EveryFileRead, ReadExact}
 use Rattle.kandurzo.specs.Keeping.{ArrivalTraceless, AnyOrderTaken, OneAtATime, EveryListAdded, SamePairsSameRecords, AddUndone}
 use Rattle.kandurzo.specs.Twice.{FiveBeforeFour, OtherwiseAsBefore}
@@ -51,8 +51,8 @@ no_stops_no_group = demands.no_stops_no_group
 
 -- ---- kits
 
-pub every_list_packed : EveryListPacked
-every_list_packed = kits.every_list_packed
+pub every_list_kitted : EveryListKitted
+every_list_kitted = kits.every_list_kitted
 
 pub kit_turned_down : KitTurnedDown
 kit_turned_down = kits.kit_turned_down

@@ -24,6 +24,6 @@ pub record KitCall (h : Head) (ps : List Pair) (k : ℕ) (members work : List �
   pub number : v.number ≡ refusal (kit_call_causes h ps k members work)
   -- P, Q and the member bytes, outright
   pub says : KitSays (held_list h ps) k members v members'
-  -- the set of the item's words, a group with at least k modules, and three times its ratio is no less than that of any group with as many
+  -- the set of the item's words, a group with at least k modules, and three times its ratio is no less than the ratio of any group with at least k modules
   pub promise : v.number ≡ 0 → KitPromise (held_list h ps) k (take h.n members') v.p v.q
   pub left : work' ≡ work_left v.number work

@@ -10,7 +10,7 @@
 --      at share size Q is exactly P. (The equality: theory, specs/Promise.antt; of solve and check: Optimal, in Handed and in CheckCall.)
 -- The statements:
 --   every list    Lent, LentHeld; PeelServed, EveryListPeeled; SolveServed, EveryListSolved; EveryListJudged, EveryListCompared; TurnedDown, NoStopsNoGroup
---   kits          KitServed, EveryListPacked; NoKit, KitTurnedDown
+--   kits          KitServed, EveryListKitted; NoKit, KitTurnedDown
 --   refusals      RefusalsKeep; UnsplitNever, FifteenNever
 --   answers       PeelingOf, PeelExact; BestOfAll, CheckExact; SharesAlike, SolveAlone, SolveAccepted; CompareAlike, RecordsInOrder
 -- Those of start, add, remove and read are in Keeping (and 13 after read_dimacs), the others of read_dimacs and write_dimacs in Exchange; what 5 before 4
@@ -127,8 +127,8 @@ pub record KitServed (g : Pairs) (k : ℕ) (members work : List ℕ) (v : Verdic
   pub left : work' ≡ cleared work
 
 -- KIT SERVES EVERY LIST WITH A PAIR that is lent with buffers of the stated sizes, at every k from 1 to N
-unfoldable pub EveryListPacked : Type 0
-EveryListPacked =
+unfoldable pub EveryListKitted : Type 0
+EveryListKitted =
     (g : Pairs) (h : Head) (ps : List Pair) (k : ℕ) (members work : List ℕ) (v : Verdict) (members' work' : List ℕ) →
     Lent g h ps → 1 ≤ length g.pairs → 1 ≤ k → k ≤ g.n → g.n ≤ length members → 16384 ≤ length work →
     KitCall h ps k members work v members' work' → KitServed g k members work v members' work'

@@ -29,7 +29,7 @@ use on_words::reading::{EdgeFile, PairFile};
 pub use on_words::{Placed, Solved, Written};
 use records::{Head, Pair};
 use refusals::{Refusal, number};
-use sheets::{checked, compared, packed, peeled, solved};
+use sheets::{checked, compared, kitted, peeled, solved};
 use verify::{Difference, Verdict};
 
 // What start, add, remove, read and read_dimacs answer, as C has it: the refusal number or 0, and the head after the call.
@@ -221,7 +221,7 @@ pub extern "C" fn kandurzo_kit(
 ) -> Verdict
     ensures { KitCall head list.now k members.old work.old result members.new work.new }
 {
-    Verdict::from(packed(head, list, k, members, work))
+    Verdict::from(kitted(head, list, k, members, work))
 }
 
 pub use kandurzo_kit as kit;

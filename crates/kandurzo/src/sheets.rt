@@ -70,7 +70,7 @@ pub(crate) fn checked(
 
 // The ratio of the kit of at least k modules; refuses by 13, 12, 20, 21.
 #[tactic(auto, using(on_words::proofs::Enough::kit_enough))]
-pub(crate) fn packed(
+pub(crate) fn kitted(
     head: Head,
     list: &[Pair],
     k: u32,

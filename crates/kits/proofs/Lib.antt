@@ -1,2 +1,2 @@
 -- What the proof of `kit` cites.
-pub mod Packing
+pub mod Kits

@@ -1,5 +1,5 @@
 -- The contract of `kit`.
---   Packs    what it leaves in the buffer and returns, outright
+--   Kits    what it leaves in the buffer and returns, outright
 -- Assumes nothing: this is a definition.
 use Rattle.std.specs.Prelude.{◌≡◌, List, ◌++◌, ℕ, drop}
 use Rattle.theory.specs.Lists.{Pairs}
@@ -8,7 +8,7 @@ use Rattle.theory.specs.Kits.{kit}
 use Rattle.numbers.specs.declared.Ratio.{Ratio}
 
 -- of a list g: the member bytes before and after, and what is returned
-pub record Packs (g : Pairs) (k : ℕ) (members members' : List ℕ) (r : Ratio) : Type 0 where
+pub record Kits (g : Pairs) (k : ℕ) (members members' : List ℕ) (r : Ratio) : Type 0 where
   -- the kit's member bytes stand in the first N entries; the others are as they were
   pub members_are : members' ≡ kit g k ++ drop g.n members
   -- its inside count and its size

@@ -6,7 +6,7 @@
 
 ghost use Rattle.std.specs.Prelude.{◌≤◌, length};
 ghost use Rattle.lists.specs.Listed.{listed};
-ghost use Rattle.kits.specs.Kits.{Packs};
+ghost use Rattle.kits.specs.Kits.{Kits};
 
 use groups::mark_at_least;
 use lists::List;
@@ -18,7 +18,7 @@ pub fn kit(list: List, k: usize, members: &mut [u8]) -> Ratio
     requires some { 1 ≤ k }
     requires few { k ≤ list.n }
     requires members_len { list.n ≤ length members.old }
-    ensures { Packs (listed list.entry) k members.old members.new result }
+    ensures { Kits (listed list.entry) k members.old members.new result }
 {
     let mut order = [0; 512];
     let mut cores = [0; 512];

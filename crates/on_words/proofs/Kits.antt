@@ -25,7 +25,7 @@ use Rattle.refusals.specs.Numbers.{number_of}
 use Rattle.lines.proofs.Found.{numbered}
 use Rattle.verify.specs.declared.Verdict.{Verdict}
 use Rattle.verify.specs.Answers.{verdict_of}
-use Rattle.kits.specs.Kits.{Packs}
+use Rattle.kits.specs.Kits.{Kits}
 use Rattle.records.specs.declared.Head.{Head}
 use Rattle.on_words.specs.Buffers.{in_front, cleared, work_left}
 use Rattle.on_words.specs.Kitting.{KitSays, KitOn}
@@ -42,7 +42,7 @@ no_kit g k members e =
     }
 
 -- where it is made
-kit_says : (g : Pairs) (k : ℕ) {members members' : List ℕ} {r : Ratio} → Packs g k members members' r → KitSays g k members (verdict_of (Ok r)) members'
+kit_says : (g : Pairs) (k : ℕ) {members members' : List ℕ} {r : Ratio} → Kits g k members members' r → KitSays g k members (verdict_of (Ok r)) members'
 unfolding in_front if_taken
 kit_says g k {members} p = record {
   p = p.p_is;
@@ -54,7 +54,7 @@ module _ (h : Head) (k : ℕ) (members : List ℕ) {work work' : List ℕ} (left
   pub kit_refused : (e : Refusal) → number_of e ≡ kit_number h.n h.m k → KitOn h k members work (verdict_of (Err e)) members work'
   kit_refused e n = record { number = n; says = no_kit _ k members e; left = left }
 
-  pub kit_done : 0 ≡ kit_number h.n h.m k → {members' : List ℕ} {r : Ratio} → Packs (laid_list h.n h.m work) k members members' r →
+  pub kit_done : 0 ≡ kit_number h.n h.m k → {members' : List ℕ} {r : Ratio} → Kits (laid_list h.n h.m work) k members members' r →
       KitOn h k members work (verdict_of (Ok r)) members' work'
   kit_done n p = record { number = n; says = kit_says _ k p; left = left }
 

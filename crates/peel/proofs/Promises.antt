@@ -11,16 +11,17 @@ use lib.Dec.{ltb, eqb, leb-suc-suc}
 use lib.ListN.{get_or, drop, get_or-append}
 use borrow.Author.Tests.{ltb-true, lt-ltb, le-ltb}
 use Rattle.theory.specs.Basics.{table}
-use Rattle.theory.specs.Leaving.{leaving, before}
+use Rattle.theory.specs.Leaving.{leaving, remainder, before}
 use Rattle.theory.specs.Cores.{core_number, core_numbers}
-use Rattle.theory.specs.Kits.{densest_remainder}
+use Rattle.theory.specs.Kits.{densest_remainder, kit, KitExact}
 use Rattle.theory.specs.Promise.{CoreExact, OutsideFirst}
 use Rattle.theory.proofs.Tests.{no}
 use Rattle.theory.proofs.Tables.{length_table, table_at}
 use Rattle.theory.proofs.Promises.{core_exact, outside_first}
 use Rattle.peel.specs.Places.{index_of, places}
 use Rattle.peel.specs.Promise.{PeelPromised, PlaceBefore}
-use Rattle.theory.proofs.Remainders.{remainder_size, densest_le, densest_best, densest_larger}
+use Rattle.theory.proofs.Remainders.{remainder_size, densest_le}
+use Rattle.theory.proofs.Kits.{kit_exact}
 use Rattle.peel.proofs.Leavers.{remainder_by_place}
 
 -- ---- places
@@ -57,7 +58,7 @@ front_at n f xs rest e i l =
     ∙ table_at n f i 0 l
 
 pub peel_promised : PeelPromised
-unfolding PeelPromised CoreExact OutsideFirst PlaceBefore core_numbers places densest_remainder
+unfolding PeelPromised CoreExact OutsideFirst PlaceBefore core_numbers places densest_remainder kit KitExact
 peel_promised g least order cores place order' cores' place' r h some few p =
     record {
       core_exact = λ m l. rw (core_at m l) (core_exact g m h l);
@@ -70,9 +71,7 @@ peel_promised g least order cores place order' cores' place' r h some few p =
       member = λ i v l. rw (place_at v l) (remainder_by_place g i v l);
       rest = omega (arith, p.q_is, remainder_size g r.at (omega (arith, low)));
       enough = omega (arith, p.q_is, remainder_size g r.at (omega (arith, low)), low);
-      densest = λ i l. rw p.at_is (densest_best g (g.n - least) (omega arith) i (omega arith));
-      larger = λ i l e.
-          rw p.at_is (densest_larger g (g.n - least) (omega arith) i (omega arith) (rw p.at_is at e));
+      is_kit = (kit_exact g least (remainder g r.at) some few).1 (ap (remainder g) p.at_is);
     }
   where
     core_at : (m : ℕ) → m < g.n → get_or cores' m 0 ≡ core_number g m

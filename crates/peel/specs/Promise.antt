@@ -5,9 +5,10 @@
 -- Assumes nothing: these are definitions.
 use Rattle.std.specs.Prelude.{◌≡◌, true, false, List, ℕ, ◌+◌, ◌≤◌, ◌<◌, ltb, leb, get_or}
 use Rattle.theory.specs.Lists.{Pairs, is_list}
-use Rattle.theory.specs.Groups.{is_in, at_most}
+use Rattle.theory.specs.Groups.{is_in}
 use Rattle.theory.specs.Leaving.{leaving, remainder, before}
 use Rattle.theory.specs.Cores.{core}
+use Rattle.theory.specs.Kits.{IsKit}
 use Rattle.theory.specs.Promise.{LargestOrder}
 use Rattle.peel.specs.declared.Remainder.{Remainder}
 use Rattle.peel.specs.Places.{index_of}
@@ -26,10 +27,9 @@ pub record PeelPromise (g : Pairs) (least : ℕ) (order' cores' place' : List �
   pub member : (i v : ℕ) → v < g.n → is_in (remainder g i) v ≡ leb i (get_or place' v 0)
   -- those that have left and those of the remainder returned are N together
   pub rest : r.ratio.q + r.at ≡ g.n
-  -- the remainder returned has at least so many modules; of those that have, none has a higher ratio, and none of as high a ratio is larger
+  -- the remainder returned has at least so many modules: it is the kit (document 02, item 7)
   pub enough : least ≤ r.ratio.q
-  pub densest : (i : ℕ) → i + least ≤ g.n → at_most g (remainder g i) (remainder g r.at) ≡ true
-  pub larger : (i : ℕ) → i + least ≤ g.n → at_most g (remainder g r.at) (remainder g i) ≡ true → r.at ≤ i
+  pub is_kit : IsKit g least (remainder g r.at)
 
 -- so of every call
 unfoldable pub PeelPromised : Type 0

@@ -31,7 +31,7 @@ impl Peeled {
 }
 
 // The first remainder, unless the second has a higher ratio.
-fn denser(first: Remainder, second: Remainder) -> Remainder {
+pub(crate) fn denser(first: Remainder, second: Remainder) -> Remainder {
     if is_below(first.ratio, second.ratio) {
         second
     } else {
@@ -62,7 +62,7 @@ impl Plain {
     }
 
     // What is left at turn i.
-    fn remainder(&self, i: u32, place: &[u32]) -> Remainder {
+    pub(crate) fn remainder(&self, i: u32, place: &[u32]) -> Remainder {
         Remainder {
             ratio: Ratio {
                 p: self.inside(|v| i <= at(place, v)),

@@ -66,3 +66,16 @@ pub(crate) fn product(x: u32, y: u32) -> u64 {
 pub(crate) fn is_below(first: Ratio, second: Ratio) -> bool {
     product(first.p, second.q) < product(second.p, first.q)
 }
+
+// The ratio in lowest terms.
+pub(crate) fn reduced(ratio: Ratio) -> Ratio {
+    let Ratio { p, q } = ratio;
+    let shared = (1..=q)
+        .filter(|&d| p.checked_rem(d) == Some(0) && q.checked_rem(d) == Some(0))
+        .max()
+        .unwrap_or(1);
+    Ratio {
+        p: p.checked_div(shared).unwrap_or(p),
+        q: q.checked_div(shared).unwrap_or(q),
+    }
+}

@@ -1,6 +1,7 @@
 // The found group as document 01 defines it and as plainly as can be: every set of modules is counted. Module v is in the set of a mask where bit v is 1.
 use crate::plain::{Plain, product};
 use numbers::Ratio;
+use std::ops::Range;
 
 // A set: its mask, and its inside count over its size.
 #[derive(Clone, Copy)]
@@ -31,8 +32,13 @@ impl Set {
 }
 
 impl Plain {
+    // The masks of all sets of a list of at most 12 modules; none of a longer list.
+    pub(crate) fn masks(&self) -> Range<u32> {
+        if 12 < self.n { 1..1 } else { 1..1 << self.n }
+    }
+
     // The set of a mask.
-    fn set(&self, mask: u32) -> Set {
+    pub(crate) fn set(&self, mask: u32) -> Set {
         let ratio = Ratio {
             p: self.inside(|v| has(mask, v)),
             q: mask.count_ones(),
@@ -42,10 +48,7 @@ impl Plain {
 
     // The densest set of a list of at most 12 modules, of equals the largest.
     pub(crate) fn densest_set(&self) -> Option<Set> {
-        if 12 < self.n {
-            return None;
-        }
-        (1..1u32 << self.n)
+        self.masks()
             .map(|mask| self.set(mask))
             .reduce(|first, second| first.denser(second))
     }

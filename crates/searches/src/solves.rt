@@ -25,7 +25,7 @@ pub(crate) struct Due<'a> {
 }
 
 // The first byte becomes 1 where it is 0, else 0.
-fn other_byte(members: &mut [u8]) {
+pub(crate) fn other_byte(members: &mut [u8]) {
     if let Some(byte) = members.first_mut() {
         *byte = u8::from(*byte == 0);
     }

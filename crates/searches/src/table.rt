@@ -50,7 +50,7 @@ pub(crate) fn try_rows(rt: &impl Print, alloc: Global, table: &str) -> io::Resul
         };
         try_lists(row.asked, row.lists, alloc, &mut tally)?;
         if let Some(name) = row.name {
-            tally.print(rt, matches!(row.asked, Asked::Search(_)), name)?;
+            tally.print(rt, row.asked, name)?;
             tally = Tally::new();
         }
     }

@@ -1,9 +1,10 @@
 // Trials: lists are drawn, read and asked for something, one after the other.
-use crate::altered::Altered;
+use crate::altered::{Altered, AlteredKit};
 use crate::changes::Change;
 use crate::checks::{try_changes, try_sheets};
 use crate::draws::{Lists, Plan};
 use crate::held::Held;
+use crate::packs::try_kits;
 use crate::plain::Plain;
 use crate::search::search;
 use crate::surpluses::{try_firsts, try_sets};
@@ -23,10 +24,12 @@ pub(crate) enum Asked {
     Sets,
     // Surplus of groups of 512 modules against the first so many.
     Firsts(u32),
+    // The kit of each least size, with one thing altered.
+    Kits(Option<AlteredKit>),
 }
 
 impl Asked {
-    // What a number asks, and with what: a search with 0 alters nothing.
+    // What a number asks, and with what: of a search and of kits 0 alters nothing.
     pub(crate) fn numbered(asked: u32, with: u32) -> Option<Asked> {
         match asked {
             0 if with == 0 => Some(Asked::Search(None)),
@@ -35,6 +38,8 @@ impl Asked {
             2 => Some(Asked::Sheets(with)),
             3 => Some(Asked::Sets),
             4 => Some(Asked::Firsts(with)),
+            5 if with == 0 => Some(Asked::Kits(None)),
+            5 => Some(Asked::Kits(Some(AlteredKit::numbered(with)?))),
             _ => None,
         }
     }
@@ -47,6 +52,7 @@ impl Asked {
             Asked::Sheets(base) => try_sheets(base, tried, tally),
             Asked::Sets => try_sets(tried, tally),
             Asked::Firsts(count) => try_firsts(count, tried, tally),
+            Asked::Kits(thing) => try_kits(thing, tried, alloc, tally)?,
         }
         Ok(())
     }

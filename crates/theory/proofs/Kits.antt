@@ -4,7 +4,7 @@
 --   leaver_half               so the leaver carries at most twice the ratio of the modules present
 --   falls_light               down to k modules, no leaver carries more than twice the kit's ratio
 --   left_light                so a group loses at most that with each of its members, as the leaving order takes them
---   kit_promised, kit_exact, kit_group, kit_within_three, kit_bound    the statements
+--   kit_promised, kit_exact, kit_group, kit_within_three, kit_within_size    the statements
 --   kit_length                a byte for each module
 --   least_good, good_least, least_bad    k from 1 to N, or not
 --   kit_pairless, kit_turned, kit_made, by_number    the number that is given: 20, 21, or none
@@ -24,7 +24,7 @@ use borrow.Author.Tests.{eqb-true, le-leb, not-false}
 use Rattle.theory.specs.Lists.{Pairs, Pair, is_list}
 use Rattle.theory.specs.Groups.{is_in, size, bytes_good, is_group, holds_pair, inside_of, inside, at_most}
 use Rattle.theory.specs.Leaving.{joins, degree_of, degree, leaver, leaving, left_behind, remainder, leaving_degree}
-use Rattle.theory.specs.Kits.{densest_upto, densest_remainder, kit, LeftOver, IsKit, KitExact, KitGroup, KitWithinThree, KitBound, KitPromised}
+use Rattle.theory.specs.Kits.{densest_upto, densest_remainder, kit, LeftOver, IsKit, KitExact, KitGroup, KitWithinThree, KitWithinSize, KitPromised}
 use Rattle.theory.specs.Kits.{bad_least, kit_causes, kit_number}
 use Rattle.theory.specs.Refusals.{cause, refusal}
 use Rattle.theory.specs.Promise.{LeaverFewest}
@@ -35,7 +35,6 @@ use Rattle.theory.proofs.Groups.{Bits, Sub, in_lt, group_bits, size_pos, in_leav
 use Rattle.theory.proofs.Cores.{degree_sub, sub_everyone, inside_leave}
 use Rattle.theory.proofs.Leaving.{leaver_fewest}
 use Rattle.theory.proofs.Remainders.{leaver_at, remainder_full, remainder_bytes, remainder_size, remainder_group, densest_le, densest_best, densest_larger}
-use Rattle.theory.proofs.Bounds.{size_le_length}
 use Rattle.theory.proofs.Pairless.{pairless, paired, pairless_then, paired_then, by_pairs}
 
 -- ---- degrees and inside counts
@@ -277,28 +276,26 @@ pub kit_group : KitGroup
 unfolding KitGroup
 kit_group g k pos few = (group g k pos few, enough g k pos few)
 
-pub kit_bound : KitBound
-unfolding KitBound
-kit_bound g k t l pos few h = bounded g k pos few l t (group_bits g t h)
+pub kit_within_size : KitWithinSize
+unfolding KitWithinSize
+kit_within_size g k l pos few t h = bounded g k pos few l t (group_bits g t h)
 
 pub kit_within_three : KitWithinThree
 unfolding KitWithinThree
-kit_within_three g k t l pos h many =
-    let b = group_bits g t h in
-    let few : k ≤ g.n = omega (arith, size_le_length t b.1, b.0) in
-    omega (arith, bounded g k pos few l t b, mul-le-mul_left (inside g (kit g k)) many)
+kit_within_three g k l pos few t h many =
+    omega (arith, bounded g k pos few l t (group_bits g t h), mul-le-mul_left (inside g (kit g k)) many)
 
 pub kit_promised : KitPromised
-unfolding KitPromised KitWithinThree KitBound
+unfolding KitPromised KitWithinThree KitWithinSize
 kit_promised g k l pos few =
     record {
       inside_count = refl;
       modules = refl;
       is_kit = is_kit g k pos few;
-      is_a_group = group g k pos few;
+      group = group g k pos few;
       enough = enough g k pos few;
-      within_three = λ t h many. kit_within_three g k t l pos h many;
-      bound = λ t h. kit_bound g k t l pos few h;
+      within_three = kit_within_three g k l pos few;
+      within_size = kit_within_size g k l pos few;
     }
 
 -- a byte for each module

@@ -1,5 +1,5 @@
 -- Document 01, "Check" and "Surplus": what the two calls answer of a held list, once 13, 12 and check's 20 do not hold.
---   refused_by, verdict_of    check's answer in C's form
+--   refused_by, verdict_of    check's answer in C's form, and kit's
 --   difference_of             surplus's answer in C's form
 --   CheckSays                 check's answer, with demand 3 of whatever it accepts
 --   SurplusSays               surplus's answer, with what its sign says
@@ -17,11 +17,11 @@ use Rattle.numbers.specs.declared.Ratio.{Ratio}
 use Rattle.verify.specs.declared.Verdict.{Verdict}
 use Rattle.verify.specs.declared.Difference.{Difference}
 
--- check's answer where it refuses by number k
+-- the answer of check, or of kit, where it refuses by number k
 abbrev pub refused_by : (k : ℕ) → Verdict
 refused_by k = record { number = k; p = 0; q = 0 }
 
--- check's answer: 0 with the group's ratio, or a refusal's number and no other value
+-- the answer of check, or of kit: 0 with the group's ratio, or a refusal's number and no other value
 abbrev pub verdict_of : Result Ratio Refusal → Verdict
 verdict_of (Ok r) = record { number = 0; p = r.p; q = r.q }
 verdict_of (Err e) = refused_by (number_of e)

@@ -19,7 +19,7 @@ use numbers::Ratio;
 use refusals::Refusal;
 use split::Split;
 
-// Check's answer as C has it: 0 and the group's inside count p and size q, or a refusal number and zeros.
+// The answer of check, and of kit, as C has it: 0 and the group's inside count p and size q, or a refusal number and zeros.
 #[repr(C)]
 #[derive(Clone, Copy, Debug, PartialEq, Eq)]
 pub struct Verdict {

@@ -4,8 +4,8 @@ use kandurzo::Pair;
 
 pub const WORK: usize = 16384;
 
-/// The numbers there are: 0 and those of the documents, up to 20.
-const NUMBERS: usize = 21;
+/// The numbers there are: 0 and those of the documents, up to 21.
+const NUMBERS: usize = 22;
 
 /// Numbers met, with how often.
 #[derive(Default)]

@@ -1,4 +1,4 @@
-//! A plain second computation of the definitions of document 01 and of document 02, items 2 to 4 and 6, as slow and as literal as it may be; in files of
+//! A plain second computation of the definitions of document 01 and of document 02, items 2 to 4, 6 and 7, as slow and as literal as it may be; in files of
 //! their own, generators of lists (`lists`), pair files (`files`) and DIMACS edge files (`dimacs`).
 #![allow(dead_code)]
 pub mod buffers;
@@ -107,6 +107,28 @@ impl Plain {
         order
     }
 
+    /// The sets left over in the leaving order: what is present when 0, 1, 2 and so on modules have left.
+    pub fn left_over(&self) -> Vec<Vec<u8>> {
+        let mut sets = vec![vec![1; self.n]];
+        for leaver in self.leaving() {
+            let mut left = sets.last().unwrap().clone();
+            left[leaver as usize] = 0;
+            sets.push(left);
+        }
+        sets
+    }
+
+    /// Of the sets left over with at least k modules, k being 1 to N, the one of greatest ratio; of equals, the larger. Its member bytes, P and Q.
+    pub fn kit(&self, k: usize) -> (Vec<u8>, usize, usize) {
+        let by_ratio_then_size = |one: &Vec<u8>, other: &Vec<u8>| {
+            let ratios = (self.inside(one) * size(other)).cmp(&(self.inside(other) * size(one)));
+            ratios.then(size(one).cmp(&size(other)))
+        };
+        let kit = self.left_over().into_iter().filter(|set| size(set) >= k).max_by(by_ratio_then_size).unwrap();
+        let (p, q) = (self.inside(&kit), size(&kit));
+        (kit, p, q)
+    }
+
     /// For each k: drop modules with fewer than k stops with those kept, until none is left to drop; those kept have core number k or more. They are
     /// among those kept for any smaller k, and for each k up to the fewest stops that one of them has they are the same ones.
     pub fn cores(&self) -> Vec<u32> {
@@ -198,6 +220,11 @@ impl Plain {
     }
 }
 
+/// How many modules a set has.
+pub fn size(set: &[u8]) -> usize {
+    set.iter().filter(|&&x| x == 1).count()
+}
+
 /// Whether the first N bytes are a group: none above 1, and one that is 1.
 pub fn is_group(n: usize, members: &[u8]) -> bool {
     members[..n].iter().all(|&x| x <= 1) && members[..n].contains(&1)
@@ -230,7 +257,7 @@ pub fn check(head: Head, list: &[Pair], members: &[u8], shares: &[u32], work: us
     if !is_group(plain.n, members) {
         return (7, 0, 0);
     }
-    let q = members[..plain.n].iter().filter(|&&x| x == 1).count();
+    let q = size(&members[..plain.n]);
     let p = plain.inside(members);
     match plain.loads(shares, q) {
         None => (8, 0, 0),
@@ -251,6 +278,19 @@ pub fn surplus(head: Head, list: &[Pair], first: &[u8], second: &[u8]) -> (u32, 
     if !is_group(plain.n, first) || !is_group(plain.n, second) {
         return (7, 0);
     }
-    let size = |group: &[u8]| group[..plain.n].iter().map(|&x| x as i64).sum::<i64>();
+    let size = |group: &[u8]| size(&group[..plain.n]) as i64;
     (0, size(second) * plain.inside(first) as i64 - plain.inside(second) as i64 * size(first))
+}
+
+/// Kit's number, with so many member bytes and words of work.
+pub fn kit(head: Head, list: &[Pair], k: u32, [members, work]: [usize; 2]) -> u32 {
+    if !agree(head, list) {
+        13
+    } else if members < head.n as usize || work < 16384 {
+        12
+    } else if head.m == 0 {
+        20
+    } else {
+        21 * !(1..=head.n).contains(&k) as u32
+    }
 }

@@ -5,7 +5,7 @@ use lib.Seq.{length-take-le}
 use Rattle.theory.specs.Words.{list_in}
 use Rattle.theory.proofs.Lists.{listed}
 use Rattle.lists.specs.declared.list.List.{List}
-use Rattle.kits.proofs.Packing.{packed}
+use Rattle.kits.proofs.Kits.{kitted}
 use Rattle.kits.proofs.kit.Goals as goal
 
 -- a list has at most 512 modules
@@ -26,7 +26,7 @@ pub returns : goal.returns
 unfolding list_in
 returns c =
     let long = length-take-le c.args.list.n c.args.members.now c.requires.members_len in
-    packed _ _ c.args.list.held.listed c.requires.some c.requires.few c.peel-rest.ensures _
+    kitted _ _ c.args.list.held.listed c.requires.some c.requires.few c.peel-rest.ensures _
     (omega (arith, c.mark_at_least.auto.group, long))
     (λ v l. c.mark_at_least.ensures v (omega (arith, long)))
     _

@@ -1,7 +1,7 @@
--- `kandurzo::sheets::packed` meets its contract: kit of the words is kit of the lent records. Assumes nothing.
+-- `kandurzo::sheets::kitted` meets its contract: kit of the words is kit of the lent records. Assumes nothing.
 use Rattle.lines.proofs.Found.{handed_on}
 use Rattle.kandurzo.proofs.Kits.{kit_refused, kit_done}
-use Rattle.kandurzo.proofs.sheets.packed.Goals as goal
+use Rattle.kandurzo.proofs.sheets.kitted.Goals as goal
 
 pub returns-in_err-lay_held : goal.returns-in_err-lay_held
 returns-in_err-lay_held c =

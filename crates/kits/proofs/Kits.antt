@@ -1,6 +1,6 @@
 -- From the places to the kit.
 --   peelable    buffers of 512 entries are long enough for peel
---   packed      the modules whose place is not below the number of those that have left are the kit
+--   kitted      the modules whose place is not below the number of those that have left are the kit
 -- Assumes nothing.
 use mathlib.Core.Path.{◌≡◌, sym, ap, ◌∙◌}
 use mathlib.Core.Bool.{true}
@@ -21,7 +21,7 @@ use Rattle.peel.specs.Peel.{Peels}
 use Rattle.peel.specs.Promise.{PeelPromise, PeelPromised}
 use Rattle.peel.specs.declared.Remainder.{Remainder}
 use Rattle.peel.proofs.Promises.{peel_promised}
-use Rattle.kits.specs.Kits.{Packs}
+use Rattle.kits.specs.Kits.{Kits}
 
 module _ (g : Pairs) (k : ℕ) (held : is_list g ≡ true) (some : 1 ≤ k) (few : k ≤ g.n) {order cores place order' cores' place' : List ℕ} {r : Remainder}
     (p : Peels g k order cores place order' cores' place' r) where
@@ -41,9 +41,9 @@ module _ (g : Pairs) (k : ℕ) (held : is_list g ≡ true) (some : 1 ≤ k) (few
         each v low ∙ ap mark (sym (promise.member r.at v low)) ∙ omega (arith, bit s v 1 (remainder_bytes g r.at)))
         ∙ ap (remainder g) p.at_is
 
-    pub packed : (members : List ℕ) → Packs g k members (marked ++ drop g.n members) r.ratio
+    pub kitted : (members : List ℕ) → Kits g k members (marked ++ drop g.n members) r.ratio
     unfolding kit
-    packed members =
+    kitted members =
         record {
           members_are = ap (λ (xs : List ℕ). xs ++ drop g.n members) is_the_kit;
           p_is = p.p_is ∙ ap (λ (i : ℕ). inside g (remainder g i)) p.at_is;
