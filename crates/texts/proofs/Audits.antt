@@ -11,7 +11,6 @@ use Rattle.theory.specs.Basics.{all}
 use Rattle.theory.proofs.Bounds.{size_bound}
 use Rattle.theory.proofs.Tests.{tests}
 use Rattle.lines.specs.Outcomes.{Outcome, refused, taken}
-use Rattle.lines.specs.Lines.{filled}
 use Rattle.pairfile.proofs.Grouped.{group_listed}
 use Rattle.refusals.specs.declared.Refusal.{Refusal}
 use Rattle.refusals.specs.Numbers.{number_of}
@@ -23,7 +22,7 @@ use Rattle.sheetfile.specs.Sheet.{Sheet}
 use Rattle.sheetfile.specs.Writer.{seven_digits}
 use Rattle.sheetfile.specs.Audit.{audit, verdict_of, Audits}
 use Rattle.sheetfile.proofs.BestSheets.{best_writable}
-use Rattle.texts.specs.Texts.{refusal_text, accepted_form, audit_text}
+use Rattle.texts.specs.Texts.{refusal_text, ratio_lines, audit_text}
 
 -- a refusal
 pub verdict_refused : {file sheet : List ℕ} (e : Refusal) → Audits file sheet (answered (Err e)) → refusal_text (number_of e) ≡ audit_text (audit file sheet)
@@ -41,11 +40,11 @@ module _ {file sheet : List ℕ} {r : Ratio} (a : Audits file sheet (answered (O
     unfolding verdict_of
     ratio_as = let v = rw e at a.verdict in (ap (λ (x : Verdict). x.p) v, ap (λ (x : Verdict). x.q) v)
 
-    accepted_as : filled accepted_form (r.p ∷ r.q ∷ []) ≡ audit_text (audit file sheet)
+    accepted_as : ratio_lines r.p r.q ≡ audit_text (audit file sheet)
     unfolding audit_text
     accepted_as = rw (e, ratio_as.0, ratio_as.1) refl
 
-  pub verdict_accepted : filled accepted_form (r.p ∷ r.q ∷ []) ≡ audit_text (audit file sheet)
+  pub verdict_accepted : ratio_lines r.p r.q ≡ audit_text (audit file sheet)
   verdict_accepted = let b = a.best refl in accepted_as b.0 b.1
 
   pub ratio_small : seven_digits (r.p ∷ r.q ∷ [])

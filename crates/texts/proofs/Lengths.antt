@@ -1,5 +1,6 @@
 -- How long the texts are.
---   refusal_length, accepted_length    a refusal, and an accepted sheet
+--   refusal_length, ratio_length       a refusal, and a ratio
+--   members_length                     the members' lines
 --   group_length, sheet_length         the group's lines of a sheet that can be written, and the whole sheet
 -- Assumes nothing.
 use mathlib.Core.Path.{◌≡◌, refl}
@@ -24,7 +25,7 @@ use Rattle.lines.proofs.Spelling.{spell_length}
 use Rattle.lines.proofs.Lengths.{no_more, and_small, filled_length}
 use Rattle.sheetfile.specs.Sheet.{head_form, member_form, number_form, share_form, Sheet}
 use Rattle.sheetfile.specs.Writer.{member_lines, number_lines, share_lines, sheet_file, seven_digits, Writable}
-use Rattle.texts.specs.Texts.{refusal_text, accepted_form}
+use Rattle.texts.specs.Texts.{refusal_text, ratio_form, ratio_lines}
 
 -- ---- lines
 
@@ -42,9 +43,9 @@ seven_each (n ∷ ns) h (suc k) = seven_each ns (simp tests at h).1 k
 seven_length : (form ns : List ℕ) → seven_digits ns → length (filled form ns) ≤ length form + 6 * places form
 seven_length form ns h = filled_length 6 (omega arith) form ns (seven_each ns h)
 
-pub accepted_length : (ns : List ℕ) → seven_digits ns → length (filled accepted_form ns) ≤ 31
-unfolding accepted_form text places is_place between mark
-accepted_length ns h = seven_length accepted_form ns h
+pub ratio_length : (p q : ℕ) → seven_digits (p ∷ q ∷ []) → length (ratio_lines p q) ≤ 31
+unfolding ratio_lines ratio_form text places is_place between mark
+ratio_length p q h = seven_length ratio_form (p ∷ q ∷ []) h
 
 head_length : (ns : List ℕ) → seven_digits ns → length (filled head_form ns) ≤ 52
 unfolding head_form text places is_place between mark
@@ -56,7 +57,7 @@ unfolding member_form text places is_place between mark
 member_length true v h = filled_length 3 (omega arith) member_form (v ∷ []) (and_small v h no_more).each
 member_length false v h = omega arith
 
-members_length : (v : ℕ) (s : List ℕ) → v + length s ≤ 9999 → length (member_lines v s) ≤ 12 * length s
+pub members_length : (v : ℕ) (s : List ℕ) → v + length s ≤ 9999 → length (member_lines v s) ≤ 12 * length s
 unfolding member_lines
 members_length v [] h = omega arith
 members_length v (b ∷ bs) h =

@@ -9,12 +9,12 @@ use Rattle.lines.specs.Lines.{filled}
 use Rattle.lines.specs.Putting.{HasRoom, Writes}
 use Rattle.lines.specs.declared.writer.Writer.{Writer}
 use Rattle.lines.proofs.Parts.{Left, left_start, left_front, left_step}
-use Rattle.sheetfile.specs.Sheet.{head_form, member_form, number_form, share_form}
+use Rattle.sheetfile.specs.Sheet.{head_form, number_form, share_form}
 use Rattle.sheetfile.specs.Writer.{member_lines, number_lines, share_lines}
 use Rattle.answer.specs.declared.Answer.{Answer}
 use Rattle.texts.specs.Filling.{given_lines}
 use Rattle.texts.specs.Printed.{answer_lines, sheet_lines}
-use Rattle.texts.proofs.Parts.{member_numbers, members_given, number_numbers, numbers_given, share_numbers, shares_given}
+use Rattle.texts.proofs.Parts.{number_numbers, numbers_given, share_numbers, shares_given}
 
 module _ (a : Answer) (s : List ℕ) {w : Writer} (room : HasRoom (answer_lines a s) w) where
   pub all_left : Left (answer_lines a s) w (filled head_form (a.ratio.p ∷ a.ratio.q ∷ a.k ∷ a.coresize ∷ []) ++ member_lines 0 s) w
@@ -22,8 +22,8 @@ module _ (a : Answer) (s : List ℕ) {w : Writer} (room : HasRoom (answer_lines 
   all_left = left_start (answer_lines a s) w room
 
   pub members_left : {w' : Writer} → Writes (filled head_form (a.ratio.p ∷ a.ratio.q ∷ a.k ∷ a.coresize ∷ [])) w w' →
-      Left (answer_lines a s) w (given_lines member_form (member_numbers s) 0 (length s)) w'
-  members_left p = rw (members_given s) (left_step all_left _ _ refl p)
+      Left (answer_lines a s) w (member_lines 0 s) w'
+  members_left p = left_step all_left _ _ refl p
 
 module _ (a : Answer) (s cs : List ℕ) (n m : ℕ) (es ws xs : List ℕ) where
   abbrev list : Pairs

@@ -31,8 +31,9 @@ use Rattle.pairfile.specs.File.{read_file}
 use Rattle.pairfile.specs.Promise.{ReadsLists}
 use Rattle.pairfile.proofs.Promises.{reads_lists}
 use Rattle.texts.specs.Converted.{converted}
+use Rattle.texts.specs.Texts.{printed}
+use Rattle.texts.specs.Arguments.{argument_number}
 use Rattle.texts.specs.Neighbours.{
-  argument_number,
   record_before,
   predecessor,
   successor,
@@ -41,7 +42,6 @@ use Rattle.texts.specs.Neighbours.{
   record_line,
   place_text,
   pair_placed,
-  printed,
   list_printed,
   stands_after,
   Nearest,

@@ -1,5 +1,4 @@
 -- The text of a pair's place, part by part.
---   argument_none, argument_more, argument_alone   the module that an argument names
 --   entry_some, entry_none                         the entry at an index of a list, if it has one
 --   none_there, line_there                         the line of the k-th record in words
 --   successor_next                                 the record after a pair, counted from 1
@@ -13,22 +12,21 @@
 --   refused_written, text_written                  the text in a buffer, or the refusal
 -- Assumes nothing.
 use mathlib.Core.Path.{◌≡◌, refl, sym, ap, ◌∙◌}
-use mathlib.Core.Bool.{true, cond}
+use mathlib.Core.Bool.{true}
 use mathlib.Core.List.{List, [], ◌∷◌, ◌++◌}
 use Prim.Native.Nat.{ℕ, zero, suc, ◌+◌, ◌*◌, ◌-◌, ◌≤◌, ◌<◌, min, max}
 use native.Mathlib.Numerals.{add-one}
 use native.Mathlib.Omega.{arith}
-use borrow.Author.Tests.{leb-true, eqb-true, eqb-false, eq-eqb, ne_eqb}
-use lib.Dec.{eqb}
+use borrow.Author.Tests.{leb-true}
 use lib.ListN.{length, get_or, length-append}
-use Rattle.std.specs.Prelude.{Option, Some, None, Ok, Err}
+use Rattle.std.specs.Prelude.{Some, None, Ok, Err}
 use Rattle.std.specs.List.{slice_get}
 use Rattle.theory.specs.Basics.{all, mark}
 use Rattle.theory.specs.Lists.{Pair, Pairs, pair, ends_in_range, is_list}
 use Rattle.theory.specs.Refusals.{refusal}
 use Rattle.theory.specs.Words.{word_pair, pairs_in}
 use Rattle.theory.proofs.Lists.{listed}
-use Rattle.theory.proofs.Tests.{tests, by_test, mark_le}
+use Rattle.theory.proofs.Tests.{tests, mark_le}
 use Rattle.theory.proofs.Words.{length_pairs_in, pairs_in_at}
 use Rattle.refusals.specs.declared.Refusal.{Refusal}
 use Rattle.refusals.specs.Numbers.{number_of as refusal_number}
@@ -37,7 +35,6 @@ use Rattle.pairs.specs.Causes.{pair_causes}
 use Rattle.pairs.specs.Located.{Place, located}
 use Rattle.pairs.proofs.Rising.{place_le}
 use Rattle.lines.specs.Text.{text, between}
-use Rattle.lines.specs.Numbers.{number_of}
 use Rattle.lines.specs.Lines.{is_place, places, filled}
 use Rattle.lines.specs.Outcomes.{Outcome, refused, taken, ◌>>=◌, ◌>>◌}
 use Rattle.lines.specs.Putting.{Puts, HasRoom, Writes}
@@ -46,14 +43,11 @@ use Rattle.lines.proofs.Found.{judge_refused, judged_by, judge_passed}
 use Rattle.lines.proofs.Lengths.{no_more, and_small, filled_length}
 use Rattle.lines.proofs.Parts.{Left, left_front, left_step}
 use Rattle.pairfile.specs.File.{read_file}
-use Rattle.pairfile.proofs.Accepts.{accepted}
-use Rattle.texts.specs.Texts.{refusal_text}
+use Rattle.texts.specs.Texts.{refusal_text, printed}
 use Rattle.texts.specs.Printed.{TextWritten}
 use Rattle.texts.specs.Converted.{converted}
+use Rattle.texts.specs.Arguments.{argument_number, number_due}
 use Rattle.texts.specs.Neighbours.{
-  alone,
-  argument_number,
-  module_due,
   record_before,
   predecessor,
   successor,
@@ -65,35 +59,12 @@ use Rattle.texts.specs.Neighbours.{
   pair_placed,
   arguments_placed,
   file_placed,
-  printed,
   list_printed,
   neighbours_printed,
   NeighboursRead,
 }
 use Rattle.texts.proofs.Files.{prints, text_printed, text_refused}
 use Rattle.texts.proofs.Whole.{read_as}
-
--- ---- an argument, by the number that has been found in front
-
--- no number stands there
-pub argument_none : (bytes : List ℕ) → number_of 4 bytes ≡ None → module_due (argument_number bytes) ≡ refused 110
-unfolding argument_number alone module_due
-argument_none bytes e = rw e refl
-
-module _ (bytes : List ℕ) {v : ℕ} {left : List ℕ} (e : number_of 4 bytes ≡ Some (record { value = v; rest = left })) where
-  found : argument_number bytes ≡ cond (eqb (length left) 0) (Some v) None
-  unfolding argument_number alone
-  found = rw e refl
-
-  -- one with bytes behind it
-  pub argument_more : (length left ≡ 0 → ⊥) → module_due (argument_number bytes) ≡ refused 110
-  unfolding module_due
-  argument_more h = rw (found, ne_eqb (length left) 0 h) refl
-
-  -- one alone
-  pub argument_alone : length left ≡ 0 → module_due (argument_number bytes) ≡ taken v
-  unfolding module_due
-  argument_alone h = rw (found, eq-eqb (length left) 0 h) refl
 
 -- ---- the records next to a place
 
@@ -221,17 +192,17 @@ module _ (g : Pairs) (a b : ℕ) where
 module _ (first second : List ℕ) (g : Pairs) where
   -- 110
   pub first_none : argument_number first ≡ None → list_printed first second g ≡ refusal_text 110
-  unfolding list_printed arguments_placed module_due ◌>>=◌ printed
+  unfolding list_printed arguments_placed number_due ◌>>=◌ printed
   first_none e = rw e refl
 
   module _ {a : ℕ} (e : argument_number first ≡ Some a) where
     pub second_none : argument_number second ≡ None → list_printed first second g ≡ refusal_text 110
-    unfolding list_printed arguments_placed module_due ◌>>=◌ printed
+    unfolding list_printed arguments_placed number_due ◌>>=◌ printed
     second_none d = rw (e, d) refl
 
     -- both are numbers
     pub both_named : {b : ℕ} → argument_number second ≡ Some b → list_printed first second g ≡ printed (pair_placed g a b)
-    unfolding list_printed arguments_placed module_due ◌>>=◌
+    unfolding list_printed arguments_placed number_due ◌>>=◌
     both_named d = rw (e, d) refl
 
 -- ---- the text of a file and two arguments, by what is read
@@ -244,17 +215,17 @@ module _ (file first second : List ℕ) where
 
   module _ {g : Pairs} (e : read_file 4096 file ≡ taken g) where
     -- a refused argument
-    pub first_refused : {k : ℕ} → module_due (argument_number first) ≡ refused k → file_placed file first second ≡ refused k
+    pub first_refused : {k : ℕ} → number_due (argument_number first) ≡ refused k → file_placed file first second ≡ refused k
     unfolding file_placed arguments_placed ◌>>=◌
     first_refused f = rw (e, f) refl
 
-    module _ {a : ℕ} (f : module_due (argument_number first) ≡ taken a) where
-      pub second_refused : {k : ℕ} → module_due (argument_number second) ≡ refused k → file_placed file first second ≡ refused k
+    module _ {a : ℕ} (f : number_due (argument_number first) ≡ taken a) where
+      pub second_refused : {k : ℕ} → number_due (argument_number second) ≡ refused k → file_placed file first second ≡ refused k
       unfolding file_placed arguments_placed ◌>>=◌
       second_refused s = rw (e, f, s) refl
 
       -- two modules
-      module _ {b : ℕ} (s : module_due (argument_number second) ≡ taken b) where
+      module _ {b : ℕ} (s : number_due (argument_number second) ≡ taken b) where
         placed : file_placed file first second ≡ pair_placed g a b
         unfolding file_placed arguments_placed ◌>>=◌
         placed = rw (e, f, s) refl

@@ -1,16 +1,15 @@
 -- What the program `neighbours` prints (document 02, item 3): where the pair of two modules stands in a list or would stand, and the records next to it.
---   alone, argument_number, module_due          the number that an argument spells; 110 where it spells none
 --   record_before, predecessor, successor       the records next to a place
 --   place_form, before_form, after_form         the forms of the lines
 --   record_line, place_text                     a record's line, if there is a record; all lines of a place
 --   pair_placed, arguments_placed, file_placed  the text of two module numbers, of two arguments, and of these and a file, or the refusal number
---   printed, list_printed, neighbours_printed   what `neighbours` prints
+--   list_printed, neighbours_printed            what `neighbours` prints
 --   NeighboursRead                             what is right of whatever pair file was read
 --   stands_after, Nearest, Shown                the records nearest to a pair, and a text that shows them and the pair's place
 --   NeighboursNearest, NeighboursRound        the text shows the nearest records; the modules may be named in either order
 --   NeighboursPlaced                           number, held and place are what the call place answers
 -- proofs/Nearest.antt has a theorem for each promise, of the same name in small letters. Assumes nothing: these are definitions.
-use Rattle.std.specs.Prelude.{◌≡◌, Bool, true, false, ◌&&◌, cond, List, [], ◌∷◌, ◌++◌, ℕ, zero, suc, ◌+◌, ◌≤◌, ◌<◌, eqb, length, get_or, Option, Some, None}
+use Rattle.std.specs.Prelude.{◌≡◌, Bool, true, false, ◌&&◌, List, [], ◌∷◌, ◌++◌, ℕ, zero, suc, ◌+◌, ◌≤◌, ◌<◌, length, get_or, Option, Some, None}
 use Rattle.std.specs.List.{slice_get}
 use Rattle.theory.specs.Basics.{mark}
 use Rattle.theory.specs.Lists.{Pair, Pairs, stands_before}
@@ -19,33 +18,17 @@ use Rattle.pairs.specs.Held.{is_held, smaller_first_pair}
 use Rattle.pairs.specs.Causes.{pair_causes}
 use Rattle.pairs.specs.Located.{Place, located}
 use Rattle.lines.specs.Text.{text}
-use Rattle.lines.specs.Numbers.{Number, number_of}
 use Rattle.lines.specs.Lines.{filled}
-use Rattle.lines.specs.Outcomes.{Outcome, refused, taken, ◌>>=◌, ◌>>◌, judge}
+use Rattle.lines.specs.Outcomes.{Outcome, taken, ◌>>=◌, ◌>>◌, judge}
 use Rattle.pairfile.specs.File.{read_file}
 use Rattle.records.specs.declared.Pair.{Pair as Record}
 use Rattle.records.specs.declared.Head.{Head}
 use Rattle.on_words.specs.declared.Placed.{Placed}
 use Rattle.kandurzo.specs.Placing.{PlaceSays}
 use Rattle.kandurzo.specs.Promise.{Lent}
-use Rattle.texts.specs.Texts.{refusal_text}
+use Rattle.texts.specs.Texts.{refusal_text, printed}
 use Rattle.texts.specs.Printed.{ReadOf}
-
--- ---- the arguments
-
--- a number with nothing behind it
-unfoldable pub alone : Option Number → Option ℕ
-alone None = None
-alone (Some x) = cond (eqb (length x.rest) 0) (Some x.value) None
-
--- the number that an argument spells, as a pair file spells it: 1 to 4 digits, no leading zero unless it is 0, nothing before or behind it
-unfoldable pub argument_number : (argument : List ℕ) → Option ℕ
-argument_number bytes = alone (number_of 4 bytes)
-
--- 110: an argument spells no number. One that is missing is empty, and an empty one spells none
-unfoldable pub module_due : Option ℕ → Outcome ℕ
-module_due None = refused 110
-module_due (Some a) = taken a
+use Rattle.texts.specs.Arguments.{argument_number, number_due}
 
 -- ---- a pair's place, and the records next to it
 
@@ -95,14 +78,9 @@ pair_placed g a b = do
 -- of two arguments: 110, then what their numbers give
 unfoldable pub arguments_placed : Pairs → (first second : List ℕ) → Outcome (List ℕ)
 arguments_placed g first second = do
-  a ← module_due (argument_number first)
-  b ← module_due (argument_number second)
+  a ← number_due (argument_number first)
+  b ← number_due (argument_number second)
   pair_placed g a b
-
--- a text, or of a refusal the status line only
-unfoldable pub printed : Outcome (List ℕ) → List ℕ
-printed (refused k) = refusal_text k
-printed (taken t) = t
 
 -- what is printed of a list and two arguments
 unfoldable pub list_printed : (first second : List ℕ) → Pairs → List ℕ

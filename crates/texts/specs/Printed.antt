@@ -23,7 +23,7 @@ use Rattle.lines.specs.Lines.{filled}
 use Rattle.sheetfile.specs.Sheet.{head_form}
 use Rattle.sheetfile.specs.Writer.{member_lines, number_lines, share_lines, sheet_file}
 use Rattle.answer.specs.declared.Answer.{Answer}
-use Rattle.texts.specs.Texts.{refusal_text, group_printed, certificate, accepted_form, audit_text}
+use Rattle.texts.specs.Texts.{refusal_text, group_printed, certificate, ratio_lines, audit_text}
 
 -- the first r bytes of the buffer are a right text, and those behind it are as they were
 pub record Prints (Right : List ℕ → Type 0) (out out' : List ℕ) (r : ℕ) : Type 0 where
@@ -80,7 +80,7 @@ unfoldable pub SheetAnswered : Type 0
 SheetAnswered =
     (bytes out out' : List ℕ) (r : ℕ) → Prints (SheetRead bytes) out out' r →
     (file : List ℕ) → ReadOf 65536 bytes file → (g : Pairs) → group_list file ≡ taken g →
-    audit_text (audit file (take r out')) ≡ filled accepted_form (inside g (found_of g) ∷ size (found_of g) ∷ [])
+    audit_text (audit file (take r out')) ≡ ratio_lines (inside g (found_of g)) (size (found_of g))
 
 -- `group` and `sheet` print the status line of 20 alone, and so does `audit`, whatever sheet it is handed
 pub record PairlessPrinted (file : List ℕ) : Type 0 where

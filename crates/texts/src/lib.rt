@@ -1,15 +1,18 @@
 // What the programs `group`, `sheet` and `audit` print, written into a lent buffer (document 01, end of "Lists tried by hand"); converted.rt has what
-// `from_dimacs` and `to_dimacs` print, neighbours.rt what `neighbours` prints; reading.rt reads their input.
+// `from_dimacs` and `to_dimacs` print, neighbours.rt what `neighbours` prints, kitting.rt what `kit` prints. reading.rt reads their input, arguments.rt the
+// numbers among their arguments.
 //
 // A program reads its input, calls one of the public functions, and writes the first bytes of the buffer out, as many as the function answers.
-// A text is written once, from front to back, line by line, at the cost of its bytes. 8,192 bytes hold the text of any group, 140,000 that of any
-// sheet, 64 that of any audit or pair: that room is a clause of each function, since a type of buffer that has it would ask more of callers. A
+// A text is written once, from front to back, line by line, at the cost of its bytes. 8,192 bytes hold the text of any group or kit, 140,000 that
+// of any sheet, 64 that of any audit or pair: that room is a clause of each function, since a type of buffer that has it would ask more of callers. A
 // refused file has its number on the status line alone, which only `text_or_refusal` writes. Of its input a program has every byte that decides (the first
 // 65,536 of a pair file, 140,000 of a sheet), or all there are: the text is that of the whole file.
 // `as` stands where std has no `From`: from u32 to usize, and where a bound lets a number fit fewer bits.
 #![tactic(auto)]
 
+mod arguments;
 mod converted;
+mod kitting;
 mod neighbours;
 mod reading;
 
@@ -17,15 +20,18 @@ ghost use Rattle.std.specs.Prelude.{◌≡◌, ◌≤◌, ◌<◌, ℕ, IfOk, If
 ghost use Rattle.refusals.specs.Numbers.{number_of};
 ghost use Rattle.lists.specs.Listed.{listed};
 ghost use Rattle.lines.specs.Putting.{Puts, HasRoom, Writes};
-ghost use Rattle.texts.specs.Texts.{refusal_text};
+ghost use Rattle.sheetfile.specs.Writer.{member_lines};
+ghost use Rattle.texts.specs.Texts.{refusal_text, ratio_lines};
 ghost use Rattle.texts.specs.Filling.{Numbers, given_lines, Gives};
 ghost use Rattle.texts.specs.Printed.{Prints, TextWritten, GroupRead, SheetRead, AuditRead, answer_lines, sheet_lines};
 
 use answer::{Answer, sheet_file, solve_file};
 pub use converted::{from_dimacs_text, to_dimacs_text};
+pub use kitting::kit_text;
 use lines::Writer;
 use lists::List;
 pub use neighbours::neighbours_text;
+use numbers::Ratio;
 pub use reading::{read_argument, read_full};
 use refusals::Refusal;
 
@@ -66,6 +72,29 @@ fn write_lines<F: Fn(usize) -> Option<[u32; 3]>>(
     }
 }
 
+// The first lines of a group that is answered by its ratio alone.
+#[tactic(auto, unfolding(crate::specs::Texts::ratio_lines, crate::specs::Texts::ratio_form, lines::specs::Text::text))]
+pub(crate) fn write_ratio(ratio: Ratio, writer: &mut Writer)
+    requires { HasRoom (ratio_lines ratio.p ratio.q) writer.old }
+    ensures { Writes (ratio_lines ratio.p ratio.q) writer.old writer.new }
+{
+    writer.line(b"status=0\nratio=P/Q\n", &[ratio.p, ratio.q]);
+}
+
+// A line for each member, rising.
+pub(crate) fn write_members(members: &[u8], writer: &mut Writer)
+    requires few { length members.now ≤ 512 }
+    requires room { HasRoom (member_lines 0 members.now) writer.old }
+    ensures { Writes (member_lines 0 members.now) writer.old writer.new }
+{
+    write_lines(
+        b"member=A\n",
+        members.len(),
+        |v| (members[v] == 1).then_some([v as u32, 0, 0]),
+        writer,
+    );
+}
+
 // The found group's lines.
 fn write_group(found: Answer, members: &[u8], writer: &mut Writer)
     requires few { length members.now ≤ 512 }
@@ -77,12 +106,7 @@ fn write_group(found: Answer, members: &[u8], writer: &mut Writer)
         b"status=0\nratio=P/Q\ncore=K,C\n",
         &[ratio.p, ratio.q, found.k, found.coresize],
     );
-    write_lines(
-        b"member=A\n",
-        members.len(),
-        |v| (members[v] == 1).then_some([v as u32, 0, 0]),
-        writer,
-    );
+    write_members(members, writer);
 }
 
 // The found group's lines, and behind them the core numbers and the shares.
@@ -159,7 +183,7 @@ fn write_verdict(file: &[u8], sheet: &[u8], out: &mut [u8]) -> Result<usize, Ref
 {
     let ratio = sheetfile::audit(file, sheet)?;
     let mut writer = Writer::new(out);
-    writer.line(b"status=0\nratio=P/Q\n", &[ratio.p, ratio.q]);
+    write_ratio(ratio, &mut writer);
     Ok(writer.at)
 }
 

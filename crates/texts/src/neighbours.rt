@@ -5,37 +5,18 @@
 // the pair file's first, then 110 where an argument is no number, then 5 and 4 of the two modules. 64 bytes hold any text.
 ghost use Rattle.std.specs.Prelude.{◌≡◌, ◌+◌, ◌≤◌, length};
 ghost use Rattle.lists.specs.Listed.{listed};
-ghost use Rattle.lines.specs.Outcomes.{outcome_of};
 ghost use Rattle.lines.specs.Putting.{Puts, HasRoom, Writes};
 ghost use Rattle.pairs.specs.Located.{place_in};
 ghost use Rattle.texts.specs.Printed.{Prints, TextWritten};
-ghost use Rattle.texts.specs.Neighbours.{
-  argument_number,
-  module_due,
-  record_before,
-  record_line,
-  place_text,
-  NeighboursRead,
-};
+ghost use Rattle.texts.specs.Neighbours.{record_before, record_line, place_text, NeighboursRead};
 
+use crate::arguments::number_of_argument;
 use crate::text_or_refusal;
-use lines::{Reader, Writer};
+use lines::Writer;
 use lists::List;
 use pairfile::read_words;
 use pairs::{check_pair, lookup};
 use refusals::Refusal;
-
-// The module that an argument names by its number, spelled as in a pair file, with nothing behind it: 110.
-fn module_of(argument: &[u8]) -> Result<u32, Refusal>
-    ensures { module_due (argument_number argument.now) ≡ outcome_of (λ a. a) result }
-{
-    let mut reader = Reader { left: argument };
-    let number = reader.number(4).ok_or(Refusal::BadArgument)?;
-    if !reader.is_done() {
-        return Err(Refusal::BadArgument);
-    }
-    Ok(number)
-}
 
 // The line of a list's k-th record, counted from 1, if there is one. (k is a record's number, no length.)
 fn write_record(list: List, form: &[u8], k: usize, writer: &mut Writer)
@@ -73,8 +54,8 @@ fn write_placed(file: &[u8], first: &[u8], second: &[u8], out: &mut [u8]) -> Res
 {
     let mut words = [0; 12288];
     let head = read_words(file, 4096, &mut words)?;
-    let a = module_of(first)?;
-    let b = module_of(second)?;
+    let a = number_of_argument(first)?;
+    let b = number_of_argument(second)?;
     check_pair(0, head.n, a, b)?;
     let list = head.list(&words);
     let place = lookup(&words, list.m, a.min(b), a.max(b));

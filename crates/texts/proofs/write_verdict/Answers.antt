@@ -1,31 +1,24 @@
 -- `write_verdict` meets its contract: an accepted sheet, and one that is refused.
-use Rattle.std.proofs.Common.{◌∷◌, [], ◌∙◌, arith, rules}
-use Rattle.lines.specs.Text.{text}
-use Rattle.lines.specs.Lines.{filled}
+use Rattle.std.proofs.Common.{◌∙◌, arith, rules}
 use Rattle.lines.proofs.Found.{handed_on}
 use Rattle.lines.proofs.Parts.{left_lent}
-use Rattle.texts.specs.Texts.{accepted_form}
-use Rattle.texts.proofs.Lengths.{accepted_length}
+use Rattle.texts.proofs.Lengths.{ratio_length}
 use Rattle.texts.proofs.Files.{prints_lent, text_printed, text_refused}
 use Rattle.texts.proofs.Audits.{ratio_small, verdict_refused, verdict_accepted}
 use Rattle.texts.proofs.Whole.{audit_read}
 use Rattle.texts.proofs.write_verdict.Goals as goal
 
-pub line-requires : goal.line-requires
-unfolding accepted_form text
-line-requires c =
-    let few = accepted_length _ (ratio_small c.in_ok-ratio.ensures) in
-    let r = c.in_ok-ratio.ratio in
-    (left_lent {whole = filled accepted_form (r.p ∷ r.q ∷ [])} {start = c.new-writer.result} c.new-writer.ensures.unwritten c.new-writer.ensures.start
-    (omega (arith, few, c.requires))).room
+pub write_ratio-requires : goal.write_ratio-requires
+write_ratio-requires c =
+    let few = ratio_length _ _ (ratio_small c.in_ok-ratio.ensures) in
+    (left_lent {start = c.new-writer.result} c.new-writer.ensures.unwritten c.new-writer.ensures.start (omega (arith, few, c.requires))).room
 
 pub returns : goal.returns
-unfolding accepted_form text
 returns c =
-    let names = c.line.ensures.same_buffer ∙ c.new-writer.ensures.same_buffer in
-    let few = accepted_length _ (ratio_small c.in_ok-ratio.ensures) in
+    let names = c.write_ratio.ensures.same_buffer ∙ c.new-writer.ensures.same_buffer in
+    let few = ratio_length _ _ (ratio_small c.in_ok-ratio.ensures) in
     text_printed
-    (prints_lent c.new-writer.ensures.unwritten c.new-writer.ensures.start c.line.new.self c.line.ensures (search rules)
+    (prints_lent c.new-writer.ensures.unwritten c.new-writer.ensures.start c.write_ratio.new.writer c.write_ratio.ensures (search rules)
     (audit_read (verdict_accepted c.in_ok-ratio.ensures)) (omega (arith, few, c.requires)))
 
 pub returns-in_err-ratio : goal.returns-in_err-ratio

@@ -1,10 +1,10 @@
--- `neighbours::module_of` meets its contract: no number, one with bytes behind it, and one alone.
+-- `arguments::number_of_argument` meets its contract: no number, one with bytes behind it, and one alone.
 use Rattle.std.proofs.Common.{sym, ◌∙◌}
 use borrow.Author.Tests.{eqb-true, eqb-false}
 use Rattle.lines.specs.Outcomes.{outcome_of}
 use Rattle.lines.proofs.Found.{none_due}
-use Rattle.texts.proofs.Places.{argument_none, argument_more, argument_alone}
-use Rattle.texts.proofs.neighbours.module_of.Goals as goal
+use Rattle.texts.proofs.Spelled.{argument_none, argument_more, argument_alone}
+use Rattle.texts.proofs.arguments.number_of_argument.Goals as goal
 
 pub returns-in_err-number : goal.returns-in_err-number
 unfolding outcome_of
