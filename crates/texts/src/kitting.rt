@@ -27,7 +27,7 @@ fn write_kit(ratio: Ratio, members: &[u8], writer: &mut Writer)
 
 // The text of the kit of the list that a pair file names, of at least as many modules as an argument says; answers how long it is. Refuses by the file's
 // numbers, 110, 20, 21.
-fn write_packed(file: &[u8], argument: &[u8], out: &mut [u8]) -> Result<usize, Refusal>
+fn write_kitted(file: &[u8], argument: &[u8], out: &mut [u8]) -> Result<usize, Refusal>
     requires { 8192 ≤ length out.old }
     ensures { TextWritten (KitRead file.now argument.now) out.old out.new result }
 {
@@ -46,5 +46,5 @@ pub fn kit_text(file: &[u8], argument: &[u8], out: &mut [u8]) -> usize
     requires { 8192 ≤ length out.old }
     ensures { Prints (KitRead file.now argument.now) out.old out.new result }
 {
-    text_or_refusal(write_packed(file, argument, out), out)
+    text_or_refusal(write_kitted(file, argument, out), out)
 }

@@ -1,4 +1,4 @@
--- `kitting::write_packed` meets its contract: the file is refused, the argument, the list or the least size, or the kit is made.
+-- `kitting::write_kitted` meets its contract: the file is refused, the argument, the list or the least size, or the kit is made.
 use Rattle.std.proofs.Common.{◌∙◌, ◌≤◌, length, refl, take, sym, arith, rules}
 use lib.Seq.{length-take-le}
 use Rattle.theory.specs.Words.{laid_list}
@@ -8,9 +8,9 @@ use Rattle.lines.proofs.Found.{numbered, handed_on}
 use Rattle.lines.proofs.Parts.{left_lent}
 use Rattle.texts.specs.Kits.{kit_lines}
 use Rattle.texts.proofs.Files.{prints_lent, text_printed, text_refused}
-use Rattle.texts.proofs.Packed.{number_laid, lines_laid, length_lines, file_refused, argument_refused, size_refused, least_shown, kit_read}
-use Rattle.texts.proofs.kitting.write_packed.Goals as goal
-use Rattle.texts.proofs.kitting.write_packed.Goals.{After-new-writer}
+use Rattle.texts.proofs.Kits.{number_laid, lines_laid, length_lines, file_refused, argument_refused, size_refused, least_shown, kit_read}
+use Rattle.texts.proofs.kitting.write_kitted.Goals as goal
+use Rattle.texts.proofs.kitting.write_kitted.Goals.{After-new-writer}
 
 pub returns-in_err-head : goal.returns-in_err-head
 unfolding outcome_of
