@@ -65,7 +65,7 @@ enum {
     KANDURZO_STACK_SOLVE = 106496, /* the most: enough for every call */
     KANDURZO_STACK_CHECK = 16384,
     KANDURZO_STACK_SURPLUS = 59392,
-    KANDURZO_STACK_KIT = 57344
+    KANDURZO_STACK_KIT = 58368
 };
 
 /* A record: the pair's smaller module, its larger, and its stop count. */

@@ -29,7 +29,7 @@ pub mod stack {
     /// Of [`surplus`](super::surplus).
     pub const SURPLUS: usize = 59392;
     /// Of [`kit`](super::kit).
-    pub const KIT: usize = 57344;
+    pub const KIT: usize = 58368;
 }
 
 /// A record: the pair's smaller module, its larger, and its stop count. A list is in rising order by its modules, whatever the counts.

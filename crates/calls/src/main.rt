@@ -9,7 +9,7 @@
 #![tactic(auto)]
 
 mod checks;
-mod kits;
+mod kitting;
 mod peels;
 mod plain;
 mod print;
@@ -36,7 +36,7 @@ fn each_call(
     checks::damaged(rt, name, judged, damage)?;
     peels::damaged(rt, name, due, damage)?;
     solves::damaged(rt, name, due, damage)?;
-    kits::damaged(rt, name, due, damage)?;
+    kitting::damaged(rt, name, due, damage)?;
     surpluses::damaged(rt, name, due, damage)?;
     writes::damaged(rt, alloc, name, due, damage)
 }
@@ -108,7 +108,7 @@ fn main(rt: HostRuntime) -> io::Result<()> {
     let alloc = rt.alloc();
     peels::run(&rt)?;
     solves::run(&rt)?;
-    kits::run(&rt)?;
+    kitting::run(&rt)?;
     checks::run(&rt)?;
     surpluses::run(&rt)?;
     writes::run(&rt, alloc)?;

@@ -3,7 +3,7 @@ ghost use Rattle.std.specs.Prelude.{◌≡◌};
 ghost use Rattle.theory.specs.Words.{HoldsList};
 
 use crate::changes::Sheet;
-use crate::packs::Packed;
+use crate::kitting::Kit;
 use crate::peels::Peeled;
 use crate::plain::Plain;
 use crate::solves::Solved;
@@ -72,11 +72,11 @@ impl Held {
 
     // The kit of at least k modules, at least 1 and at most N where k is none of these; the bytes behind it are 9.
     #[tactic(auto, using(crate::proofs::Sizes::sizes))]
-    pub(crate) fn kit(&self, k: u32, alloc: Global) -> Result<Packed, AllocError> {
+    pub(crate) fn kit(&self, k: u32, alloc: Global) -> Result<Kit, AllocError> {
         let list = self.list();
         let mut members = vec![in alloc; 9; 514]?;
         let ratio = kits::kit(list, (k as usize).max(1).min(list.n), &mut members);
-        Ok(Packed { members, ratio })
+        Ok(Kit { members, ratio })
     }
 
     // Solve, on a copy of the words, which it uses up.

@@ -14,7 +14,7 @@
 // Then check and surplus (module `verdicts`): sheets of solve changed in one place each; every sheet of small lists, good and bad; the surplus of every
 // two sets of bytes of small lists, and of large groups around equal ratios. A line has how often check or surplus gave each answer.
 //
-// Then kits (module `packs`): the kit of every least size k, and the bytes behind it, beside the set that the plain leaving order gives; and of lists of up
+// Then kits (module `kitting`): the kit of every least size k, and the bytes behind it, beside the set that the plain leaving order gives; and of lists of up
 // to 12 modules every group beside every kit: the group is at most (2 * size + k) / size times as dense, and three times where it has k modules or more, or
 // else counts as a comparison that differs. A line has how many kits there were, and how many times as dense as its kit a group of k modules or more was at
 // most. Then kits with one thing altered, or the kit of another least size in their place.
@@ -29,7 +29,7 @@ mod draws;
 mod entries;
 mod held;
 mod kinds;
-mod packs;
+mod kitting;
 mod peels;
 mod plain;
 mod search;

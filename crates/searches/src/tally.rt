@@ -70,7 +70,7 @@ impl Tally {
     }
 
     // A kit, which is the one due or not.
-    pub(crate) fn packed(&mut self, same: bool) {
+    pub(crate) fn kit(&mut self, same: bool) {
         raise(&mut self.kits, 1);
         self.compared.note(same);
     }

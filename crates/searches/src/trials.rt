@@ -4,7 +4,7 @@ use crate::changes::Change;
 use crate::checks::{try_changes, try_sheets};
 use crate::draws::{Lists, Plan};
 use crate::held::Held;
-use crate::packs::try_kits;
+use crate::kitting::try_kits;
 use crate::plain::Plain;
 use crate::search::search;
 use crate::surpluses::{try_firsts, try_sets};

@@ -1,6 +1,7 @@
--- What the program `kit` prints (document 02, item 7): of the sets left over in the leaving order that have at least k modules the densest.
+-- What the program `kit` prints (document 02, item 7): of the sets left over in the leaving order that have at least k modules the densest, of
+-- equals the larger.
 --   kit_lines, kit_text            the lines of a ratio and member bytes; those of a group
---   list_kitted, kit_printed       the text of a list and k, or the refusal number; what `kit` prints
+--   least_kitted, kit_printed      the text of a list and k, or the refusal number; what `kit` prints
 --   KitRead                        what is right of whatever pair file was read
 --   KitAnswered                    number, P, Q and members are what the call kit answers; the theorem is `kit_answered`
 -- Assumes nothing: these are definitions.
@@ -29,8 +30,8 @@ unfoldable pub kit_text : Pairs → (s : List ℕ) → List ℕ
 kit_text g s = kit_lines (inside g s) (size s) s
 
 -- of a list and k: 20, 21, then the text of the kit of at least k modules
-unfoldable pub list_kitted : Pairs → (k : ℕ) → Outcome (List ℕ)
-list_kitted g k = do
+unfoldable pub least_kitted : Pairs → (k : ℕ) → Outcome (List ℕ)
+least_kitted g k = do
   judge (kit_causes g.n (length g.pairs) k)
   taken (kit_text g (kit g k))
 
@@ -39,7 +40,7 @@ unfoldable pub kit_printed : Outcome Pairs → (argument : List ℕ) → List �
 kit_printed file argument = printed (do
   g ← file
   k ← number_due (argument_number argument)
-  list_kitted g k)
+  least_kitted g k)
 
 -- WHATEVER PAIR FILE WAS READ, the text of `kit` is that of the whole file
 pub record KitRead (bytes argument text : List ℕ) : Type 0 where

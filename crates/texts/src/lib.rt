@@ -72,7 +72,7 @@ fn write_lines<F: Fn(usize) -> Option<[u32; 3]>>(
     }
 }
 
-// The first lines of a group that is answered by its ratio alone.
+// The first lines of a group that is answered by its ratio, without a core.
 #[tactic(auto, unfolding(crate::specs::Texts::ratio_lines, crate::specs::Texts::ratio_form, lines::specs::Text::text))]
 pub(crate) fn write_ratio(ratio: Ratio, writer: &mut Writer)
     requires { HasRoom (ratio_lines ratio.p ratio.q) writer.old }

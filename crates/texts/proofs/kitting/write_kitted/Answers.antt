@@ -8,7 +8,7 @@ use Rattle.lines.proofs.Found.{numbered, handed_on}
 use Rattle.lines.proofs.Parts.{left_lent}
 use Rattle.texts.specs.Kits.{kit_lines}
 use Rattle.texts.proofs.Files.{prints_lent, text_printed, text_refused}
-use Rattle.texts.proofs.Kitted.{number_laid, lines_laid, length_lines, file_refused, argument_refused, size_refused, kit_shown, kit_read}
+use Rattle.texts.proofs.Kits.{number_laid, lines_laid, length_lines, file_refused, argument_refused, size_refused, least_shown, kit_read}
 use Rattle.texts.proofs.kitting.write_kitted.Goals as goal
 use Rattle.texts.proofs.kitting.write_kitted.Goals.{After-new-writer}
 
@@ -61,7 +61,7 @@ returns c =
     let on = c.in_ok-ratio.ensures in
     let head = c.in_ok-head.head in
     let k = c.in_ok-k.k in
-    let shown = kit_shown c.args.argument.now c.in_ok-head.ensures.file.found c.in_ok-k.ensures (number_laid head k on) refl in
+    let shown = least_shown c.args.argument.now c.in_ok-head.ensures.file.found c.in_ok-k.ensures (number_laid head k on) refl in
     text_printed
     (prints_lent c.new-writer.ensures.unwritten c.new-writer.ensures.start c.write_kit.new.writer c.write_kit.ensures (search rules)
     (kit_read (lines_laid head k on refl ∙ shown)) (omega (arith, short (goal.at.returns c).After-new-writer, c.requires)))

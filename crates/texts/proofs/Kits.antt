@@ -1,7 +1,7 @@
 -- What is printed of a kit.
---   kitted_length, kitted_lines            how long its text is; its lines, by what is answered of it and its member bytes
---   number_laid, lines_laid, length_lines    the number given of a list in words, the kit's lines and their length
---   file_refused, argument_refused, size_refused, kit_shown    the text by what the file says, the argument and the least size
+--   kit_text_few, kit_lines_laid           how long its text is; its lines, by what is answered of it and its member bytes
+--   number_laid, lines_laid, length_lines  the number given of a list in words, the kit's lines and their length
+--   file_refused, argument_refused, size_refused, least_shown    the text by what the file says, the argument and the least size
 --   kit_read                               KitRead
 --   kit_answered                           the promise of specs/Kits.antt
 -- Assumes nothing.
@@ -38,15 +38,15 @@ use Rattle.kandurzo.proofs.Demands.{lent_list}
 use Rattle.kandurzo.proofs.Promises.{every_list_kitted, kit_turned_down}
 use Rattle.texts.specs.Texts.{refusal_text, printed}
 use Rattle.texts.specs.Arguments.{argument_number, number_due}
-use Rattle.texts.specs.Kits.{kit_lines, kit_text, list_kitted, kit_printed, KitRead, KitAnswered}
+use Rattle.texts.specs.Kits.{kit_lines, kit_text, least_kitted, kit_printed, KitRead, KitAnswered}
 use Rattle.texts.proofs.Lengths.{ratio_length, members_length}
 use Rattle.texts.proofs.Whole.{read_as}
 
 -- ---- a kit of at least k modules
 
-kitted_length : (g : Pairs) (k : ℕ) → is_list g ≡ true → kit_number g.n (length g.pairs) k ≡ 0 → length (kit_text g (kit g k)) ≤ 6175
+kit_text_few : (g : Pairs) (k : ℕ) → is_list g ≡ true → kit_number g.n (length g.pairs) k ≡ 0 → length (kit_text g (kit g k)) ≤ 6175
 unfolding kit_text kit_lines seven_digits all KitGroup
-kitted_length g k list z =
+kit_text_few g k list z =
     let s = kit g k in
     let n_few = (listed g list).few in
     let range = in_range g.n (length g.pairs) k z in
@@ -56,10 +56,10 @@ kitted_length g k list z =
     (omega (arith, ratio_length (inside g s) (size s) digits, members_length 0 s (omega (arith, kit_length g k, n_few)), kit_length g k, n_few))
 
 -- its bytes are read back from the front
-kitted_lines : (g : Pairs) (k : ℕ) {members members' : List ℕ} {v : Verdict} → KitSays g k members v members' → v.number ≡ 0 →
+kit_lines_laid : (g : Pairs) (k : ℕ) {members members' : List ℕ} {v : Verdict} → KitSays g k members v members' → v.number ≡ 0 →
     kit_lines v.p v.q (take g.n members') ≡ kit_text g (kit g k)
 unfolding kit_text in_front
-kitted_lines g k {members} says z =
+kit_lines_laid g k {members} says z =
     rw (
       says.p ∙ if_taken_new _ _ 0 z,
       says.q ∙ if_taken_new _ _ 0 z,
@@ -81,10 +81,10 @@ module _ (h : Head) (k : ℕ) {members work members' work' : List ℕ} {v : Verd
   module _ (z : v.number ≡ 0) where
     pub lines_laid : kit_lines v.p v.q (take h.n members') ≡ kit_text g (kit g k)
     unfolding laid_list
-    lines_laid = kitted_lines g k on.says z
+    lines_laid = kit_lines_laid g k on.says z
 
     pub length_lines : is_list g ≡ true → length (kit_lines v.p v.q (take h.n members')) ≤ 6175
-    length_lines list = rw lines_laid (kitted_length g k list (sym number_laid ∙ z))
+    length_lines list = rw lines_laid (kit_text_few g k list (sym number_laid ∙ z))
 
 -- ---- what is printed
 
@@ -101,20 +101,20 @@ module _ (argument : List ℕ) {file : Outcome Pairs} where
     argument_refused f = rw (e, f) refl
 
     module _ {k : ℕ} (f : number_due (argument_number argument) ≡ taken k) where
-      kitted : printed (list_kitted g k) ≡ kit_printed file argument
+      kitted : printed (least_kitted g k) ≡ kit_printed file argument
       unfolding kit_printed ◌>>=◌
       kitted = rw (e, f) refl
 
       module _ {number : ℕ} (h : number ≡ kit_number g.n (length g.pairs) k) where
         -- 20, 21
         pub size_refused : (number ≡ 0 → ⊥) → refusal_text number ≡ kit_printed file argument
-        unfolding list_kitted kit_number printed ◌>>◌
+        unfolding least_kitted kit_number printed ◌>>◌
         size_refused some = rw (judge_refused (kit_causes g.n (length g.pairs) k) (λ z. some (h ∙ z)), ← h) at kitted
 
         -- the kit
-        pub kit_shown : number ≡ 0 → kit_text g (kit g k) ≡ kit_printed file argument
-        unfolding list_kitted kit_number printed ◌>>◌
-        kit_shown z = rw (judge_passed (kit_causes g.n (length g.pairs) k) (sym h ∙ z)) at kitted
+        pub least_shown : number ≡ 0 → kit_text g (kit g k) ≡ kit_printed file argument
+        unfolding least_kitted kit_number printed ◌>>◌
+        least_shown z = rw (judge_passed (kit_causes g.n (length g.pairs) k) (sym h ∙ z)) at kitted
 
 pub kit_read : {bytes argument text : List ℕ} → text ≡ kit_printed (read_file 4096 bytes) argument → KitRead bytes argument text
 kit_read {argument = argument} is = record { due = λ file e. is ∙ ap (λ (o : Outcome Pairs). kit_printed o argument) (read_as e) }
@@ -134,5 +134,5 @@ kit_answered file argument g k h ps members work v members' work' e f lent a w c
     let range = good_least g.n (length g.pairs) k good in
     (every_list_kitted g h ps k members work v members' work' lent l range.0 range.1 a w call).number ∙ sym i) in (
       λ n. sym (size_refused argument e named number n),
-      λ z. sym (kit_shown argument e named number z) ∙ sym (kitted_lines g k (rw (lent_list lent) at call.says) z),
+      λ z. sym (least_shown argument e named number z) ∙ sym (kit_lines_laid g k (rw (lent_list lent) at call.says) z),
     )

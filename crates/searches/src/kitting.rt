@@ -13,12 +13,12 @@ use std::alloc::{AllocError, Global};
 
 // A kit's member bytes, behind them those that were there before, 9, in all 514; and its P and Q.
 #[derive(PartialEq, Eq, Drop)]
-pub(crate) struct Packed {
+pub(crate) struct Kit {
     pub(crate) members: Vec<u8>,
     pub(crate) ratio: Ratio,
 }
 
-impl Packed {
+impl Kit {
     // One thing altered, of a list of n modules.
     fn alter(&mut self, thing: AlteredKit, n: u32) {
         match thing {
@@ -41,28 +41,28 @@ fn least_asked(thing: Option<AlteredKit>, k: u32, n: u32) -> u32 {
 }
 
 // The product's kit of at least k modules, with one thing altered.
-fn pack(
+fn made(
     thing: Option<AlteredKit>,
     k: u32,
     tried: &Tried,
     alloc: Global,
-) -> Result<Packed, AllocError> {
+) -> Result<Kit, AllocError> {
     let n = tried.plain.n;
-    let mut packed = tried.held.kit(least_asked(thing, k, n), alloc)?;
+    let mut kit = tried.held.kit(least_asked(thing, k, n), alloc)?;
     if let Some(thing) = thing {
-        packed.alter(thing, n);
+        kit.alter(thing, n);
     }
-    Ok(packed)
+    Ok(kit)
 }
 
 impl Plain {
     // A set left over, as a kit.
-    fn packed(&self, rest: Remainder, place: &[u32], alloc: Global) -> Result<Packed, AllocError> {
+    fn kit(&self, rest: Remainder, place: &[u32], alloc: Global) -> Result<Kit, AllocError> {
         let mut members = vec![in alloc; 9; 514]?;
         for v in 0..self.n {
             put(&mut members, v, u8::from(rest.at <= at(place, v)));
         }
-        Ok(Packed {
+        Ok(Kit {
             members,
             ratio: rest.ratio,
         })
@@ -111,10 +111,10 @@ pub(crate) fn try_kits(
     let mut kits = Vec::new(alloc);
     for i in 0..plain.n {
         best = denser(best, plain.remainder(i, &peeled.place));
-        let packed = pack(thing, plain.n.saturating_sub(i), tried, alloc)?;
-        let due = plain.packed(best, &peeled.place, alloc)?;
-        tally.packed(packed == due);
-        kits.push(packed.ratio)?;
+        let kit = made(thing, plain.n.saturating_sub(i), tried, alloc)?;
+        let due = plain.kit(best, &peeled.place, alloc)?;
+        tally.kit(kit == due);
+        kits.push(kit.ratio)?;
     }
     weigh_groups(plain, &kits, tally);
     Ok(())
