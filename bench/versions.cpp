@@ -90,7 +90,7 @@ static void check(const Library &library, const Listed &list) {
     agree(v.number == 0 && v.p == list.solved.p && v.q == list.solved.q, list);
 }
 
-// At least half of the modules, rounded up.
+// A kit of at least half of the modules, rounded up.
 static kandurzo_verdict_t packed(const Library &library, const Listed &list) {
     uint32_t n = list.head.n;
     return library.kit(list.head, list.list.data(), list.head.m, (n + 1) / 2, lent.members, n, lent.work, KANDURZO_WORK);

@@ -30,7 +30,7 @@
  *   17  in a DIMACS file, the count of `e` lines is not M
  *   18  W outside 1 to 1,000
  *   19  the raised count passes 1,000
- *   20  the list holds no pair, and so it has no group: no stops, no group
+ *   20  the list holds no pair, and so it has no group and no kit: no stops, no group
  *   21  k outside 1 to N
  */
 #ifndef KANDURZO_H
@@ -179,12 +179,12 @@ kandurzo_verdict_t kandurzo_check(kandurzo_head_t head, const kandurzo_pair_t *l
 kandurzo_difference_t kandurzo_surplus(kandurzo_head_t head, const kandurzo_pair_t *list, size_t length, const uint8_t *first, size_t first_length,
                                        const uint8_t *second, size_t second_length);
 
-/* Kit: a group with at least k modules. A planner wants it in the place of solve's group where suppliers pack kits from a least size k: that group, which none
- * is denser than, may have fewer modules. The sets left over in the leaving order are those present when 0, 1, 2 and so on modules have left; of those with at
- * least k modules the kit is the one of greatest ratio, of equals the larger. Three times its ratio is no less than the ratio of any group with at least k
- * modules; for a group of s modules, be s below k or not, (2s + k)/s times is enough. Writes the kit's member bytes (1 in, 0 out) and answers P and Q, its
- * inside count and its number of modules. Wants N entries of members, 16,384 words of work. Refuses by 13, 12, 20, 21. The work buffer is untouched after 12
- * or 13 and holds 16,384 zero words after any other return. */
+/* Kit: a group with at least k modules. A planner wants it in the place of solve's group where suppliers pack kits from a least size k: that group, than
+ * which none is denser, may have fewer modules; where it has k or more, it is the one to take. The sets left over in the leaving order are those present when
+ * 0, 1, 2 and so on modules have left; of those with at least k modules the kit is the one of greatest ratio, of equals the larger. Three times its ratio is
+ * no less than the ratio of any group with at least k modules; for a group of s modules, be s below k or not, (2s + k)/s times is enough. Writes the kit's
+ * member bytes (1 in, 0 out) and answers P and Q, its inside count and its number of modules. Wants N entries of members, 16,384 words of work. Refuses by
+ * 13, 12, 20, 21. The work buffer is untouched after 12 or 13 and holds 16,384 zero words after any other return. */
 kandurzo_verdict_t kandurzo_kit(kandurzo_head_t head, const kandurzo_pair_t *list, size_t length, uint32_t k, uint8_t *members, size_t members_length,
                                 uint32_t *work, size_t work_length);
 

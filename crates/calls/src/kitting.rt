@@ -1,9 +1,9 @@
 // kit: the list *tail* of document 01. Left over in its leaving order are all five modules with 7 stops, 0 to 3 with 6, 1 to 3 with 3, 2 and 3 with 1, and 3:
-// the kit of at least 1 to 4 modules is 0 to 3, that of at least 5 all. Where 3,4 counts ten times, left over are all five with 16, 1 to 4 with 13, 2 to 4 with
-// 11, 3 and 4 with 10, and 4: as few as may be, but no single one. Of two triangles all six modules are as dense as the second triangle, and more; of one of
-// them 3, 4 and 5 leave first. Of 512 modules: a clique, which all others leave first, in order; a circle, whose densest group has all modules; and pairs by
-// chance. Where a kit is made, `differ` says how much of the answer is not as due: P and Q as a second computation counts them, and Q no less than the least
-// size.
+// the kit of at least 1 to 4 modules is 0 to 3, that of at least 5 all. Where 3,4 counts ten times, left over are all five with 16, 1 to 4 with 13, 2 to 4
+// with 11, 3 and 4 with 10, and 4: the kit has k modules, and two where k is 1. Of two triangles all six modules are as dense as the second triangle, and
+// more; of one of them 3, 4 and 5 leave first. Of 512 modules: a clique, before which all others leave, in order; a circle, whose densest group has all
+// modules; and pairs by chance. Where a kit is made, `differ` says how much of the answer is not as due: P and Q as a second computation counts them, and Q no
+// less than the least size.
 use crate::plain::{counted, unlike};
 use crate::samples::{Counts, Damage, Kind, Lent, NONE, raise_first};
 use crate::{print, samples};

@@ -11,7 +11,7 @@
 //   neighbours FILE A B             the pair of the arguments A and B, which may be empty, is looked up in the pair file's list
 //   groups   FILE                   `group` prints the group of the pair file's list
 //   sheets   FILE                   and `sheet` its sheet
-//   kits     FILE K                 and `kit` the kit of at least K modules, an argument that may be empty
+//   kits     FILE LEAST             and `kit` the kit of at least LEAST modules, an argument that may be empty
 //   verdicts FILE SHEET             `audit` prints what it answers of the sheet beside the pair file
 //
 // and for DIMACS files, in the folder `dimacs`:

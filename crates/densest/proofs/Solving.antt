@@ -22,9 +22,10 @@ use Rattle.theory.proofs.Tables.{length_table, table_at}
 use Rattle.theory.proofs.Lists.{listed}
 use Rattle.theory.proofs.Leaving.{leaving_steps}
 use Rattle.theory.proofs.Cores.{length_core}
+use Rattle.theory.proofs.Words.{length_laid}
+use Rattle.theory.proofs.Remainders.{remainder_group}
 use Rattle.lists.specs.declared.list.List as L
 use Rattle.lists.specs.Listed.{listed as in_list}
-use Rattle.theory.proofs.Words.{length_laid}
 use Rattle.slots.specs.Slots.{mate, Room}
 use Rattle.slots.proofs.Held.{zero_at}
 use Rattle.slots.proofs.Words.{good_pair}
@@ -32,7 +33,6 @@ use Rattle.peel.specs.Peel.{Peelable, Peels}
 use Rattle.peel.specs.Places.{index_of, places}
 use Rattle.peel.specs.Promise.{PeelPromised}
 use Rattle.peel.specs.declared.Remainder.{Remainder}
-use Rattle.theory.proofs.Remainders.{remainder_group}
 use Rattle.peel.proofs.Promises.{peel_promised}
 use Rattle.rounds.specs.Known.{Candidate, Cored}
 use Rattle.rounds.specs.Search.{Round, GroupFound}

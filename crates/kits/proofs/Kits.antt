@@ -1,6 +1,5 @@
 -- From the places to the kit.
---   peelable    buffers of 512 entries are long enough for peel
---   kitted      the modules whose place is not below the number of those that have left are the kit
+--   kitted    the modules whose place is not below the number of those that have left are the kit
 -- Assumes nothing.
 use mathlib.Core.Path.{◌≡◌, sym, ap, ◌∙◌}
 use mathlib.Core.Bool.{true}

@@ -1,4 +1,4 @@
--- The refusals that come first in peel, solve, check, surplus and write_dimacs: 13, then 12.
+-- The refusals that come first in peel, solve, check, kit, surplus and write_dimacs: 13, then 12.
 --   gate_number    13: head and list disagree; 12: a lent buffer is shorter than stated
 -- Assumes nothing: this is a definition.
 use Rattle.std.specs.Prelude.{Bool, not, [], ◌∷◌, ℕ}

@@ -11,6 +11,7 @@ use native.Mathlib.Numerals.{add-one}
 use lib.ListN.{length, get_or, set}
 use Rattle.theory.specs.Leaving.{leaving, left_behind, remainder, leaving_degree}
 use Rattle.theory.specs.Words.{list_in}
+use Rattle.theory.proofs.Remainders.{leaver_at, leaver_in}
 use Rattle.lists.specs.declared.list.List.{List as HeldList}
 use Rattle.lists.specs.Listed.{listed}
 use Rattle.slots.specs.Buffers.{entry}
@@ -19,7 +20,6 @@ use Rattle.ranking.specs.declared.Leaver.{Leaver}
 use Rattle.ranking.specs.Ranking.{SomePresent}
 use Rattle.peel.specs.Steps.{RankingOf, SomeRanked, LeaversWritten}
 use Rattle.peel.specs.Turns.{Turned}
-use Rattle.theory.proofs.Remainders.{leaver_at, leaver_in}
 use Rattle.peel.proofs.Leavers.{leaver_below}
 
 -- i modules have left

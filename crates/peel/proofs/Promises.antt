@@ -18,10 +18,10 @@ use Rattle.theory.specs.Promise.{CoreExact, OutsideFirst}
 use Rattle.theory.proofs.Tests.{no}
 use Rattle.theory.proofs.Tables.{length_table, table_at}
 use Rattle.theory.proofs.Promises.{core_exact, outside_first}
-use Rattle.peel.specs.Places.{index_of, places}
-use Rattle.peel.specs.Promise.{PeelPromised, PlaceBefore}
 use Rattle.theory.proofs.Remainders.{remainder_size, densest_le}
 use Rattle.theory.proofs.Kits.{kit_exact}
+use Rattle.peel.specs.Places.{index_of, places}
+use Rattle.peel.specs.Promise.{PeelPromised, PlaceBefore}
 use Rattle.peel.proofs.Leavers.{remainder_by_place}
 
 -- ---- places

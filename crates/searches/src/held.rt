@@ -70,7 +70,7 @@ impl Held {
         })
     }
 
-    // The kit of at least k modules, at least 1 and at most N where k is none of these; the bytes behind it are 9.
+    // The kit of at least k modules, k being raised to 1 or lowered to N where it is outside; the bytes behind it are 9.
     #[tactic(auto, using(crate::proofs::Sizes::sizes))]
     pub(crate) fn kit(&self, k: u32, alloc: Global) -> Result<Kit, AllocError> {
         let list = self.list();

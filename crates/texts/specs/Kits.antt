@@ -1,5 +1,4 @@
--- What the program `kit` prints (document 02, item 7): of the sets left over in the leaving order that have at least k modules the densest, of
--- equals the larger.
+-- What the program `kit` prints (document 02, item 7).
 --   kit_lines, kit_text            the lines of a ratio and member bytes; those of a group
 --   least_kitted, kit_printed      the text of a list and k, or the refusal number; what `kit` prints
 --   KitRead                        what is right of whatever pair file was read

@@ -1,5 +1,5 @@
 -- The kit: what it is, and that three times its ratio reaches every group with at least k modules.
---   inside_sub                what lies in a set holds no more pairs
+--   inside_sub                a set within another has no more stops inside
 --   degrees_twice             the degrees of a set's members add up to twice its inside count (the handshake lemma)
 --   leaver_half               so the leaver carries at most twice the ratio of the modules present
 --   falls_light               down to k modules, no leaver carries more than twice the kit's ratio
@@ -39,8 +39,8 @@ use Rattle.theory.proofs.Pairless.{pairless, paired, pairless_then, paired_then,
 
 -- ---- degrees and inside counts
 
--- what lies in a set holds no more pairs
-pub inside_sub : (ps : List Pair) (s t : List ℕ) → Sub s t → inside_of ps s ≤ inside_of ps t
+-- a set within another has no more stops inside
+inside_sub : (ps : List Pair) (s t : List ℕ) → Sub s t → inside_of ps s ≤ inside_of ps t
 unfolding inside_of holds_pair
 inside_sub [] s t h = omega arith
 inside_sub (p ∷ ps) s t h =
@@ -88,7 +88,7 @@ over_joins s p b h =
     )
 
 -- the degrees of a set's members add up to twice its inside count (the handshake lemma)
-pub degrees_twice : (n : ℕ) (ps : List Pair) (s : List ℕ) → bytes_good s ≡ true → Proper n ps → over s (degree_of ps s) ≡ 2 * inside_of ps s
+degrees_twice : (n : ℕ) (ps : List Pair) (s : List ℕ) → bytes_good s ≡ true → Proper n ps → over s (degree_of ps s) ≡ 2 * inside_of ps s
 unfolding degree_of inside_of
 degrees_twice n [] s b pr = over_zero s
 degrees_twice n (p ∷ ps) s b pr =
@@ -109,7 +109,7 @@ over_least (suc zero ∷ xs) f c b h =
 over_least (suc (suc x) ∷ xs) f c b h = absurd (omega (arith, (simp tests at b).0))
 
 -- the leaver carries at most twice the ratio of the modules present
-pub leaver_half : (g : Pairs) (s : List ℕ) (v : ℕ) → is_list g ≡ true → Bits g.n s → leaver g s ≡ some v →
+leaver_half : (g : Pairs) (s : List ℕ) (v : ℕ) → is_list g ≡ true → Bits g.n s → leaver g s ≡ some v →
     size s * degree g s v ≤ 2 * inside g s
 unfolding LeaverFewest inside degree
 leaver_half g s v l b f =
@@ -185,7 +185,7 @@ module _ (g : Pairs) (k : ℕ) (pos : 1 ≤ k) (few : k ≤ g.n) where
 
   module _ (h : is_list g ≡ true) where
     -- down to k modules no leaver carries more than twice the kit's ratio
-    pub falls_light : (i : ℕ) → i + k ≤ g.n → size (kit g k) * leaving_degree g i ≤ 2 * inside g (kit g k)
+    falls_light : (i : ℕ) → i + k ≤ g.n → size (kit g k) * leaving_degree g i ≤ 2 * inside g (kit g k)
     unfolding leaving_degree
     falls_light i l =
         let r : List ℕ = remainder g i in
@@ -224,7 +224,7 @@ module _ (g : Pairs) (k : ℕ) (pos : 1 ≤ k) (few : k ≤ g.n) where
           ap (λ (z : ℕ). inside g (kit g k) * z) last,
         )
 
-  pub enough : k ≤ size (kit g k)
+  enough : k ≤ size (kit g k)
   enough = omega (arith, kit_size, kit_at)
 
   -- ---- the item's words

@@ -1,5 +1,5 @@
--- Document 02, item 7: a kit is never made for fewer than k modules. Of the sets left over in the leaving order, the full set included, those with at
--- least k modules, and of these the one of greatest ratio; of equals, the larger. (Greedy peeling for the densest at-least-k-subgraph problem; source document
+-- Document 02, item 7: a kit is never made for fewer than k modules. Of the sets left over in the leaving order, the full set included, with at least k
+-- modules, it is the one of greatest ratio; of equals, the larger. (Greedy peeling for the densest at-least-k-subgraph problem; source document
 -- 001, FindLargeDenseSubgraph. A set left over is a remainder: who is left when the first of the leaving order have left.)
 --   denser_of                   of two sets left over the one of higher ratio, of equals the larger
 --   densest_upto                the densest of the first

@@ -1,5 +1,5 @@
--- Document 02, item 6: a list without pairs has no group, and solve and check turn it down. What document 01 defines of groups and splits stays defined of
--- such a list too: all ratios and loads are 0 there.
+-- Document 02, item 6: a list without pairs has no group, and solve and check turn it down, and so does kit (item 7). What document 01 defines of groups and
+-- splits stays defined of such a list too: all ratios and loads are 0 there.
 --   no_pair                     of a list's M: it holds no pair
 --   group_causes, group_number  why a list is turned down: 20; the number given, 0 where the list has a pair
 --   judged_causes, judged_number    the causes in check's order, after 13 and 12: 20, 7, 8, 9; the number given
