@@ -102,9 +102,29 @@ fn tails(rt: &impl Print) -> io::Result<()> {
     tried(rt, "a count altered behind it", 0, tail, raised)
 }
 
-// The list *tail*, its head with N, the least size, and so much of members and work.
+// A line for each row: its name, the number due, N, the least size, and so much of members and work; the list of N modules is made by `list`.
+fn each_row<F: Fn(u32) -> Lent>(
+    rt: &impl Print,
+    rows: &[(&str, u32, u32, u32, usize, usize)],
+    list: F,
+) -> io::Result<()>
+    requires { F.IsAlwaysCallable list }
+{
+    for &(name, due, n, k, members, work) in rows {
+        let asked = Asked {
+            k,
+            members,
+            work,
+            ..NAMED
+        };
+        tried(rt, name, due, list(n), asked)?;
+    }
+    Ok(())
+}
+
+// The list *tail*, its head with N.
 fn buffers(rt: &impl Print) -> io::Result<()> {
-    let all = [
+    let rows = [
         ("longer buffers", 0, 5, 3, 7, 16390),
         ("short members", 12, 5, 3, 4, 16384),
         ("short members", 12, 5, 0, 4, 16384),
@@ -112,21 +132,12 @@ fn buffers(rt: &impl Print) -> io::Result<()> {
         ("short work", 12, 5, 6, 5, 16383),
         ("no modules, and short members", 13, 0, 3, 4, 16384),
     ];
-    for (name, due, n, k, members, work) in all {
-        let asked = Asked {
-            k,
-            members,
-            work,
-            ..NAMED
-        };
-        tried(rt, name, due, samples::tail(Damage { n, ..NONE }), asked)?;
-    }
-    Ok(())
+    each_row(rt, &rows, |n| samples::tail(Damage { n, ..NONE }))
 }
 
-// Lists of so many modules without pairs: the least size, and so much of members and work.
+// Lists of N modules without pairs.
 fn pairless(rt: &impl Print) -> io::Result<()> {
-    let all = [
+    let rows = [
         ("no pairs, one module", 20, 1, 1, 1, 16384),
         ("no pairs", 20, 5, 1, 5, 16384),
         ("no pairs", 20, 5, 0, 5, 16384),
@@ -136,16 +147,7 @@ fn pairless(rt: &impl Print) -> io::Result<()> {
         ("no pairs, and short work", 12, 5, 1, 5, 16383),
         ("no pairs and no modules", 13, 0, 1, 5, 16384),
     ];
-    for (name, due, n, k, members, work) in all {
-        let asked = Asked {
-            k,
-            members,
-            work,
-            ..NAMED
-        };
-        tried(rt, name, due, samples::triangles(n, 0), asked)?;
-    }
-    Ok(())
+    each_row(rt, &rows, |n| samples::triangles(n, 0))
 }
 
 // Two triangles, and one of them.
