@@ -4,6 +4,7 @@
 #![tactic(auto)]
 
 use std::io;
+use texts::Input;
 
 fn main(rt: HostRuntime) -> io::Result<()> {
     let mut file = [0u8; 65536];
@@ -11,6 +12,6 @@ fn main(rt: HostRuntime) -> io::Result<()> {
     let mut out = [0u8; 64];
     let n = texts::read_argument::<65536>(&rt, 1, &mut file);
     let k = texts::read_argument::<140000>(&rt, 2, &mut sheet);
-    let r = texts::audit_text(&file[..n], &sheet[..k], &mut out);
+    let r = texts::audit_text(Input::front(&file, n), Input::front(&sheet, k), &mut out);
     rt.write_all(&out[..r])
 }

@@ -3,7 +3,7 @@
 // Of what is printed, each LF becomes `;`.
 use crate::words::Words;
 use std::io;
-use texts::{audit_text, group_text, kit_text, neighbours_text, sheet_text};
+use texts::{Input, audit_text, group_text, kit_text, neighbours_text, sheet_text};
 
 // The bytes that are printed.
 fn shown(rt: &HostRuntime, printed: &[u8]) -> io::Result<String> {
@@ -17,7 +17,7 @@ fn shown(rt: &HostRuntime, printed: &[u8]) -> io::Result<String> {
 pub(crate) fn try_group(rt: &HostRuntime, words: &mut Words) -> io::Result<String> {
     let mut out = [0u8; 8192];
     let file = words.file(rt)?;
-    let r = group_text(file.as_slice(), &mut out);
+    let r = group_text(Input::whole(file.as_slice()), &mut out);
     shown(rt, &out[..r])
 }
 
@@ -25,7 +25,7 @@ pub(crate) fn try_group(rt: &HostRuntime, words: &mut Words) -> io::Result<Strin
 pub(crate) fn try_sheet(rt: &HostRuntime, words: &mut Words) -> io::Result<String> {
     let mut out = [0u8; 140000];
     let file = words.file(rt)?;
-    let r = sheet_text(file.as_slice(), &mut out);
+    let r = sheet_text(Input::whole(file.as_slice()), &mut out);
     shown(rt, &out[..r])
 }
 
@@ -34,7 +34,7 @@ pub(crate) fn try_kit(rt: &HostRuntime, words: &mut Words) -> io::Result<String>
     let mut out = [0u8; 8192];
     let file = words.file(rt)?;
     let least = words.word()?.as_bytes();
-    let r = kit_text(file.as_slice(), least, &mut out);
+    let r = kit_text(Input::whole(file.as_slice()), least, &mut out);
     shown(rt, &out[..r])
 }
 
@@ -42,7 +42,11 @@ pub(crate) fn try_kit(rt: &HostRuntime, words: &mut Words) -> io::Result<String>
 pub(crate) fn try_verdict(rt: &HostRuntime, words: &mut Words) -> io::Result<String> {
     let mut out = [0u8; 64];
     let (file, sheet) = (words.file(rt)?, words.file(rt)?);
-    let r = audit_text(file.as_slice(), sheet.as_slice(), &mut out);
+    let r = audit_text(
+        Input::whole(file.as_slice()),
+        Input::whole(sheet.as_slice()),
+        &mut out,
+    );
     shown(rt, &out[..r])
 }
 
@@ -51,6 +55,6 @@ pub(crate) fn try_asked(rt: &HostRuntime, words: &mut Words) -> io::Result<Strin
     let mut out = [0u8; 64];
     let file = words.file(rt)?;
     let (first, second) = (words.word()?.as_bytes(), words.word()?.as_bytes());
-    let r = neighbours_text(file.as_slice(), first, second, &mut out);
+    let r = neighbours_text(Input::whole(file.as_slice()), first, second, &mut out);
     shown(rt, &out[..r])
 }

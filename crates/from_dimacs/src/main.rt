@@ -7,6 +7,7 @@
 ghost use Rattle.std.specs.Prelude.{◌≤◌, length};
 
 use std::io;
+use texts::Input;
 
 // Standard input read into one buffer, and the text of it printed from the other. (Apart from `main`, where the length of an array of 1,048,577 bytes is
 // known by a law alone: computed, it takes more stack than the check has.)
@@ -15,7 +16,7 @@ fn run(rt: &HostRuntime, file: &mut [u8], out: &mut [u8]) -> io::Result<()>
     requires output_room { 65536 ≤ length out.old }
 {
     let n = texts::read_full::<1048577, _>(&mut rt.stdin(), file)?;
-    let r = texts::from_dimacs_text(&file[..n], out);
+    let r = texts::from_dimacs_text(Input::front(file, n), out);
     rt.write_all(&out[..r])
 }
 

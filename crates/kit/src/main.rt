@@ -7,6 +7,7 @@
 
 use std::env::Env;
 use std::io;
+use texts::Input;
 
 fn main(rt: HostRuntime) -> io::Result<()> {
     let mut argument = [0u8; 4096];
@@ -14,6 +15,6 @@ fn main(rt: HostRuntime) -> io::Result<()> {
     let mut out = [0u8; 8192];
     let k = rt.arg(1, &mut argument).unwrap_or(0);
     let n = texts::read_full::<65536, _>(&mut rt.stdin(), &mut file)?;
-    let r = texts::kit_text(&file[..n], &argument[..k], &mut out);
+    let r = texts::kit_text(Input::front(&file, n), &argument[..k], &mut out);
     rt.write_all(&out[..r])
 }

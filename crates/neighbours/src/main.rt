@@ -7,6 +7,7 @@
 
 use std::env::Env;
 use std::io;
+use texts::Input;
 
 fn main(rt: HostRuntime) -> io::Result<()> {
     let mut first = [0u8; 4096];
@@ -16,6 +17,6 @@ fn main(rt: HostRuntime) -> io::Result<()> {
     let a = rt.arg(2, &mut first).unwrap_or(0);
     let b = rt.arg(3, &mut second).unwrap_or(0);
     let n = texts::read_argument::<65536>(&rt, 1, &mut file);
-    let r = texts::neighbours_text(&file[..n], &first[..a], &second[..b], &mut out);
+    let r = texts::neighbours_text(Input::front(&file, n), &first[..a], &second[..b], &mut out);
     rt.write_all(&out[..r])
 }

@@ -11,7 +11,7 @@ ghost use Rattle.dimacs.specs.Edges.{dimacs_of};
 ghost use Rattle.texts.specs.Printed.{Prints, TextWritten};
 ghost use Rattle.texts.specs.Converted.{pair_file, converted, FromDimacsRead, ToDimacsRead};
 
-use crate::text_or_refusal;
+use crate::{Input, text_or_refusal};
 use lists::List;
 use on_words::reading::{EdgeFile, Format, PairFile};
 use refusals::Refusal;
@@ -56,10 +56,11 @@ fn convert<F: Format, G: FileWriter>(file: &[u8], out: &mut [u8]) -> Result<usiz
 }
 
 // The text of `from_dimacs`, of what was read of a DIMACS file; answers how long it is.
-pub fn from_dimacs_text(file: &[u8], out: &mut [u8]) -> usize
+pub fn from_dimacs_text(file: Input<1048577>, out: &mut [u8]) -> usize
     requires { 65536 ≤ length out.old }
-    ensures { Prints (FromDimacsRead file.now) out.old out.new result }
+    ensures { Prints (FromDimacsRead file.entry) out.old out.new result }
 {
+    let file = file.bytes();
     let written = if file.len() > 1048576 {
         Err(Refusal::FileTooLong)
     } else {
@@ -69,9 +70,10 @@ pub fn from_dimacs_text(file: &[u8], out: &mut [u8]) -> usize
 }
 
 // The text of `to_dimacs`, of what was read of a pair file; answers how long it is.
-pub fn to_dimacs_text(file: &[u8], out: &mut [u8]) -> usize
+pub fn to_dimacs_text(file: Input<65536>, out: &mut [u8]) -> usize
     requires { 65536 ≤ length out.old }
-    ensures { Prints (ToDimacsRead file.now) out.old out.new result }
+    ensures { Prints (ToDimacsRead file.entry) out.old out.new result }
 {
+    let file = file.bytes();
     text_or_refusal(convert::<PairFile, EdgeFile>(file, out), out)
 }

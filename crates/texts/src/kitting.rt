@@ -8,7 +8,7 @@ ghost use Rattle.texts.specs.Printed.{Prints, TextWritten};
 ghost use Rattle.texts.specs.Kits.{kit_lines, KitRead};
 
 use crate::arguments::number_of_argument;
-use crate::{text_or_refusal, write_members, write_ratio};
+use crate::{Input, text_or_refusal, write_members, write_ratio};
 use lines::Writer;
 use numbers::Ratio;
 use on_words::kitting::kit_on_words;
@@ -42,9 +42,9 @@ fn write_kitted(file: &[u8], argument: &[u8], out: &mut [u8]) -> Result<usize, R
 }
 
 // The text of `kit`, of what was read of a pair file and of an argument; answers how long it is.
-pub fn kit_text(file: &[u8], argument: &[u8], out: &mut [u8]) -> usize
+pub fn kit_text(file: Input<65536>, argument: &[u8], out: &mut [u8]) -> usize
     requires { 8192 ≤ length out.old }
-    ensures { Prints (KitRead file.now argument.now) out.old out.new result }
+    ensures { Prints (KitRead file.entry argument.now) out.old out.new result }
 {
-    text_or_refusal(write_kitted(file, argument, out), out)
+    text_or_refusal(write_kitted(file.bytes(), argument, out), out)
 }

@@ -4,9 +4,9 @@
 //
 // A program reads its input, calls one of the public functions, and writes the first bytes of the buffer out, as many as the function answers.
 // A text is written once, from front to back, line by line, at the cost of its bytes. 8,192 bytes hold the text of any group or kit, 140,000 that
-// of any sheet, 64 that of any audit or pair: that room is a clause of each function, since a type of buffer that has it would ask more of callers. A
-// refused file has its number on the status line alone, which only `text_or_refusal` writes. Of its input a program has every byte that decides (the first
-// 65,536 of a pair file, 140,000 of a sheet), or all there are: the text is that of the whole file.
+// of any sheet, 64 that of any audit or pair: that room is a clause of each function, since any slice that has it will do. A refused file has its number on
+// the status line alone, which only `text_or_refusal` writes. Each function takes an `Input`, whose type says how many bytes decide: the first 65,536 of a
+// pair file, 140,000 of a sheet, 1,048,577 of a DIMACS file. It has them, or all there are: the text is that of the whole file.
 // `as` stands where std has no `From`: from u32 to usize, and where a bound lets a number fit fewer bits.
 #![tactic(auto)]
 
@@ -32,7 +32,7 @@ use lines::Writer;
 use lists::List;
 pub use neighbours::neighbours_text;
 use numbers::Ratio;
-pub use reading::{read_argument, read_full};
+pub use reading::{Input, read_argument, read_full};
 use refusals::Refusal;
 
 // A text that was written, or else the status line of what refused it; answers how long it is.
@@ -188,26 +188,26 @@ fn write_verdict(file: &[u8], sheet: &[u8], out: &mut [u8]) -> Result<usize, Ref
 }
 
 // The text of `group`, of what was read of a pair file; answers how long it is.
-pub fn group_text(file: &[u8], out: &mut [u8]) -> usize
+pub fn group_text(file: Input<65536>, out: &mut [u8]) -> usize
     requires { 8192 ≤ length out.old }
-    ensures { Prints (GroupRead file.now) out.old out.new result }
+    ensures { Prints (GroupRead file.entry) out.old out.new result }
 {
-    text_or_refusal(write_answer(file, out), out)
+    text_or_refusal(write_answer(file.bytes(), out), out)
 }
 
 // The text of `sheet`, of what was read of a pair file; answers how long it is.
 #[tactic(auto, using(crate::proofs::Files::shown))]
-pub fn sheet_text(file: &[u8], out: &mut [u8]) -> usize
+pub fn sheet_text(file: Input<65536>, out: &mut [u8]) -> usize
     requires { 140000 ≤ length out.old }
-    ensures { Prints (SheetRead file.now) out.old out.new result }
+    ensures { Prints (SheetRead file.entry) out.old out.new result }
 {
-    text_or_refusal(write_certificate(file, out), out)
+    text_or_refusal(write_certificate(file.bytes(), out), out)
 }
 
 // The text of `audit`, of what was read of a pair file and of a sheet; answers how long it is.
-pub fn audit_text(file: &[u8], sheet: &[u8], out: &mut [u8]) -> usize
+pub fn audit_text(file: Input<65536>, sheet: Input<140000>, out: &mut [u8]) -> usize
     requires { 64 ≤ length out.old }
-    ensures { Prints (AuditRead file.now sheet.now) out.old out.new result }
+    ensures { Prints (AuditRead file.entry sheet.entry) out.old out.new result }
 {
-    text_or_refusal(write_verdict(file, sheet, out), out)
+    text_or_refusal(write_verdict(file.bytes(), sheet.bytes(), out), out)
 }

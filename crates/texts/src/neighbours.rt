@@ -11,7 +11,7 @@ ghost use Rattle.texts.specs.Printed.{Prints, TextWritten};
 ghost use Rattle.texts.specs.Neighbours.{record_before, record_line, place_text, NeighboursRead};
 
 use crate::arguments::number_of_argument;
-use crate::text_or_refusal;
+use crate::{Input, text_or_refusal};
 use lines::Writer;
 use lists::List;
 use pairfile::read_words;
@@ -63,9 +63,9 @@ fn write_placed(file: &[u8], first: &[u8], second: &[u8], out: &mut [u8]) -> Res
 }
 
 // The text of `neighbours`, of what was read of a pair file and of two arguments; answers how long it is.
-pub fn neighbours_text(file: &[u8], first: &[u8], second: &[u8], out: &mut [u8]) -> usize
+pub fn neighbours_text(file: Input<65536>, first: &[u8], second: &[u8], out: &mut [u8]) -> usize
     requires { 64 ≤ length out.old }
-    ensures { Prints (NeighboursRead file.now first.now second.now) out.old out.new result }
+    ensures { Prints (NeighboursRead file.entry first.now second.now) out.old out.new result }
 {
-    text_or_refusal(write_placed(file, first, second, out), out)
+    text_or_refusal(write_placed(file.bytes(), first, second, out), out)
 }

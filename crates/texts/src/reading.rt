@@ -1,12 +1,56 @@
 // How the programs read: into a lent buffer, to the input's end or the buffer's; a file that an argument names, or nothing where it cannot be read.
-// A program names DECIDE beside a buffer of its own. That it fits is a clause of each function: a type of buffer with that room would ask more of callers.
-ghost use Rattle.std.specs.Prelude.{◌≡◌, ◌≤◌, IfOk, IfSome, length, take};
+// A program names DECIDE beside a buffer of its own; that it fits is a clause of each function. What was read goes on as an `Input`, whose DECIDE is named by
+// the text that takes it: a buffer that lacks room for as many bytes makes none, whatever was named where it was read.
+ghost use Rattle.std.specs.Prelude.{◌≡◌, ◌≤◌, ℕ, List, IfOk, IfSome, length, take};
 ghost use Rattle.texts.specs.Printed.{ReadOf};
 
 use std::env::Env;
 use std::fs::File;
 use std::io::Read;
+use std::marker::Model;
 use std::{io, str};
+
+// The bytes of an input of which the first DECIDE decide: what was read into a buffer with room for these, or all there are. Clauses see the bytes.
+#[derive(Drop)]
+pub struct Input<'a, const DECIDE: usize> {
+    bytes: &'a [u8],
+}
+
+impl<'a, const DECIDE: usize> Model for Input<'a, DECIDE> {
+    ghost Value = { List ℕ };
+
+    ghost view = { λ input. input.bytes.now };
+}
+
+impl<'a, const DECIDE: usize> Input<'a, DECIDE> {
+    // What was read into a buffer, its first n bytes: whatever file was read, to its end or the buffer's, they are all of it or have those that decide.
+    pub fn front(buffer: &'a [u8], n: usize) -> Self
+        requires decides { DECIDE ≤ length buffer.now }
+        requires within { n ≤ length buffer.now }
+        ensures bytes { result ≡ take n buffer.now }
+        ensures read { (file : List ℕ) → take n buffer.now ≡ take (length buffer.now) file → ReadOf DECIDE result file }
+    {
+        Input {
+            bytes: &buffer[..n],
+        }
+    }
+
+    // All bytes of an input.
+    #[tactic(auto, using(crate::proofs::Consumed::read_whole))]
+    pub fn whole(file: &'a [u8]) -> Self
+        ensures bytes { result ≡ file.now }
+        ensures read { ReadOf DECIDE result file.now }
+    {
+        Input { bytes: file }
+    }
+
+    // The bytes.
+    pub(crate) fn bytes(self) -> &'a [u8]
+        ensures { result.now ≡ self.entry }
+    {
+        self.bytes
+    }
+}
 
 // Reads until the buffer, which has room for the first DECIDE bytes, is full or the input ends; answers how many bytes were read. (Each read says
 // by how many `done` grows: it is no index that is counted.)

@@ -5,11 +5,12 @@
 #![tactic(auto)]
 
 use std::io;
+use texts::Input;
 
 fn main(rt: HostRuntime) -> io::Result<()> {
     let mut file = [0u8; 65536];
     let mut out = [0u8; 65536];
     let n = texts::read_full::<65536, _>(&mut rt.stdin(), &mut file)?;
-    let r = texts::to_dimacs_text(&file[..n], &mut out);
+    let r = texts::to_dimacs_text(Input::front(&file, n), &mut out);
     rt.write_all(&out[..r])
 }

@@ -10,11 +10,11 @@ use Rattle.texts.proofs.converted.from_dimacs_text.Goals.{then-file-gt1048576, e
 pub returns : goal.returns
 returns c =
     let w = c.if-file-gt1048576 in
-    let written : TextWritten (FromDimacsRead c.args.file.now) c.args.out.now w.out w.written =
+    let written : TextWritten (FromDimacsRead c.bytes-file.result.now) c.args.out.now w.out w.written =
     elim w.branch [
       | then-file-gt1048576 x ↦ rw (x.written-is, x.out-is) (text_refused (long_read x.if-file-gt1048576.true))
       | else-file-gt1048576 x ↦
           rw (x.written-is, x.out-is) (text_as _ (λ text is. from_dimacs_read x.if-file-gt1048576.false is) x.convert-written.ensures)
     ] in
     let r = c.text_or_refusal.ensures in
-    shown _ (omega (arith, c.requires)) written r.text r.refused
+    rw (← c.bytes-file.ensures) (shown _ (omega (arith, c.requires)) written r.text r.refused)

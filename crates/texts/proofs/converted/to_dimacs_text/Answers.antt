@@ -7,4 +7,4 @@ use Rattle.texts.proofs.converted.to_dimacs_text.Goals as goal
 pub returns : goal.returns
 returns c =
     let r = c.text_or_refusal.ensures in
-    shown _ (omega (arith, c.requires)) (text_as _ (λ text is. to_dimacs_read is) c.convert.ensures) r.text r.refused
+    rw (← c.bytes-file.ensures) (shown _ (omega (arith, c.requires)) (text_as _ (λ text is. to_dimacs_read is) c.convert.ensures) r.text r.refused)

@@ -4,4 +4,6 @@ use Rattle.texts.proofs.Files.{shown}
 use Rattle.texts.proofs.neighbours.neighbours_text.Goals as goal
 
 pub returns : goal.returns
-returns c = let r = c.text_or_refusal.ensures in shown _ (omega (arith, c.requires)) c.write_placed.ensures r.text r.refused
+returns c =
+    let r = c.text_or_refusal.ensures in
+    rw (← c.bytes.ensures) (shown _ (omega (arith, c.requires)) c.write_placed.ensures r.text r.refused)
