@@ -6,6 +6,7 @@
 --   PairsRead               what read_pairs promises
 --   pairs_of, pairs_used    the pairs of an outcome, and of how many the words may have been written
 --   WordsRead, FileRead     what a reader of words promises, and what read_words does
+--   EndsSmall               what write_pairs asks of the pairs in words
 -- Assumes nothing: these are definitions.
 use Rattle.std.specs.Prelude.{◌≡◌, List, [], ◌∷◌, ℕ, ◌+◌, ◌*◌, ◌≤◌, ◌<◌, Result, OnOk, OnErr, length, get_or, drop}
 use Rattle.theory.specs.Lists.{Pair, Pairs}
@@ -66,3 +67,7 @@ pub record WordsRead (due : Outcome Pairs) (words words' : List ℕ) (r : Result
 -- READ_WORDS: those of a pair file
 abbrev pub FileRead : (room : ℕ) → (bytes words words' : List ℕ) → Result Head Refusal → Type 0
 FileRead room bytes words words' r = WordsRead (read_file room bytes) words words' r
+
+-- both modules of each of the first m pairs are below 512
+pub record EndsSmall (m : ℕ) (words : List ℕ) : Type 0 where
+  pub each : (j : ℕ) → j < m → (get_or words (2 * j) 0 < 512) × (get_or words (2 * j + 1) 0 < 512)
