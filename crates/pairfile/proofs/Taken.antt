@@ -3,6 +3,7 @@
 --   head_given, pair_given       those of its lines
 --   head_taken                   the number of the first or second line
 --   PairTaken, pair_taken        a pair line
+--   taken_new                    its pair is new
 --   modules_unmet, pairs_unmet   N and M are in their ranges
 -- Assumes nothing.
 use mathlib.Core.Path.{◌≡◌, refl, sym, ap, ◌∙◌}
@@ -21,6 +22,7 @@ use Rattle.theory.proofs.Tests.{tests, or_cases, by_test}
 use Rattle.pairs.specs.Held.{is_held, smaller_first_pair, stops_of}
 use Rattle.pairs.specs.Causes.{pair_causes, count_causes}
 use Rattle.pairs.proofs.Causes.{refusal_split, pair_then, count_then}
+use Rattle.pairs.proofs.Ends.{stops_held}
 use Rattle.lines.specs.Text.{between}
 use Rattle.lines.specs.Lines.{Line, first, second, third, line_of}
 use Rattle.lines.specs.Outcomes.{taken, line_due}
@@ -107,6 +109,10 @@ pair_taken n held bs x e =
       pair = ap (λ (y : Named). y.pair) s;
       rest = ap (λ (y : Named). y.rest) s;
     }
+
+-- its pair is new
+pub taken_new : (n : ℕ) (held : List Pair) (bs : List ℕ) (x : Named) → PairTaken n held bs x → is_held x.pair held ≡ false
+taken_new n held bs x t = rw t.pair (stops_held (first t.line) (second t.line) (third t.line) held ∙ t.new)
 
 -- N is 1 to 512
 pub modules_unmet : (n : ℕ) → refusal (modules_causes n) ≡ 0 → (1 ≤ n) × (n ≤ 512)

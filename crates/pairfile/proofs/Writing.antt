@@ -28,6 +28,7 @@ use Rattle.lines.proofs.Lengths.{no_more, and_small, filled_length}
 use Rattle.pairs.proofs.General.{all_at, all_weaker}
 use Rattle.lines.specs.Outcomes.{taken}
 use Rattle.pairfile.specs.File.{modules_form, pairs_form, pair_form, read_file, numbered, pair_lines, lined, file_of}
+use Rattle.pairfile.specs.Answers.{EndsSmall}
 use Rattle.pairfile.specs.Promise.{names_two, names_stops}
 use Rattle.pairfile.proofs.Accepts.{file_accepted}
 
@@ -51,7 +52,7 @@ pub record Writable (n m : ℕ) (ends weights : List ℕ) : Type 0 where
   pub short : m ≤ 4096
   pub ends_long : 2 * m ≤ length ends
   pub weights_long : m ≤ length weights
-  pub each : (j : ℕ) → j < m → (get_or ends (2 * j) 0 < 512) × (get_or ends (2 * j + 1) 0 < 512)
+  pub small : EndsSmall m ends
 
 pub writable : (n m : ℕ) (ends weights : List ℕ) → HeldWords n m ends weights → Writable n m ends weights
 unfolding list_in
@@ -62,7 +63,7 @@ writable n m ends weights w =
       short = omega (arith, k.short, length_pairs_in m ends weights);
       ends_long = w.ends_long;
       weights_long = w.weights_long;
-      each = λ j h. let s = ends_small n m ends weights k.ends j h in (omega (arith, s.0, k.few), omega (arith, s.1, k.few));
+      small = record { each = λ j h. let s = ends_small n m ends weights k.ends j h in (omega (arith, s.0, k.few), omega (arith, s.1, k.few)) };
     }
 
 -- what is left of the lines from pair j on
@@ -106,7 +107,7 @@ lines_length form n lowest (p ∷ ps) h l e c =
 -- a list as it lies in words
 pub lined_parts : (heads form : List ℕ) (lowest n m : ℕ) (ends weights : List ℕ) →
     lined heads form lowest (list_in n m ends weights) ≡
-    filled heads (n ∷ m ∷ []) ++ pair_lines form (numbered lowest (list_in n m ends weights).pairs)
+    filled heads (n ∷ m ∷ []) ++ pair_lines form (numbered lowest (pairs_in m ends weights))
 unfolding lined list_in
 lined_parts heads form lowest n m ends weights = rw (length_pairs_in m ends weights)
 

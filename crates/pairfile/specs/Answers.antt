@@ -1,13 +1,16 @@
 -- What the functions' answers say, in the terms of the other definitions.
 --   again                   the pair is named on an earlier line
 --   PairLineRead            what pair_line promises
+--   NewPlace                what new_place promises
+--   NewPairRead             what new_pair promises
 --   NewPut                  what put_new promises
 --   SamePast                the words past the first pairs of a list are as they were
 --   PairsRead               what read_pairs promises
 --   pairs_of, pairs_used    the pairs of an outcome, and of how many the words may have been written
 --   WordsRead, FileRead     what a reader of words promises, and what read_words does
+--   EndsSmall               what write_pairs asks of the pairs in words
 -- Assumes nothing: these are definitions.
-use Rattle.std.specs.Prelude.{◌≡◌, List, [], ◌∷◌, ℕ, ◌+◌, ◌*◌, ◌≤◌, ◌<◌, Result, OnOk, OnErr, length, get_or, drop}
+use Rattle.std.specs.Prelude.{◌≡◌, List, [], ◌∷◌, ℕ, ◌+◌, ◌*◌, ◌≤◌, ◌<◌, Result, IfOk, OnOk, OnErr, length, get_or, drop}
 use Rattle.theory.specs.Lists.{Pair, Pairs}
 use Rattle.theory.specs.Refusals.{Cause, cause, refusal}
 use Rattle.theory.specs.Words.{laid_pairs, laid_list}
@@ -31,6 +34,16 @@ pub record PairLineRead (bytes : List ℕ) (n : ℕ) (r : Result Stops Refusal) 
     l ← outcome_of (λ s. record { pair = counted s; rest = left }) r
     judge (again l.pair held)
     taken l)
+
+-- 10, or the place of the pair among those held
+pub record NewPlace (held : List Pair) (stops : Stops) (r : Result ℕ Refusal) : Type 0 where
+  pub judged : number_in r ≡ refusal (again (counted stops) held)
+  pub place : IfOk r (λ i. i ≡ place_of (counted stops) held)
+
+-- NEW_PAIR: the pair line in front, some pairs being held: the pair that it names, its place among them, and the bytes after it
+pub record NewPairRead (bytes : List ℕ) (n : ℕ) (held : List Pair) (r : Result (Stops × ℕ) Refusal) (left : List ℕ) : Type 0 where
+  pub found : pair_line n held bytes ≡ outcome_of (λ p. record { pair = counted p.0; rest = left }) r
+  pub place : IfOk r (λ p. p.1 ≡ place_of (counted p.0) held)
 
 -- PUT_NEW: 10, or the pair is put in at its place among the m held
 pub record NewPut (m : ℕ) (stops : Stops) (words words' : List ℕ) (r : Result (Unit {0}) Refusal) : Type 0 where
@@ -66,3 +79,7 @@ pub record WordsRead (due : Outcome Pairs) (words words' : List ℕ) (r : Result
 -- READ_WORDS: those of a pair file
 abbrev pub FileRead : (room : ℕ) → (bytes words words' : List ℕ) → Result Head Refusal → Type 0
 FileRead room bytes words words' r = WordsRead (read_file room bytes) words words' r
+
+-- both modules of each of the first m pairs are below 512
+pub record EndsSmall (m : ℕ) (words : List ℕ) : Type 0 where
+  pub each : (j : ℕ) → j < m → (get_or words (2 * j) 0 < 512) × (get_or words (2 * j + 1) 0 < 512)
