@@ -1,7 +1,9 @@
--- A list with some stops more of a pair.
+-- A list with some stops more of a pair, and with some less.
 --   raise_held, raise_weight     that pair is held, with so much more, and nothing else has changed
 --   raise_rising, raise_all      the order is kept, and every test that goes by the ends
---   raise_counted                counts stay above 0
+--   raise_light, raise_counted   counts stay bounded, and above 0
+--   raise_swap                   two raises commute
+--   lower_raise                  lowering undoes raising
 -- Assumes nothing.
 use mathlib.Core.Path.{◌≡◌, refl, sym, ap, ◌∙◌}
 use mathlib.Core.Bool.{Bool, true, ◌||◌, cond}
@@ -9,14 +11,15 @@ use mathlib.Core.List.{List, [], ◌∷◌}
 use Prim.Native.Nat.{ℕ, ◌+◌, ◌≤◌}
 use native.Mathlib.Omega.{arith}
 use lib.Dec.{leb}
+use borrow.Author.Tests.{lt-leb, le-leb}
 use Rattle.theory.specs.Basics.{all}
 use Rattle.theory.specs.Lists.{Pair, stands_before, rising}
 use Rattle.theory.proofs.Tests.{tests, no, fails, by_test}
-use Rattle.pairs.specs.Held.{same_ends, is_held, weight_of, heavier, raise_pair}
+use Rattle.pairs.specs.Held.{same_ends, is_held, weight_of, heavier, lighter, raise_pair, lower_pair}
 use Rattle.pairs.proofs.General.{all_weaker}
-use Rattle.pairs.proofs.Order.{same_iff, same_sym, same_same, order_cases}
+use Rattle.pairs.proofs.Order.{same_iff, same_refl, same_sym, same_same, order_cases}
 use Rattle.pairs.proofs.Rising.{rising_iff, lower_all, lower_not_held}
-use Rattle.pairs.proofs.Keeps.{not_held_weight}
+use Rattle.pairs.proofs.Keeps.{not_held_weight, same_pair, rising_alone}
 use Rattle.pairs.proofs.Changes.{or_shuffle}
 
 -- a pair is the same with more stops
@@ -56,6 +59,20 @@ raise_all f p (r ∷ rs) i h e =
     by_test (same_ends p r)
     (λ t. rw t (simp tests (i p.w r ∙ e'.0, e'.1)))
     (λ t. by_test (stands_before r p) (λ u. rw (t, u) (simp tests (e'.0, raise_all f p rs i h e'.1))) (λ u. rw (t, u) (simp tests (h, e'))))
+
+-- where no count is above k, none is above k and p's together
+pub raise_light : (k : ℕ) (p : Pair) (ps : List Pair) → all (λ r. leb r.w k) ps ≡ true → all (λ r. leb r.w (k + p.w)) (raise_pair p ps) ≡ true
+unfolding raise_pair all heavier
+raise_light k p [] e = simp tests (omega arith, refl)
+raise_light k p (r ∷ rs) e =
+    let e' = simp tests at e in
+    let rest : all (λ r. leb r.w (k + p.w)) rs ≡ true =
+    all_weaker (λ r. leb r.w k) (λ r. leb r.w (k + p.w)) (λ x h. le-leb x.w (k + p.w) (omega (arith, (simp tests at h)))) rs e'.1 in
+    by_test (same_ends p r)
+    (λ t. rw t (simp tests (omega (arith, e'.0), rest)))
+    (λ t. by_test (stands_before r p)
+    (λ u. rw (t, u) (simp tests (omega (arith, e'.0), raise_light k p rs e'.1)))
+    (λ u. rw (t, u) (simp tests (omega arith, (omega (arith, e'.0), rest)))))
 
 -- each count stays at 1 or more
 pub raise_counted : (p : Pair) (ps : List Pair) → 1 ≤ p.w → all (λ r. leb 1 r.w) ps ≡ true → all (λ r. leb 1 r.w) (raise_pair p ps) ≡ true
@@ -102,3 +119,32 @@ raise_weight r p (q ∷ qs) e =
     (λ l g s. rw (s, g) (by_test (same_ends r q)
     (λ u. rw (u, fails (same_ends r p) (λ k. no (sym s ∙ same_sym q p (same_same q r p (same_sym r q u) ∙ k)))) (omega arith))
     (λ u. rw u (raise_weight r p qs (simp rising_iff at e).1))))
+
+-- two raises commute
+pub raise_swap : (p r : Pair) (ps : List Pair) → rising ps ≡ true → raise_pair p (raise_pair r ps) ≡ raise_pair r (raise_pair p ps)
+raise_swap p r ps e =
+    let f = raise_rising r ps e in
+    let g = raise_rising p ps e in
+    rising_alone (raise_pair p (raise_pair r ps)) (raise_pair r (raise_pair p ps)) (raise_rising p (raise_pair r ps) f) (raise_rising r (raise_pair p ps) g)
+    (λ x. simp raise_held (or_shuffle (same_ends x p) (same_ends x r) (is_held x ps)))
+    (λ x. omega (arith, raise_weight x p (raise_pair r ps) f, raise_weight x r ps e, raise_weight x r (raise_pair p ps) g, raise_weight x p ps e))
+
+-- a raised pair lowered again
+lowered_again : (p r : Pair) (rs : List Pair) → 1 ≤ r.w →
+    cond (leb (heavier p.w r).w p.w) rs (lighter p.w (heavier p.w r) ∷ rs) ≡ r ∷ rs
+unfolding heavier lighter
+lowered_again p r rs h =
+    rw (lt-leb (r.w + p.w) p.w (omega arith))
+    (ap (λ (x : Pair). x ∷ rs) (same_pair (lighter p.w (heavier p.w r)) r refl refl (omega arith)))
+
+-- lowering undoes raising, where each count is 1 or more
+pub lower_raise : (p : Pair) (ps : List Pair) → all (λ r. leb 1 r.w) ps ≡ true → lower_pair p (raise_pair p ps) ≡ ps
+unfolding raise_pair lower_pair all
+lower_raise p [] e = rw (same_refl p, le-leb p.w p.w (omega arith))
+lower_raise p (r ∷ rs) e =
+    let e' = simp tests at e in
+    by_test (same_ends p r)
+    (λ t. rw (t, heavier_same p p.w r, t) (lowered_again p r rs e'.0))
+    (λ t. by_test (stands_before r p)
+    (λ u. rw (t, u, t) (ap (λ (l : List Pair). r ∷ l) (lower_raise p rs e'.1)))
+    (λ u. rw (t, u, same_refl p, le-leb p.w p.w (omega arith))))

@@ -1,6 +1,7 @@
 -- A list with some stops more of a pair, as add leaves it.
 --   raise_long, raise_more       a held pair leaves as many pairs, a new one is one more
 --   raise_weights, raise_list    the list as it is held, where the count does not pass 1,000
+--   raise_twice, raise_stops     two raises of one pair are one raise of the sum
 --   stops_raised, stops_counted  some stops of two modules more: their pair is held, its count grows, and nothing else has changed
 --   insert_weight, remove_weight the counts with a pair more, and a pair less
 --   weight_held, weights_alone   rising lists whose counts are the same, each 1 or more, are one list
@@ -17,10 +18,11 @@ use Rattle.theory.specs.Lists.{Pair, Pairs, pair, stands_before, ends_in_range, 
 use Rattle.theory.proofs.Tests.{tests, no, fails, by_test}
 use Rattle.theory.proofs.Lists.{listed, is_listed}
 use Rattle.pairs.specs.Held.{same_ends, is_held, weight_of, insert_pair, remove_pair, heavier, raise_pair, smaller_first_pair, stops_of}
-use Rattle.pairs.proofs.Order.{same_sym, same_same, order_cases}
+use Rattle.pairs.proofs.Order.{same_refl, same_sym, same_same, order_cases}
+use Rattle.pairs.proofs.Ends.{after_same}
 use Rattle.pairs.proofs.Rising.{rising_iff, lower_not_held, same_not_held}
 use Rattle.pairs.proofs.Changes.{insert_length}
-use Rattle.pairs.proofs.Keeps.{not_held_weight, rising_alone}
+use Rattle.pairs.proofs.Keeps.{not_held_weight, same_pair, rising_alone}
 use Rattle.pairs.proofs.Counts.{raise_held, raise_all, raise_rising, raise_weight}
 use Rattle.pairs.proofs.Places.{raise_new}
 
@@ -70,6 +72,28 @@ raise_list g p e r f w c room =
       weights = raise_weights p ps w c k.weights;
       rises = raise_rising p ps k.rises;
     }
+
+-- a pair made heavier twice is as heavy as by the sum at once
+heavier_twice : (v w : ℕ) (r : Pair) → heavier v (heavier w r) ≡ heavier (w + v) r
+unfolding heavier
+heavier_twice v w r = same_pair (heavier v (heavier w r)) (heavier (w + v) r) refl refl (omega arith)
+
+-- two raises of one pair are one raise of the sum
+pub raise_twice : (q p : Pair) (ps : List Pair) → same_ends q p ≡ true → raise_pair q (raise_pair p ps) ≡ raise_pair (heavier q.w p) ps
+unfolding raise_pair same_ends stands_before heavier
+raise_twice q p [] s = rw s
+raise_twice q p (r ∷ rs) s =
+    by_test (same_ends p r)
+    (λ t. rw (t, same_same q p r s ∙ t) (ap (λ (x : Pair). x ∷ rs) (heavier_twice q.w p.w r)))
+    (λ t. by_test (stands_before r p)
+    (λ u. rw (t, u, same_same q p r s ∙ t, after_same q p r s ∙ u) (ap (λ (z : List Pair). r ∷ z) (raise_twice q p rs s)))
+    (λ u. rw (t, u, s)))
+
+-- so of some stops of two modules, and then some more
+pub raise_stops : (a b v w : ℕ) (ps : List Pair) →
+    raise_pair (stops_of a b v) (raise_pair (stops_of a b w) ps) ≡ raise_pair (stops_of a b (w + v)) ps
+unfolding stops_of heavier same_ends
+raise_stops a b v w ps = raise_twice (stops_of a b v) (stops_of a b w) ps (same_refl (stops_of a b w))
 
 -- some stops of two modules more: their pair is held, and nothing else has changed
 pub stops_raised : (r : Pair) (a b w : ℕ) (ps : List Pair) →

@@ -1,8 +1,8 @@
 -- Stops more and stops less of a pair, in words.
---   laid_count                     a count stored
---   raise_asks                     what raise asks, where lookup has found the place
---   length_raised, raised_pairs    raise: the list has so many stops more of that pair
---   lowered_pairs                  lower: so many less
+--   laid_count                                     a count stored
+--   raise_asks                                     what raise asks, where lookup has found the place
+--   length_raised, raised_drop, raised_pairs       raise: the words past the list stay, and the list has so many stops more of that pair
+--   length_lowered, lowered_drop, lowered_pairs    lower: the same with less
 -- Assumes nothing.
 use mathlib.Core.Path.{◌≡◌, sym, ap, ◌∙◌}
 use mathlib.Core.Bool.{true, false}
@@ -11,8 +11,8 @@ use mathlib.Core.List.{List}
 use Prim.Native.Nat.{ℕ, ◌+◌, ◌*◌, ◌-◌, ◌≤◌, ◌<◌}
 use native.Mathlib.Omega.{arith}
 use lib.Dec.{leb, eqb}
-use lib.ListN.{length, get_or, set, length-set}
-use lib.Seq.{get_or-set_same, get_or-set_other, ext_get_or}
+use lib.ListN.{length, get_or, set, drop, length-set}
+use lib.Seq.{get_or-set_same, get_or-set_other, drop-set-lt, ext_get_or}
 use borrow.Author.Tests.{eqb-true, eqb-false}
 use Rattle.theory.specs.Lists.{Pair, pair}
 use Rattle.theory.specs.Words.{laid_pairs}
@@ -21,7 +21,7 @@ use Rattle.theory.proofs.Tests.{by_test}
 use Rattle.pairs.specs.Held.{is_held, weight_of, place_of, heavier, lighter, raise_pair, lower_pair}
 use Rattle.pairs.specs.Located.{RisingWords, Place, located}
 use Rattle.pairs.specs.Counts.{count_at, set_count, Raisable, raised, pairs_raised, lowered, pairs_lowered}
-use Rattle.pairs.proofs.Words.{place_within, place_held, length_insert, laid_inserted, laid_deleted}
+use Rattle.pairs.proofs.Words.{place_within, place_held, length_insert, insert_drop, laid_inserted, length_delete, delete_drop, laid_deleted}
 use Rattle.pairs.proofs.Places.{lower_cut, lower_set, raise_set, raise_new, weight_at}
 
 -- a count stored at a place
@@ -74,6 +74,14 @@ module _ (m : ℕ) (place : Place) (p : Pair) (ws : List ℕ) (h : Raisable m pl
       (λ t. rw t (length-set ws (8192 + place.at) (count_at place.at ws + p.w)))
       (λ t. rw t (length_insert m place.at p ws h.within (h.new t) h.long))
 
+  -- the words past the list stay
+  pub raised_drop : (k : ℕ) → 8192 + m + 1 ≤ k → drop k (raised m place p ws) ≡ drop k ws
+  unfolding raised set_count
+  raised_drop k l =
+      by_test place.held
+      (λ t. rw t (drop-set-lt k ws (8192 + place.at) (count_at place.at ws + p.w) (omega (arith, h.within))))
+      (λ t. rw t (insert_drop m place.at p ws h.within (h.new t) h.long k l))
+
   -- where lookup has found the place: the list with p's stops more
   pub raised_pairs : RisingWords m ws → place ≡ located p (laid_pairs m ws) →
       laid_pairs (pairs_raised m place) (raised m place p ws) ≡ raise_pair p (laid_pairs m ws)
@@ -93,6 +101,23 @@ module _ (m : ℕ) (place : Place) (p : Pair) (ws : List ℕ) (h : Raisable m pl
       (λ t. rw (t, at) (laid_inserted m p ws (h.new t) h.long ∙ sym (raise_new p ps (sym is ∙ t))))
 
 -- ---- stops less
+
+module _ (m at w : ℕ) (ws : List ℕ) (there : at < m) (few : m ≤ 4096) (long : 12288 ≤ length ws) where
+  -- as many words are left
+  pub length_lowered : length (lowered m at w ws) ≡ length ws
+  unfolding lowered set_count
+  length_lowered =
+      by_test (leb (count_at at ws) w)
+      (λ t. rw t (length_delete m at ws there few long))
+      (λ t. rw t (length-set ws (8192 + at) (count_at at ws - w)))
+
+  -- the words past the list stay
+  pub lowered_drop : (k : ℕ) → 8192 + m ≤ k → drop k (lowered m at w ws) ≡ drop k ws
+  unfolding lowered set_count
+  lowered_drop k l =
+      by_test (leb (count_at at ws) w)
+      (λ t. rw t (delete_drop m at ws there few long k l))
+      (λ t. rw t (drop-set-lt k ws (8192 + at) (count_at at ws - w) (omega arith)))
 
 -- at the place of a held pair: the list with its stops less
 pub lowered_pairs : (m : ℕ) (p : Pair) (ws : List ℕ) → RisingWords m ws → is_held p (laid_pairs m ws) ≡ true →

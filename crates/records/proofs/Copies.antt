@@ -2,10 +2,10 @@
 --   length_ends_of                   two words a record
 --   length_copied_out, copied_out_none, copied_out_more    records to words: a buffer's length stays; no record, and one record more
 --   copied_out_pairs                   what lies in the words are the pairs that the records stand for
---   copied_out_past                    the words past the places of records stay
+--   copied_out_drop, copied_out_past     the words past the places of records stay
 --   copied_out_list, agrees_room, copied_out_holds       where head and list agree, words that are long enough then hold the list
 --   put_back_none, put_back_more, put_back_all    words to records: no record, one record more, and all; put_backs: these
---   put_back_part                      the first records, lent as a part of a list
+--   length_put_back, put_back_part     a list's length stays; the first records, lent as a part of a list
 --   records_copied_out                 words read back are the records
 --   pair_read, pairs_read              what lies in words are the pairs that the records read from them stand for: at a place, and at the first places
 -- Assumes nothing.
@@ -15,14 +15,14 @@ use native.Mathlib.Numerals.{add-one}
 use native.Mathlib.Omega.{arith}
 use mathlib.Core.Bool.{true}
 use mathlib.Core.List.{List, [], ◌∷◌, ◌++◌, map, map-append, append_assoc, append-nil}
-use lib.ListN.{length, get_or, set, take, drop, length-set, length-append, length-map, take-append-drop}
+use lib.ListN.{length, get_or, set, take, drop, length-set, length-append, length-drop, length-map, take-append-drop}
 use lib.Seq.{length-take-le, take-length, drop-length, get_or-drop, take-suc, take-set-lt, drop-set-lt, set-append_left, drop-cons, append_snoc, set_at}
 use Rattle.std.proofs.lemmas.List.{get_or-map}
 use Rattle.theory.specs.Basics.{table}
 use Rattle.theory.specs.Lists as Lists
 use Rattle.theory.specs.Words.{word_pair, pairs_in, counts_of, laid_pairs, laid_list, HoldsList, put_at}
 use Rattle.theory.proofs.Tests.{tests}
-use Rattle.theory.proofs.Tables.{table_ext}
+use Rattle.theory.proofs.Tables.{length_table, table_ext}
 use Rattle.theory.proofs.Words.{length_put, put_below, put_in, put_drop}
 use Rattle.records.specs.Records.{as_pair, as_pairs, held_list, agrees, blank, ends_of, weights_of, copied_record, copied_out}
 use Rattle.records.specs.Records.{word_record, records_in, put_back, RoomOut}
@@ -190,10 +190,13 @@ pub length_copied_out : (ps : List Pair) (ws : List ℕ) → RoomOut ps ws → l
 length_copied_out [] ws r = ap {B = ℕ} (λ (xs : List ℕ). length xs) (copied_out_none ws)
 length_copied_out (p ∷ ps) ws r = length_laid (p ∷ ps) ws r.few (r.long (omega arith))
 
--- and what lies past the places
+-- and what lies past the places, from any word on
+pub copied_out_drop : (ps : List Pair) (ws : List ℕ) → RoomOut ps ws → (k : ℕ) → 12288 ≤ k → drop k (copied_out ps ws) ≡ drop k ws
+copied_out_drop [] ws r k l = ap {B = List ℕ} (λ (xs : List ℕ). drop k xs) (copied_out_none ws)
+copied_out_drop (p ∷ ps) ws r k l = past_laid (p ∷ ps) ws r.few (r.long (omega arith)) k l
+
 pub copied_out_past : (ps : List Pair) (ws : List ℕ) → RoomOut ps ws → drop 12288 (copied_out ps ws) ≡ drop 12288 ws
-copied_out_past [] ws r = ap {B = List ℕ} (λ (xs : List ℕ). drop 12288 xs) (copied_out_none ws)
-copied_out_past (p ∷ ps) ws r = past_laid (p ∷ ps) ws r.few (r.long (omega arith)) 12288 (omega arith)
+copied_out_past ps ws r = copied_out_drop ps ws r 12288 (omega arith)
 
 -- ---- words to records
 set_table : {A : Type 0} (f : ℕ → A) (xs : List A) (i : ℕ) → i < length xs → set (table i f ++ drop i xs) i (f i) ≡ table (suc i) f ++ drop (suc i) xs
@@ -218,6 +221,11 @@ unfolding put_back
 put_back_all ps ws m e = rw (← e, drop-length ps) (append-nil (records_in (length ps) ws))
 
 pub ruleset put_backs = (put_back_none, put_back_more, put_back_all)
+
+-- a list keeps its length
+pub length_put_back : (ps : List Pair) (ws : List ℕ) (m : ℕ) → m ≤ length ps → length (put_back ps ws m) ≡ length ps
+unfolding put_back records_in
+length_put_back ps ws m l = length-append (table m (word_record ws)) (drop m ps) ∙ omega (arith, l, length_table m (word_record ws), length-drop m ps)
 
 -- the first of them, lent as a part of the list
 pub put_back_part : (ps : List Pair) (ws : List ℕ) (m : ℕ) → m ≤ length ps → records_in (length (take m ps)) ws ++ drop m ps ≡ put_back ps ws m

@@ -13,7 +13,7 @@ ghost use Rattle.theory.specs.Lists.{pair, stands_before, rising};
 ghost use Rattle.theory.specs.Words.{laid_list, HoldsList};
 ghost use Rattle.lists.specs.Listed.{listed};
 ghost use Rattle.pairs.specs.Located.{place_in, located};
-ghost use Rattle.records.specs.Records.{copied_record, word_record, copied_out, records_in, RoomAt, FitsAt, RoomOut, RoomBack, agrees};
+ghost use Rattle.records.specs.Records.{copied_record, word_record, copied_out, records_in, put_back, RoomAt, FitsAt, RoomOut, RoomBack, agrees};
 ghost use Rattle.records.specs.Records.{as_pair, as_pairs, blank};
 ghost use Rattle.records.specs.Scan.{may_follow, good_after};
 
@@ -124,7 +124,8 @@ pub fn copy_out(records: &[Pair], words: &mut [u32])
 #[tactic(auto, using(crate::proofs::Copies::put_backs), unfolding(crate::specs::Records::FitsRecords))]
 pub fn copy_in(records: &mut [Pair], words: &[u32])
     requires { RoomBack records.old words.now }
-    ensures { records.new ≡ records_in (length records.old) words.now }
+    ensures read { records.new ≡ records_in (length records.old) words.now }
+    ensures back { records.new ≡ put_back records.old words.now (length records.old) }
 {
     for (i, p) in records.iter_mut().enumerate() {
         *p = record_at(words, i);
