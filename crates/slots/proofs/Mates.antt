@@ -3,7 +3,7 @@
 --   slot_cases                                a slot is one of its pair's two
 --   Mates, mates                              what holds of any slot's mate
 --   by_pair                                   what holds of both slots of every pair holds of every slot
---   Slot, slot                                what a list's words have at a slot and at its mate
+--   Slot, slot, slot_other                    what a list's words have at a slot and at its mate
 -- Assumes nothing.
 use mathlib.Core.Path.{◌≡◌, sym}
 use mathlib.Core.List.{List}
@@ -79,3 +79,7 @@ slot {n} {m} {ends} {s} e l =
       mate_below = e.below (mate s) low;
       modules = e.apart s l;
     }
+
+-- the same where the mate goes by another name
+pub slot_other : {n m : ℕ} {ends : List ℕ} {s o : ℕ} → o ≡ mate s → Ends n m ends → s < 2 * m → Slot n m ends s o
+slot_other z e l = rw z (slot e l)

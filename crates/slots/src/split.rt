@@ -17,12 +17,14 @@ fn pair_units(w: u32, q: u32, a: u8, b: u8) -> u32
     pick_upto(a == 1 && b == 1, w * q, 524288)
 }
 
-// What units at share size `old` are at q, in 1,048,576ths; none where there is no `old`, or it is 0.
+// What units at share size `old` are at q, in 1,048,576ths; none where there is no `old`, or it is 0, or that comes to 0.
 fn scale_of(q: u32, old: Option<u32>) -> Option<u64>
     requires { q ≤ 512 }
     ensures { IfSome result (λ scale. scale ≤ 536870912) }
 {
-    (u64::from(q) * 1048576).checked_div(u64::from(old?))
+    (u64::from(q) * 1048576)
+        .checked_div(u64::from(old?))
+        .filter(|&scale| scale > 0)
 }
 
 // The part of u units that a pair's first end gets: x of them scaled, or half of them where there is no scale. At most all, else free.

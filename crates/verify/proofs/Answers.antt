@@ -23,9 +23,9 @@ use Rattle.theory.proofs.Surplus.{surplus_signed}
 use Rattle.refusals.specs.declared.Refusal.{Refusal}
 use Rattle.refusals.specs.declared.Refusal.TheVariants.{BadMembers, ShareTooLarge, LoadTooLarge}
 use Rattle.numbers.specs.declared.Ratio.{Ratio}
-use Rattle.verify.specs.Counts.{ratio_of}
+use Rattle.verify.specs.Counts.{size_of, ratio_of}
 use Rattle.verify.specs.Answers.{refused_by, verdict_of, difference_of, CheckSays, SurplusSays}
-use Rattle.verify.proofs.Groups.{is_ratio, no_ratio, ratio_small}
+use Rattle.verify.proofs.Groups.{is_size, no_size, is_ratio, size_small, ratio_small}
 
 -- ---- check
 
@@ -36,16 +36,16 @@ module _ (g : Pairs) (s xs : List ℕ) where
   refused k e = record { number = sym e; p = rw (e, eqb-suc-zero); q = rw (e, eqb-suc-zero); optimal = λ z. absurd (omega arith) }
 
   -- the bytes make no group
-  pub refused_7 : (x : Refusal) → ratio_of g s ≡ Err x → CheckSays g s xs (verdict_of (Err x))
+  pub refused_7 : (x : Refusal) → size_of g s ≡ Err x → CheckSays g s xs (verdict_of (Err x))
   unfolding check_number check_causes refusal cause
-  refused_7 x e = let k = no_ratio g s x e in rw k.1 (refused 6 (rw k.0))
+  refused_7 x e = let k = no_size g s x e in rw k.1 (refused 6 (rw k.0))
+
+  -- a share is above its pair's units
+  pub refused_8 : (q : ℕ) → size_of g s ≡ Ok q → shares_good q g.pairs xs ≡ false → CheckSays g s xs (verdict_of (Err ShareTooLarge))
+  unfolding check_number check_causes refusal cause
+  refused_8 q e h = let k = is_size g s q e in refused 7 (rw (k.0, rw k.1 at h))
 
   module _ (r : Ratio) (e : ratio_of g s ≡ Ok r) where
-    -- a share is above its pair's units
-    pub refused_8 : shares_good r.q g.pairs xs ≡ false → CheckSays g s xs (verdict_of (Err ShareTooLarge))
-    unfolding check_number check_causes refusal cause
-    refused_8 h = let k = is_ratio g s r e in refused 7 (rw (k.0, rw k.1 at h))
-
     -- a load is above P
     pub refused_9 : shares_good r.q g.pairs xs ≡ true → r.p < greatest_load g r.q xs → CheckSays g s xs (verdict_of (Err LoadTooLarge))
     unfolding check_number check_causes refusal cause loads_good
@@ -67,13 +67,13 @@ module _ (g : Pairs) (t s : List ℕ) where
   unfolding if_taken
   bad e = record { number = sym e; value = rw e; signs = λ z. absurd (omega arith) }
 
-  pub bad_first : (x : Refusal) → ratio_of g t ≡ Err x → SurplusSays g t s (difference_of (Err x))
+  pub bad_first : (x : Refusal) → size_of g t ≡ Err x → SurplusSays g t s (difference_of (Err x))
   unfolding surplus_number surplus_causes refusal cause
-  bad_first x e = let k = no_ratio g t x e in rw k.1 (bad (rw k.0))
+  bad_first x e = let k = no_size g t x e in rw k.1 (bad (rw k.0))
 
-  pub bad_second : (x : Refusal) → ratio_of g s ≡ Err x → SurplusSays g t s (difference_of (Err x))
+  pub bad_second : (x : Refusal) → size_of g s ≡ Err x → SurplusSays g t s (difference_of (Err x))
   unfolding surplus_number surplus_causes refusal cause
-  bad_second x e = let k = no_ratio g s x e in rw k.1 (bad (rw (k.0, and-false)))
+  bad_second x e = let k = no_size g s x e in rw k.1 (bad (rw (k.0, and-false)))
 
   -- both are groups: the difference, and what its sign says
   pub valued : (a b : Ratio) → ratio_of g t ≡ Ok a → ratio_of g s ≡ Ok b →
@@ -87,6 +87,6 @@ module _ (g : Pairs) (t s : List ℕ) where
       record { number = sym z; value = rw z d; signs = λ _. rw d (surplus_signed g t s) }
 
 -- what check and surplus cite where they refuse
-pub ruleset check_refuses = (refused_7, refused_8, refused_9, ratio_small)
+pub ruleset check_refuses = (refused_7, refused_8, refused_9, size_small)
 
 pub ruleset surplus_refuses = (bad_first, bad_second, ratio_small)

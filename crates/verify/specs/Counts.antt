@@ -1,5 +1,6 @@
 -- What the contracts of the count of a group cite.
---   ratio_of    a group's inside count and size, or the refusal of what is no group
+--   size_of     a group's size, or the refusal of what is no group
+--   ratio_of    its inside count and size, or that refusal
 --   IsSmall     the bounds of both
 -- Assumes nothing: these are definitions.
 use Rattle.std.specs.Prelude.{◌≤◌, cond, List, ℕ, Result, Ok, Err}
@@ -8,6 +9,10 @@ use Rattle.theory.specs.Groups.{is_group, inside, size}
 use Rattle.refusals.specs.declared.Refusal.{Refusal}
 use Rattle.refusals.specs.declared.Refusal.TheVariants.{BadMembers}
 use Rattle.numbers.specs.declared.Ratio.{Ratio}
+
+-- the size of a group, and refusal 7 where the bytes make none
+unfoldable pub size_of : Pairs → (members : List ℕ) → Result ℕ Refusal
+size_of g s = cond (is_group g s) (Ok (size s)) (Err BadMembers)
 
 -- the ratio of a group (its density), and refusal 7 where the bytes make none
 unfoldable pub ratio_of : Pairs → (members : List ℕ) → Result Ratio Refusal

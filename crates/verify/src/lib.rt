@@ -8,10 +8,10 @@
 
 mod split;
 
-ghost use Rattle.std.specs.Prelude.{◌≡◌, ◌*◌, ◌≤◌, length, take, pos, ◌-ℤ◌};
+ghost use Rattle.std.specs.Prelude.{◌≡◌, ◌*◌, ◌≤◌, length, take, pos, ◌-ℤ◌, Ok};
 ghost use Rattle.theory.specs.Groups.{bytes_good};
 ghost use Rattle.lists.specs.Listed.{listed};
-ghost use Rattle.verify.specs.Counts.{ratio_of, IsSmall};
+ghost use Rattle.verify.specs.Counts.{size_of, ratio_of, IsSmall};
 ghost use Rattle.verify.specs.Answers.{verdict_of, difference_of, CheckSays, SurplusSays};
 
 use lists::List;
@@ -72,11 +72,11 @@ fn bytes_good(members: &[u8]) -> bool
     members.iter().all(|&byte| byte <= 1)
 }
 
-// The inside count and size of a group: refuses by 7 where the bytes make none.
-#[tactic(auto, using(crate::proofs::Groups::counts, crate::proofs::Bounds::few))]
-fn ratio_of(list: List, members: &[u8]) -> Result<Ratio, Refusal>
+// The size of a group: refuses by 7 where the bytes make none.
+#[tactic(auto, using(crate::proofs::Groups::sizes, crate::proofs::Bounds::few))]
+fn size_of(list: List, members: &[u8]) -> Result<u32, Refusal>
     requires { length members.now ≡ list.n }
-    ensures { result ≡ ratio_of (listed list.entry) members.now }
+    ensures { result ≡ size_of (listed list.entry) members.now }
 {
     if !bytes_good(members) {
         return Err(Refusal::BadMembers);
@@ -85,8 +85,19 @@ fn ratio_of(list: List, members: &[u8]) -> Result<Ratio, Refusal>
     if q == 0 {
         return Err(Refusal::BadMembers);
     }
+    Ok(q)
+}
+
+// The inside count of a group of size q, and that size.
+#[tactic(auto, using(crate::proofs::Groups::counted))]
+fn ratio_of(list: List, members: &[u8], q: u32) -> Ratio
+    requires members_len { length members.now ≡ list.n }
+    requires q_is { size_of (listed list) members.now ≡ Ok q }
+    ensures ratio { Ok result ≡ ratio_of (listed list.entry) members.now }
+    ensures size { result.q ≡ q }
+{
     let p = groups::inside_count(list, members);
-    Ok(Ratio { p, q })
+    Ratio { p, q }
 }
 
 // The difference of the cross products of two ratios: exact, since no product leaves 32 bits.
@@ -107,8 +118,10 @@ pub fn check_words(list: List, members: &[u8], shares: &[u32]) -> Result<Ratio, 
     ensures { CheckSays (listed list.entry)
         (take list.entry.n members.now) (take list.entry.m shares.now) (verdict_of result) }
 {
-    let ratio = ratio_of(list, &members[..list.n])?;
-    let split = Split::of(list, &shares[..list.m], ratio.q)?;
+    let group = &members[..list.n];
+    let q = size_of(list, group)?;
+    let split = Split::of(list, &shares[..list.m], q)?;
+    let ratio = ratio_of(list, group, q);
     if ratio.p < split.greatest_load() {
         return Err(Refusal::LoadTooLarge);
     }
@@ -123,7 +136,11 @@ pub fn surplus_words(list: List, first: &[u8], second: &[u8]) -> Result<i64, Ref
     ensures { SurplusSays (listed list.entry)
         (take list.entry.n first.now) (take list.entry.n second.now) (difference_of result) }
 {
-    let first_ratio = ratio_of(list, &first[..list.n])?;
-    let second_ratio = ratio_of(list, &second[..list.n])?;
+    let first_group = &first[..list.n];
+    let second_group = &second[..list.n];
+    let first_size = size_of(list, first_group)?;
+    let second_size = size_of(list, second_group)?;
+    let first_ratio = ratio_of(list, first_group, first_size);
+    let second_ratio = ratio_of(list, second_group, second_size);
     Ok(cross_difference(first_ratio, second_ratio))
 }

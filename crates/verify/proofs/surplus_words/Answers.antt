@@ -7,5 +7,7 @@ use Rattle.verify.proofs.surplus_words.Goals as goal
 
 pub returns : goal.returns
 returns c =
-    valued _ _ _ c.in_ok-first_ratio.first_ratio c.in_ok-second_ratio.second_ratio (sym c.in_ok-first_ratio.ensures) (sym c.in_ok-second_ratio.ensures) _
+    let a = c.ratio_of-first_ratio in
+    let b = c.ratio_of-second_ratio in
+    valued _ _ _ a.result b.result (sym a.ensures.ratio) (sym b.ensures.ratio) _
     (to_z-of_z w64 _ (record { sfits = c.cross_difference.type_inv }) ∙ c.cross_difference.ensures)
