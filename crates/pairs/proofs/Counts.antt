@@ -2,15 +2,17 @@
 --   raise_held, raise_weight     that pair is held, with so much more, and nothing else has changed
 --   raise_rising, raise_all      the order is kept, and every test that goes by the ends
 --   raise_light, raise_counted   counts stay bounded, and above 0
+--   raise_length                 at most one pair more
 --   raise_swap                   two raises commute
 --   lower_raise                  lowering undoes raising
 -- Assumes nothing.
 use mathlib.Core.Path.{◌≡◌, refl, sym, ap, ◌∙◌}
 use mathlib.Core.Bool.{Bool, true, ◌||◌, cond}
 use mathlib.Core.List.{List, [], ◌∷◌}
-use Prim.Native.Nat.{ℕ, ◌+◌, ◌≤◌}
+use Prim.Native.Nat.{ℕ, suc, ◌+◌, ◌≤◌}
 use native.Mathlib.Omega.{arith}
 use lib.Dec.{leb}
+use lib.ListN.{length}
 use borrow.Author.Tests.{lt-leb, le-leb}
 use Rattle.theory.specs.Basics.{all}
 use Rattle.theory.specs.Lists.{Pair, stands_before, rising}
@@ -83,6 +85,14 @@ raise_counted p (r ∷ rs) h e =
     by_test (same_ends p r)
     (λ t. rw t (simp tests (omega (arith, e'.0), e'.1)))
     (λ t. by_test (stands_before r p) (λ u. rw (t, u) (simp tests (e'.0, raise_counted p rs h e'.1))) (λ u. rw (t, u) (simp tests (h, e'))))
+
+-- at most one pair more
+pub raise_length : (p : Pair) (ps : List Pair) → length (raise_pair p ps) ≤ suc (length ps)
+unfolding raise_pair
+raise_length p [] = omega arith
+raise_length p (r ∷ rs) =
+    by_test (same_ends p r) (λ t. rw t (omega arith))
+    (λ t. by_test (stands_before r p) (λ u. rw (t, u) (omega (arith, raise_length p rs))) (λ u. rw (t, u) (omega arith)))
 
 -- the order is kept
 pub raise_rising : (p : Pair) (ps : List Pair) → rising ps ≡ true → rising (raise_pair p ps) ≡ true
