@@ -1,7 +1,8 @@
 -- A group counted: its size, then its inside count too, or refusal 7.
 --   bad_bytes, no_member, sized    what the size comes to
 --   is_size, no_size               what it says of the group
---   counted, is_ratio              what the ratio comes to, and what it says of the group
+--   counted                        what the ratio comes to
+--   is_ratio, no_ratio             what it says of the group
 --   size_small, ratio_small        how large the numbers can be
 --   sizes                          what the function that gives the size cites
 -- Assumes nothing.
@@ -22,6 +23,15 @@ use Rattle.refusals.specs.declared.Refusal.TheVariants.{BadMembers}
 use Rattle.numbers.specs.declared.Ratio.{Ratio}
 use Rattle.verify.specs.Counts.{size_of, ratio_of, IsSmall}
 
+-- what a test lets through, or refusal 7: which of the two it is
+is_ok : {A : Type 0} {w : A} (v : A) (b : Bool) → cond b (Ok v) (Err BadMembers) ≡ Ok w → (b ≡ true) × (w ≡ v)
+is_ok v true e = (refl, cc)
+is_ok v false e = cc
+
+is_err : {A : Type 0} {x : Refusal} (v : A) (b : Bool) → cond {A = Result A Refusal} b (Ok v) (Err BadMembers) ≡ Err x → (b ≡ false) × (x ≡ BadMembers)
+is_err v true e = cc
+is_err v false e = (refl, cc)
+
 module _ (g : Pairs) (s : List ℕ) where
   -- no group has no size
   no_group : is_group g s ≡ false → size_of g s ≡ Err BadMembers
@@ -39,34 +49,26 @@ module _ (g : Pairs) (s : List ℕ) where
   -- where there is a size, it is that of a group
   pub is_size : (q : ℕ) → size_of g s ≡ Ok q → (is_group g s ≡ true) × (q ≡ size s)
   unfolding size_of
-  is_size q e = go (is_group g s) e
-    where
-      go : (b : Bool) → cond b (Ok (size s)) (Err BadMembers) ≡ Ok q → (b ≡ true) × (q ≡ size s)
-      go true e = (refl, cc)
-      go false e = cc
+  is_size q e = is_ok (size s) (is_group g s) e
 
   -- where there is none, the bytes make no group
   pub no_size : (x : Refusal) → size_of g s ≡ Err x → (is_group g s ≡ false) × (x ≡ BadMembers)
   unfolding size_of
-  no_size x e = go (is_group g s) e
-    where
-      go : (b : Bool) → cond {A = Result ℕ Refusal} b (Ok (size s)) (Err BadMembers) ≡ Err x → (b ≡ false) × (x ≡ BadMembers)
-      go true e = cc
-      go false e = (refl, cc)
+  no_size x e = is_err (size s) (is_group g s) e
 
   -- the inside count beside the size is the ratio
   pub counted : (p q : ℕ) → size_of g s ≡ Ok q → p ≡ inside g s → Ok (record { p = p; q = q }) ≡ ratio_of g s
   unfolding ratio_of
   counted p q e ep = let k = is_size q e in rw (k.0, ep, k.1)
 
-  -- where there is a ratio, it is that of a group
+  -- so with the ratio
   pub is_ratio : (r : Ratio) → ratio_of g s ≡ Ok r → (is_group g s ≡ true) × (r ≡ record { p = inside g s; q = size s })
   unfolding ratio_of
-  is_ratio r e = go (is_group g s) e
-    where
-      go : (b : Bool) → cond b (Ok (record { p = inside g s; q = size s })) (Err BadMembers) ≡ Ok r → (b ≡ true) × (r ≡ record { p = inside g s; q = size s })
-      go true e = (refl, cc)
-      go false e = cc
+  is_ratio r e = is_ok (record { p = inside g s; q = size s }) (is_group g s) e
+
+  pub no_ratio : (x : Refusal) → ratio_of g s ≡ Err x → (is_group g s ≡ false) × (x ≡ BadMembers)
+  unfolding ratio_of
+  no_ratio x e = is_err (record { p = inside g s; q = size s }) (is_group g s) e
 
   -- both numbers of a held list's group are small
   pub size_small : (q : ℕ) → is_list g ≡ true → size_of g s ≡ Ok q → q ≤ 512

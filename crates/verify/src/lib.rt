@@ -110,7 +110,7 @@ fn cross_difference(first: Ratio, second: Ratio) -> i64
     i64::from(second.q * first.p) - i64::from(second.p * first.q)
 }
 
-// Check: refuses by 7, 8, 9. All shares are looked at before any load.
+// Check: refuses by 7, 8, 9. All shares are looked at before the inside count and any load.
 #[tactic(auto, using(crate::proofs::Answers::check_refuses))]
 pub fn check_words(list: List, members: &[u8], shares: &[u32]) -> Result<Ratio, Refusal>
     requires members_len { list.n ≤ length members.now }
@@ -128,7 +128,7 @@ pub fn check_words(list: List, members: &[u8], shares: &[u32]) -> Result<Ratio, 
     Ok(ratio)
 }
 
-// Surplus of the first group against the second: refuses by 7.
+// Surplus of the first group against the second: refuses by 7. Both sets are looked at before either inside count.
 #[tactic(auto, using(crate::proofs::Answers::surplus_refuses))]
 pub fn surplus_words(list: List, first: &[u8], second: &[u8]) -> Result<i64, Refusal>
     requires first_len { list.n ≤ length first.now }
