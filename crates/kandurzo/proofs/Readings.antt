@@ -27,12 +27,11 @@ use Rattle.records.specs.Records.{held_list, agrees, records_in, put_back, RoomB
 use Rattle.records.proofs.Copies.{put_back_part}
 use Rattle.kandurzo.specs.declared.Changed.{Changed}
 use Rattle.kandurzo.specs.Listing.{as_records, changed_of}
-use Rattle.on_words.specs.declared.buffers.Buffer.{Buffer}
 use Rattle.on_words.specs.Buffers.{any_short, cleared, work_left}
 use Rattle.on_words.specs.Edits.{head_of}
-use Rattle.on_words.specs.Reading.{Reader, read_buffers, read_outcome, read_head, ReadOn}
+use Rattle.on_words.specs.Reading.{Reader, read_buffers, read_outcome, read_head, ReadOn, ReadLent}
 use Rattle.kandurzo.specs.Reading.{records_front, ReadCall}
-use Rattle.on_words.proofs.Readings.{Reads, outcome_long}
+use Rattle.on_words.proofs.Readings.{Reads, outcome_long, lent_short}
 use Rattle.on_words.proofs.Enough.{read_enough}
 use Rattle.on_words.proofs.Filling.{work_zeros, left_open}
 use Rattle.on_words.proofs.Fits.{list_fits}
@@ -84,10 +83,10 @@ module _ (read : Reader) (bytes : List ℕ) (ps : List Pair) (work : List ℕ) w
       }
 
   -- 12
-  pub read_short : {lent : List Buffer} → lent ≡ read_buffers (length work) → any_short lent ≡ true →
-      ReadCall read bytes ps work (changed_of (Err BufferTooShort) none_read) ps work
-  unfolding read_outcome number_given read_head head_of pairs_of records_front as_records work_left
-  read_short is short = read_says (refused 12) (rw (rw is at short)) refl refl refl refl
+  pub read_short : {after : List ℕ} → ReadLent read (length ps) bytes work after (Err BufferTooShort) →
+      ReadCall read bytes ps work (changed_of (Err BufferTooShort) none_read) ps after
+  unfolding number_given read_head head_of pairs_of records_front as_records work_left
+  read_short on = let s = lent_short _ _ _ _ _ on in read_says (refused 12) s.0 refl refl refl s.1
 
   module _ (long : 16384 ≤ length work) {after : List ℕ} where
     -- the file's own

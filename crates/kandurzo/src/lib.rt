@@ -41,12 +41,16 @@ pub struct Changed {
 }
 
 impl Changed {
-    // The new head; beside a refusal the head that is given.
+    // The new head; beside a refusal the head that is given. (The new one's numbers are named one by one: a head copied whole goes through memory on its way to
+    // C, and a call of start takes five times as long.)
     fn new(answer: Result<Head, Refusal>, before: Head) -> Changed
         ensures { result ≡ changed_of answer before }
     {
         match answer {
-            Ok(head) => Changed { number: 0, head },
+            Ok(Head { n, m }) => Changed {
+                number: 0,
+                head: Head { n, m },
+            },
             Err(refusal) => Changed {
                 number: u32::from(refusal),
                 head: before,

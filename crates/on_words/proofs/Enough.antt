@@ -2,15 +2,17 @@
 --   records_enough       M records are there
 --   LongEnough, none_short, all_long    no buffer is short exactly where each is as long as stated
 --   peel_enough, check_enough, solve_enough, kit_enough, surplus_enough, write_enough, read_enough    a call's buffers then
+--   read_short           the work buffer that a reader refuses
 -- Assumes nothing.
-use mathlib.Core.Path.{◌≡◌, refl, sym}
+use mathlib.Core.Path.{◌≡◌, refl, sym, ◌∙◌}
 use mathlib.Core.Bool.{Bool, true, false, ◌||◌}
 use mathlib.Core.List.{List, [], ◌∷◌}
-use Prim.Native.Nat.{ℕ, ◌≤◌}
+use Prim.Native.Nat.{ℕ, ◌≤◌, ◌<◌}
 use lib.ListN.{length, take}
+use lib.Dec.{ltb}
 use lib.Seq.{length-take-le}
-use borrow.Author.Tests.{ltb-false, le-ltb}
-use Rattle.theory.proofs.Tests.{no}
+use borrow.Author.Tests.{ltb-true, ltb-false, le-ltb}
+use Rattle.theory.proofs.Tests.{no, by_test}
 use Rattle.records.specs.declared.Head.{Head}
 use Rattle.records.specs.declared.Pair.{Pair}
 use Rattle.records.specs.Records.{agrees}
@@ -78,3 +80,8 @@ write_enough text is none = none_short _ (rw is at none)
 
 pub read_enough : (work : ℕ) {lent : List Buffer} → lent ≡ read_buffers work → any_short lent ≡ false → 16384 ≤ work
 read_enough work is none = none_short _ (rw is at none)
+
+-- and where it is short
+pub read_short : (work : ℕ) {lent : List Buffer} → lent ≡ read_buffers work → any_short lent ≡ true → work < 16384
+read_short work is short =
+    by_test (ltb work 16384) (ltb-true work 16384) (λ f. no (sym (all_long (read_buffers work) (ltb-false work 16384 f)) ∙ rw is at short))

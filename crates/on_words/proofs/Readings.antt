@@ -2,20 +2,24 @@
 --   Reads, reads_file, reads_dimacs    what is asked of a reader
 --   read_on                      what is answered
 --   outcome_long                 where the work buffer is long enough the outcome is what the file says
+--   lent_short                   with a work buffer of any length, where 12 is answered
 -- Assumes nothing.
-use mathlib.Core.Path.{◌≡◌}
+use mathlib.Core.Path.{◌≡◌, refl}
 use mathlib.Core.Bool.{true}
 use mathlib.Core.List.{List}
 use Prim.Native.Nat.{ℕ, ◌≤◌}
 use native.Mathlib.Omega.{arith}
+use lib.Dec.{ltb}
 use lib.ListN.{length}
-use borrow.Author.Tests.{le-ltb}
+use borrow.Author.Tests.{ltb-true, ltb-false, le-ltb}
 use Rattle.std.proofs.Common.{Result, Ok, Err}
 use Rattle.std.specs.Prelude.{IfOk}
 use Rattle.theory.specs.Lists.{Pairs, is_list}
 use Rattle.theory.specs.Words.{laid_list, HoldsList}
+use Rattle.theory.proofs.Tests.{by_test}
 use Rattle.theory.proofs.Words.{length_laid}
 use Rattle.refusals.specs.declared.Refusal.{Refusal}
+use Rattle.refusals.specs.declared.Refusal.TheVariants.{BufferTooShort}
 use Rattle.refusals.specs.Numbers.{number_of}
 use Rattle.lines.specs.Outcomes.{refused, taken, outcome_of}
 use Rattle.pairfile.specs.File.{read_file}
@@ -27,7 +31,7 @@ use Rattle.dimacs.proofs.Given.{dimacs_given, number_range}
 use Rattle.dimacs.proofs.Accepts as Dimacs
 use Rattle.records.specs.declared.Head.{Head}
 use Rattle.on_words.specs.Buffers.{any_short}
-use Rattle.on_words.specs.Reading.{Reader, read_outcome, ReadOn}
+use Rattle.on_words.specs.Reading.{Reader, read_outcome, ReadOn, ReadLent}
 use Rattle.on_words.proofs.Filling.{cleared_past}
 
 -- ---- a reader
@@ -84,3 +88,11 @@ module _ {read : Reader} (reads : Reads read) (room : ℕ) (bytes work after : L
 pub outcome_long : (read : Reader) (room w : ℕ) (bytes : List ℕ) → 16384 ≤ w → read_outcome read room w bytes ≡ read room bytes
 unfolding read_outcome any_short
 outcome_long read room w bytes long = rw (le-ltb w 16384 long)
+
+-- where 12 is answered it is short, and as it was
+pub lent_short : (read : Reader) (room : ℕ) (bytes work after : List ℕ) → ReadLent read room bytes work after (Err BufferTooShort) →
+    (read_outcome read room (length work) bytes ≡ refused 12) × (after ≡ work)
+unfolding read_outcome any_short
+lent_short read room bytes work after on =
+    by_test (ltb (length work) 16384) (λ s. (rw s, (on.short (ltb-true (length work) 16384 s)).1))
+    (λ l. absurd ((on.long (ltb-false (length work) 16384 l)).own.0 refl))

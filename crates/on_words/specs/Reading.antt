@@ -3,11 +3,13 @@
 --   read_buffers, read_outcome  what is lent; the list that is read, or the refusal: 12, then the file's own
 --   read_head                   the new head
 --   ReadOn                      head and pairs in words, and the words past them
+--   ReadLent                    so with a work buffer of any length
 -- Assumes nothing: these are definitions.
-use Rattle.std.specs.Prelude.{◌≡◌, cond, List, [], ◌∷◌, ℕ, ◌≤◌, length, Result, IfOk, IfErr}
+use Rattle.std.specs.Prelude.{◌≡◌, cond, List, [], ◌∷◌, ℕ, ◌≤◌, ◌<◌, length, Result, Err, IfOk, IfErr}
 use Rattle.theory.specs.Lists.{Pairs}
 use Rattle.theory.specs.Words.{laid_list, HoldsList}
 use Rattle.refusals.specs.declared.Refusal.{Refusal}
+use Rattle.refusals.specs.declared.Refusal.TheVariants.{BufferTooShort}
 use Rattle.refusals.specs.Numbers.{number_of}
 use Rattle.lines.specs.Outcomes.{Outcome, refused, taken, outcome_of}
 use Rattle.records.specs.declared.Head.{Head}
@@ -42,3 +44,8 @@ pub record ReadOn (read : Reader) (room : ℕ) (bytes work work' : List ℕ) (r 
   pub own : IfErr r (λ e. (number_of e ≡ 12 → ⊥) × (number_of e ≡ 13 → ⊥))
   -- nothing is written past the 16,384 words
   pub past : cleared work' ≡ cleared work
+
+-- with a work buffer of any length: a shorter one is refused by 12, and is as it was
+pub record ReadLent (read : Reader) (room : ℕ) (bytes work work' : List ℕ) (r : Result Head Refusal) : Type 0 where
+  pub short : length work < 16384 → (r ≡ Err BufferTooShort) × (work' ≡ work)
+  pub long : 16384 ≤ length work → ReadOn read room bytes work work' r

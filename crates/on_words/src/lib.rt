@@ -5,9 +5,9 @@
 // works on the list that lies there, and clears the work buffer. Add and remove look the pair up in the words and shift what stands behind it; a reader
 // leaves the file's pairs in them. Each costs what the crate below it does (pairs, peel, kits, densest, verify, pairfile, dimacs), and the 16,384 words that
 // are cleared. On words add refuses by 5, 4, 18, 19, 11, remove by 5, 4, 14, solve by 20, check by 20, 7, 8, 9, kit by 20, 21, surplus by 7, and both readers
-// by the file's numbers.
+// by 12 and the file's numbers.
 // Head and words are two parameters, not a struct that keeps what the words hold: a call lays them out once and hands them to one function. So that they
-// hold the list is a clause of each, and so are 16,384 words of work, which C lends.
+// hold the list is a clause of each, and so are 16,384 words of work, which C lends (a reader takes any number, and gives 12 itself).
 // `as` stands where std has no `From`: from u32 to usize, and where a bound lets a number fit fewer bits.
 #![tactic(auto)]
 

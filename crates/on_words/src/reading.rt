@@ -2,9 +2,9 @@
 ghost use Rattle.std.specs.Prelude.{◌≡◌, ◌≤◌, length};
 ghost use Rattle.pairfile.specs.File.{read_file};
 ghost use Rattle.dimacs.specs.Edges.{read_dimacs};
-ghost use Rattle.on_words.specs.Reading.{Reader, read_buffers, ReadOn};
+ghost use Rattle.on_words.specs.Reading.{Reader, read_buffers, ReadOn, ReadLent};
 
-use crate::buffers::Buffer;
+use crate::buffers::{Buffer, any_short};
 use records::Head;
 use refusals::Refusal;
 
@@ -24,6 +24,21 @@ pub trait Format {
     fn read_on_words(bytes: &[u8], room: usize, work: &mut [u32]) -> Result<Head, Refusal>
         requires { 16384 ≤ length work.old }
         ensures { ReadOn says room bytes.now work.old work.new result };
+}
+
+// The same with a work buffer of any length: refuses by 12, which leaves it as it was, and by the file's own numbers.
+#[tactic(auto, using(crate::proofs::Enough::read_enough, crate::proofs::Enough::read_short))]
+pub fn read_on_words<F: Format>(
+    bytes: &[u8],
+    room: usize,
+    work: &mut [u32],
+) -> Result<Head, Refusal>
+    ensures { ReadLent F.says room bytes.now work.old work.new result }
+{
+    if any_short(&read_buffers(work.len())) {
+        return Err(Refusal::BufferTooShort);
+    }
+    F::read_on_words(bytes, room, work)
 }
 
 // Pair files.
