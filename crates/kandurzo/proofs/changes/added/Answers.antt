@@ -23,4 +23,4 @@ pub copy_in-requires : goal.copy_in-requires
 copy_in-requires c = add_back _ _ _ _ _ c.in_ok-lay_held.ensures.laid c.in_ok-changed.ensures (omega arith)
 
 pub returns : goal.returns
-returns c = rw c.copy_in.ensures (add_done _ _ _ _ _ c.in_ok-lay_held.ensures.laid c.in_ok-changed.ensures)
+returns c = rw c.copy_in.ensures.read (add_done _ _ _ _ _ c.in_ok-lay_held.ensures.laid c.in_ok-changed.ensures)

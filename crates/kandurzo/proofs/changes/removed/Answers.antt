@@ -15,4 +15,4 @@ pub copy_in-requires : goal.copy_in-requires
 copy_in-requires c = remove_back _ _ _ _ c.in_ok-lay_held.ensures.laid c.in_ok-changed.ensures (omega arith)
 
 pub returns : goal.returns
-returns c = rw c.copy_in.ensures (remove_done _ _ _ _ c.in_ok-lay_held.ensures.laid c.in_ok-changed.ensures)
+returns c = rw c.copy_in.ensures.read (remove_done _ _ _ _ c.in_ok-lay_held.ensures.laid c.in_ok-changed.ensures)

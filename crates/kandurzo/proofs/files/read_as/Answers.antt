@@ -24,5 +24,5 @@ returns g c =
     let long : 16384 ≤ length c.args.work.now = grind arith in
     elim c.match-read.branch [
       | in-Err w ↦ rw (w.in-Err.is, w.list-is, c.clear.ensures) (read_refused _ _ _ _ long _ (w.in-Err.ensures.long long))
-      | in-Ok w ↦ rw (w.in-Ok.is, w.list-is, w.copy_in.ensures, c.clear.ensures) (read_done _ _ _ _ long (w.in-Ok.ensures.long long))
+      | in-Ok w ↦ rw (w.in-Ok.is, w.list-is, w.copy_in.ensures.read, c.clear.ensures) (read_done _ _ _ _ long (w.in-Ok.ensures.long long))
     ]
