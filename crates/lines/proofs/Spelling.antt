@@ -1,6 +1,7 @@
 -- A number and its digits: what is spelled is read, and what is read was spelled so.
 --   spell_enough, spelled_short    room for more digits than a number has changes nothing
 --   spell_one, spelled_one, spelled_more    one digit, and those of a tenth before the last
+--   some_digits, no_digits, spelled_parts, spelled_three    the digits of a thousandth, if it has any, and the last three behind them
 --   digits_append       digits in front of what is no digit
 --   value_append        digits after digits
 --   spell_digits, spell_length, spell_first, spell_value    the digits of a number
@@ -24,7 +25,7 @@ use lib.Seq.{drop-append_seam}
 use Rattle.theory.specs.Basics.{all}
 use Rattle.theory.proofs.Tests.{tests, no, or_right, by_test}
 use Rattle.lines.specs.Text.{between}
-use Rattle.lines.specs.Numbers.{is_digit, digits, is_number, value_on, value, Number, number_of, spell, spelled}
+use Rattle.lines.specs.Numbers.{is_digit, digits, is_number, value_on, value, Number, number_of, spell, spelled, unless_zero, last_three}
 
 -- room for more digits than a number has changes nothing
 pub spell_enough : (k j n : ℕ) → n < 10 ^ suc k → k ≤ j → spell j n ≡ spell k n
@@ -56,6 +57,48 @@ spelled_one n h = spell_one 9 n h
 pub spelled_more : (n : ℕ) → 10 ≤ n → n < 10 ^ 10 → spelled n ≡ spelled (n / 10) ++ ((48 + n % 10) ∷ [])
 unfolding spelled
 spelled_more n h l = spell_more 8 n h l
+
+-- digits in front, of a number that is not 0, and of one that is
+pub some_digits : {n : ℕ} (ds more : List ℕ) → 1 ≤ n → unless_zero n ds ++ more ≡ ds ++ more
+unfolding unless_zero
+some_digits {n} ds more h = rw (le-ltb n 1 h)
+
+pub no_digits : {n : ℕ} (ds more : List ℕ) → n < 1 → unless_zero n ds ++ more ≡ [] ++ more
+unfolding unless_zero
+no_digits {n} ds more h = rw (lt-ltb n 1 h)
+
+-- those of a tenth, if it has any, and the last behind them
+spelled_last : (n : ℕ) → n < 10 ^ 10 → spelled n ≡ unless_zero (n / 10) (spelled (n / 10)) ++ ((48 + n % 10) ∷ [])
+unfolding unless_zero
+spelled_last n l =
+    by_test (ltb (n / 10) 1)
+    (λ t.
+    let h = ltb-true (n / 10) 1 t in
+    let same : n ≡ n % 10 = omega (arith, h) in
+    rw t (spelled_one n (omega (arith, h)) ∙ ap (λ (d : ℕ). (48 + d) ∷ []) same))
+    (λ t. rw t (spelled_more n (omega (arith, ltb-false (n / 10) 1 t)) l))
+
+-- the same of a number's digits, if it has any
+some_last : (n : ℕ) → n < 10 ^ 10 → unless_zero n (spelled n) ≡ unless_zero (n / 10) (spelled (n / 10)) ++ unless_zero n ((48 + n % 10) ∷ [])
+unfolding unless_zero
+some_last n l =
+    by_test (ltb n 1)
+    (λ t. rw (t, lt-ltb (n / 10) 1 (omega (arith, ltb-true n 1 t))))
+    (λ t. rw t (unfold unless_zero in spelled_last n l))
+
+-- those of a thousandth, if it has any, and the last three
+pub spelled_parts : (n : ℕ) → n < 10 ^ 10 → spelled n ≡ unless_zero (n / 1000) (spelled (n / 1000)) ++ last_three n
+unfolding last_three
+spelled_parts n l =
+    let hundredth : n / 10 / 10 ≡ n / 100 = omega arith in
+    let thousandth : n / 100 / 10 ≡ n / 1000 = omega arith in
+    let ten = rw hundredth at (some_last (n / 10) (omega (arith, l))) in
+    let hundred = rw thousandth at (some_last (n / 100) (omega (arith, l))) in
+    spelled_last n l ∙ rw (ten, hundred, append_assoc, append_assoc)
+
+-- below a thousand there are no others
+pub spelled_three : (n : ℕ) → n < 1000 → spelled n ≡ last_three n
+spelled_three n h = spelled_parts n (omega (arith, h)) ∙ no_digits _ _ (omega (arith, h))
 
 -- digits in front of bytes that begin with none are all the digits there
 pub digits_append : (ds rest : List ℕ) → all is_digit ds ≡ true → digits rest ≡ [] → digits (ds ++ rest) ≡ ds

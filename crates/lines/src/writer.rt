@@ -1,8 +1,8 @@
 // Lines written into the front of a lent buffer.
-ghost use Rattle.std.specs.Prelude.{◌≡◌, ◌∷◌, [], length};
-ghost use Rattle.lines.specs.Numbers.{spelled};
+ghost use Rattle.std.specs.Prelude.{◌≡◌, ◌∷◌, [], ◌+◌, ◌≤◌, length};
+ghost use Rattle.lines.specs.Numbers.{spelled, last_three};
 ghost use Rattle.lines.specs.Lines.{filled};
-ghost use Rattle.lines.specs.Putting.{HasRoom, Writes};
+ghost use Rattle.lines.specs.Putting.{Puts, HasRoom, Writes};
 
 // Bytes up to `at` have been written. Past them the buffer is as it was lent.
 #[derive(Drop)]
@@ -30,16 +30,28 @@ impl<'a> Writer<'a> {
         self.at += 1;
     }
 
-    // The digits of a number, of which a u32 has at most ten: those of a tenth of it, and the last behind them, which
-    // `as` makes a byte (std has no `From` for it).
+    // The last three digits of a number, as far as it has them, each of which `as` makes a byte (std has no `From` for it). (Inlined, so that `at` stays in a
+    // register.)
+    #[inline(always)]
+    fn last_three(&mut self, value: u32)
+        requires { HasRoom (last_three value) self.old }
+        ensures { Writes (last_three value) self.old self.new }
+    {
+        if value > 99 {
+            self.byte(b'0' + (value / 100 % 10) as u8);
+        }
+        if value > 9 {
+            self.byte(b'0' + (value / 10 % 10) as u8);
+        }
+        self.byte(b'0' + (value % 10) as u8);
+    }
+
+    // The digits of a number.
     pub fn number(&mut self, value: u32)
         requires { HasRoom (spelled value) self.old }
         ensures { Writes (spelled value) self.old self.new }
     {
-        if value > 9 {
-            self.number(value / 10);
-        }
-        self.byte(b'0' + (value % 10) as u8);
+        self.at = put_number(value, self.out, self.at);
     }
 
     // The line of a form with the given numbers, 0 where none is given. Each capital letter of the form stands for a number, any other byte for itself.
@@ -56,4 +68,21 @@ impl<'a> Writer<'a> {
             }
         }
     }
+}
+
+// The digits of a number, of which a u32 has at most ten, from a place on: those of a thousandth of it, and the last three behind them. Answers where they
+// end. (By place, and not by a Writer that is lent: so the place stays in a register, and is not loaded and stored at each byte.)
+fn put_number(value: u32, out: &mut [u8], at: usize) -> usize
+    requires { at + length (spelled value) ≤ length out.old }
+    ensures { Puts (spelled value) out.old at out.new result }
+{
+    if value > 999 {
+        let front = put_number(value / 1000, out, at);
+        let mut writer = Writer { out, at: front };
+        writer.last_three(value);
+        return writer.at;
+    }
+    let mut writer = Writer { out, at };
+    writer.last_three(value);
+    writer.at
 }
