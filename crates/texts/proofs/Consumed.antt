@@ -1,7 +1,6 @@
 -- What has been read of a file into a buffer, and is consumed of it.
 --   read_more    a read gives the file's next bytes
 --   read_ends    all of the file has been read, where none is left
---   read_whole   a file is what is read of it, where no buffer bounds it
 -- Assumes nothing.
 use Rattle.std.proofs.Common.{◌≡◌, ◌∙◌, sym, ap, subst, ℕ, ◌+◌, ◌-◌, ◌≤◌, List, ◌++◌, Option, Some, None, IfSome, length, take, slice_range, le_refl, drop_at, length-take-le, arith}
 use Rattle.std.specs.Io.KnownBytes.{Consumes, IsAtEnd}
@@ -46,9 +45,3 @@ read_ends decide room k (Some xs) (Some ys) buffer enough fits c e =
     let bytes = take k buffer in
     let whole : xs ≡ bytes = c ∙ ap (λ (zs : List ℕ). bytes ++ zs) e ∙ append-nil bytes in
     record { room = room; enough = enough; front = rw whole (sym (take_all room bytes (omega (arith, length-take k buffer)))) }
-
--- a whole file is what is read of it
-pub read_whole : (decide : ℕ) (file : List ℕ) → ReadOf decide file file
-read_whole decide file =
-    let room = decide + length file in
-    record { room = room; enough = omega arith; front = sym (take_all room file (omega arith)) }

@@ -10,7 +10,7 @@ use std::io::Read;
 use std::marker::Model;
 use std::{io, str};
 
-// The bytes of an input of which the first DECIDE decide: what was read into a buffer with room for these, or all there are. Clauses see the bytes.
+// What was read of an input, of which the first DECIDE bytes decide, into a buffer with room for these. Clauses see the bytes.
 #[derive(Drop)]
 pub struct Input<'a, const DECIDE: usize> {
     bytes: &'a [u8],
@@ -33,15 +33,6 @@ impl<'a, const DECIDE: usize> Input<'a, DECIDE> {
         Input {
             bytes: &buffer[..n],
         }
-    }
-
-    // All bytes of an input.
-    #[tactic(auto, using(crate::proofs::Consumed::read_whole))]
-    pub fn whole(file: &'a [u8]) -> Self
-        ensures bytes { result ≡ file.now }
-        ensures read { ReadOf DECIDE result file.now }
-    {
-        Input { bytes: file }
     }
 
     // The bytes.
